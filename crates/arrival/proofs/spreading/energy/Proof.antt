@@ -1,0 +1,35 @@
+-- `arrival::spreading::energy` meets its contract: the table's rule is one test at each of its 1,024 entries, which antt computes.
+-- Assumes nothing.
+use mathlib.Core.Path.{_≡_, refl, sym, ap, _∙_}
+use Prim.Native.Nat.{ℕ, _+_, _-_, _<_}
+use native.Mathlib.Omega.{arith}
+use borrow.Author.Needs.{needs}
+use borrow.Author.Tests.{eq-eqb}
+use Rattle.arrival.specs.Energy.{energyOf}
+use Rattle.arrival.proofs.Table.{built-at}
+use Rattle.arrival.proofs.spreading.energy.Statement.{statement}
+use Rattle.arrival.proofs.spreading.energy.Tie as tie
+
+returns : tie.Need-returns
+unfolding energyOf
+returns c = rw (eq-eqb _ _ (c .if1 .taken))
+
+sub-k : tie.Need-sub-k
+sub-k c = search needs
+
+mul-result : tie.Need-mul-result
+mul-result c = search needs
+
+array-read-result : tie.Need-array-read-result
+array-read-result c = search needs
+
+returns-2 : tie.Need-returns-2
+unfolding energyOf
+returns-2 c =
+    let d = c .before .args .distance in
+    let e : 1 + (d - 1) ≡ d = omega arith in
+    let h : d - 1 < 1024 = omega arith in
+    built-at energyOf 1 1024 (d - 1) h ∙ ap energyOf e
+
+pub energy-spec : {M : Type 1} → statement M
+energy-spec = tie.close (tie.spec returns sub-k mul-result array-read-result returns-2)

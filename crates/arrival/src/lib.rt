@@ -1,0 +1,85 @@
+// The types that specifications and code share, the order of keys and the bucket of a time.
+ghost use mathlib.Core.Path.{_≡_};
+ghost use Prim.Native.Nat.{_≤_};
+ghost use Rattle.arrival.specs.Keys.{lower, bucketOf};
+
+pub mod spreading;
+
+// The shape of a pool: how many workers, nodes and buckets, and a bucket's width in samples.
+pub struct Shape {
+    pub workers: u64,
+    pub nodes: u64,
+    pub buckets: u64,
+    pub width: u64,
+}
+
+// What a tracer hands in: the time in samples, the path's number, the reflection order, the distance in metres.
+pub struct Arrival {
+    pub time: u32,
+    pub path: u32,
+    pub order: u32,
+    pub distance: u32,
+}
+
+// A worker's record. `left` is a cell (heads first, then node links), `right` a node or the end, `seen` the link word
+// seen, `current` the current word seen, `ticket` document 01's stamp.
+#[repr(C)]
+pub struct Worker {
+    pub stage: u64,
+    pub kind: u64,
+    pub own: u64,
+    pub bucket: u64,
+    pub left: u64,
+    pub right: u64,
+    pub seen: u64,
+    pub current: u64,
+    pub ticket: u64,
+}
+
+// An arrival with its ticket, as a queue holds it.
+pub struct Item {
+    pub time: u64,
+    pub path: u64,
+    pub order: u64,
+    pub distance: u64,
+    pub ticket: u64,
+}
+
+// What a host asks of an open pool: a put start, a take start or a turn, each of one worker.
+pub enum Action {
+    Enqueue(u64, Arrival),
+    Dequeue(u64),
+    Step(u64),
+}
+
+// What the pool answers. `Begun` and `Stored` carry the ticket, `Refused` document 01's number.
+pub enum Response {
+    Opened,
+    Begun(u64),
+    On,
+    Stored(u64),
+    Took {
+        time: u64,
+        path: u64,
+        order: u64,
+        distance: u64,
+        energy: u64,
+    },
+    Empty,
+    Refused(u64),
+}
+
+// Whether a's key is lower than b's.
+pub fn is_lower(a: Item, b: Item) -> bool
+    ensures { λ r. ⌜ r ≡ lower a b ⌝ }
+{
+    (a.time < b.time) | (a.time == b.time) & (a.ticket < b.ticket)
+}
+
+// The bucket of a time.
+pub fn bucket_of(shape: Shape, time: u64) -> u64
+    requires { ⌜ 1 ≤ shape .width ⌝ }
+    ensures { λ r. ⌜ r ≡ bucketOf shape time ⌝ }
+{
+    time / shape.width
+}
