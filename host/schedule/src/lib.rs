@@ -1,0 +1,52 @@
+//! Seeded random turn files for the arrival pool.
+#![forbid(unsafe_code)]
+
+mod damage;
+mod generator;
+mod phase;
+mod random;
+mod shapes;
+
+use std::io::{self, Write};
+
+use damage::Damage;
+pub use generator::{Generator, Options};
+
+/// Writes the turn file of a seed.
+pub fn write(seed: u64, records: u64, options: Options, mut output: impl Write) -> io::Result<()> {
+    let mut generator = Generator::new(seed, options);
+    let mut bytes = Vec::new();
+    for _ in 0..records {
+        let (record, _) = generator.next_record();
+        bytes.clear();
+        record.encode(&mut bytes);
+        output.write_all(&bytes)?;
+    }
+    output.flush()
+}
+
+/// Writes a damaged turn file of a seed.
+pub fn write_damaged(
+    seed: u64,
+    records: u64,
+    options: Options,
+    mut output: impl Write,
+) -> io::Result<()> {
+    let mut generator = Generator::new(seed, options);
+    let damage = Damage::new(generator.random(), records);
+    let mut bytes = Vec::new();
+    for index in 0..records {
+        let proposed = generator.propose();
+        let record = damage.flip(generator.random(), proposed);
+        // The record is usually refused or ignored; the schedule follows it.
+        let _ = generator.apply(record);
+        bytes.clear();
+        record.encode(&mut bytes);
+        let goes_on = damage.strike(generator.random(), index, &mut bytes);
+        output.write_all(&bytes)?;
+        if !goes_on {
+            break;
+        }
+    }
+    output.flush()
+}

@@ -1,0 +1,283 @@
+//! Watches a pool from one opening on, and checks after every record what
+//! document 01 says of it.
+
+use std::collections::{BTreeMap, BTreeSet};
+
+use second::{
+    field, in_range, kind, stage, word, Answer, Arrival, Program, Reclamation, Record, Response,
+    Worker,
+};
+
+use crate::sequential::{has_order, Call, Op};
+
+/// The calls since the opening.
+#[derive(Clone, Default)]
+pub struct Observer {
+    now: usize,
+    /// By worker: when its call started.
+    starts: BTreeMap<usize, usize>,
+    /// Every put that began, by ticket.
+    puts: BTreeMap<u64, Arrival>,
+    stored: BTreeSet<u64>,
+    marked: BTreeSet<u64>,
+    taken: BTreeSet<u64>,
+    calls: Vec<Call>,
+}
+
+impl Observer {
+    /// Checks one record that is no accepted opening.
+    pub fn watch(&mut self, before: &Before, program: &Program, record: Record, answer: Answer) {
+        self.now += 1;
+        match (record, answer) {
+            (Record::EnqueueStart { worker, arrival }, Ok(Response::Begun(ticket))) => {
+                self.begin(worker.into(), program, ticket);
+                self.puts.insert(ticket, arrival);
+                let own = program.workers()[usize::from(worker)].own;
+                assert!(!before.stood_on.contains(&own), "node {own} is stood on");
+            }
+            (Record::DequeueStart { worker }, Ok(Response::Begun(ticket))) => {
+                self.begin(worker.into(), program, ticket);
+            }
+            (Record::Step { worker }, Ok(response)) => {
+                self.step(before, program, worker.into(), response);
+            }
+            (_, Err(refusal)) => assert!(![3, 7, 8, 11].contains(&refusal.number())),
+            other => panic!("{other:?}"),
+        }
+        self.check(program);
+    }
+
+    fn begin(&mut self, worker: usize, program: &Program, ticket: u64) {
+        assert_eq!(program.store()[1], ticket);
+        assert_eq!(program.workers()[worker].ticket, ticket);
+        self.starts.insert(worker, self.now);
+    }
+
+    fn step(&mut self, before: &Before, program: &Program, worker: usize, response: Response) {
+        let record = program.workers()[worker];
+        let ticket = node(program, record.own)[field::TICKET];
+        if before.workers[worker].stage == stage::DEQUEUE_MARK && record.stage == stage::SEARCH_HEAD
+        {
+            assert!(self.marked.insert(ticket), "{ticket} is marked twice");
+        }
+        match response {
+            Response::On => {}
+            Response::Stored(stored) => {
+                assert_eq!((stored, stored), (record.ticket, ticket));
+                assert!(self.stored.insert(stored));
+                self.end(worker, Op::Enqueue(self.key(ticket)));
+            }
+            Response::Took {
+                time,
+                path,
+                order,
+                distance,
+                energy,
+            } => {
+                assert!(self.marked.contains(&ticket));
+                assert!(self.taken.insert(ticket), "{ticket} is taken twice");
+                let put = self.puts[&ticket];
+                let fields = (put.time, put.path, put.order, put.distance);
+                let (time, path) = (time as u32, path as u32);
+                assert_eq!((time, path, order as u32, distance as u32), fields);
+                assert_eq!(u64::from(energy), (1 << 24) / (distance * distance));
+                self.end(worker, Op::Dequeue(Some(self.key(ticket))));
+            }
+            Response::Empty => self.end(worker, Op::Dequeue(None)),
+            other => panic!("{other:?}"),
+        }
+    }
+
+    fn key(&self, ticket: u64) -> (u64, u64) {
+        (self.puts[&ticket].time.into(), ticket)
+    }
+
+    fn end(&mut self, worker: usize, op: Op) {
+        let start = self.starts.remove(&worker).unwrap();
+        let end = self.now;
+        self.calls.push(Call { start, end, op });
+    }
+
+    /// What holds of store and table at any moment.
+    fn check(&self, program: &Program) {
+        let shape = program.shape();
+        assert!(in_range(shape, program.store(), program.workers()));
+        let lists = Lists::read(program);
+        self.check_lists(program, &lists);
+        self.check_sum(program, &lists);
+        check_reclamation(program, &lists);
+    }
+
+    /// Unmarked in a list are exactly the arrivals linked and not yet marked.
+    fn check_lists(&self, program: &Program, lists: &Lists) {
+        let mut expected: BTreeSet<u64> = self.stored.clone();
+        for worker in busy(program) {
+            if matches!(worker.stage, stage::ENQUEUE_COMPARE | stage::ENQUEUE_LOWER) {
+                expected.insert(worker.ticket);
+            }
+        }
+        let expected: Vec<u64> = expected.difference(&self.marked).copied().collect();
+        let mut unmarked = lists.unmarked.clone();
+        unmarked.sort_unstable();
+        assert_eq!(unmarked, expected);
+    }
+
+    /// The sum at the end of the section on the plain queue.
+    fn check_sum(&self, program: &Program, lists: &Lists) {
+        let at = |of: u64, stages: std::ops::RangeInclusive<u64>| {
+            let calls = busy(program).filter(|w| w.kind == of && stages.contains(&w.stage));
+            calls.count()
+        };
+        let put = self.stored.len() + at(kind::ENQUEUE, 6..=7);
+        let taken = self.taken.len() + at(kind::DEQUEUE, 1..=3);
+        assert_eq!(put, taken + lists.unmarked.len());
+    }
+
+    /// Ends all calls in progress, takes until empty, and checks that each stored
+    /// arrival has been taken once, in some order of a plain queue.
+    pub fn drain(mut self, mut program: Program) {
+        let workers = program.shape().workers as u8;
+        for worker in 0..workers {
+            self.finish(&mut program, worker);
+        }
+        let mut last = None;
+        loop {
+            self.apply(&mut program, Record::DequeueStart { worker: 0 });
+            self.finish(&mut program, 0);
+            let Op::Dequeue(answered) = self.calls.last().unwrap().op else {
+                panic!("a take ended as a put");
+            };
+            let Some(key) = answered else { break };
+            assert!(last < Some(key), "drained out of order");
+            last = Some(key);
+        }
+        assert_eq!(self.stored, self.taken);
+        assert_eq!(self.stored, self.puts.keys().copied().collect());
+        if workers <= 6 {
+            assert!(has_order(&self.calls), "no order of a plain queue");
+        }
+    }
+
+    fn finish(&mut self, program: &mut Program, worker: u8) {
+        let nodes = program.shape().nodes;
+        let most = 20 * (nodes + program.shape().buckets + 10);
+        for _ in 0..most {
+            if !program.workers()[usize::from(worker)].is_busy() {
+                return;
+            }
+            self.apply(program, Record::Step { worker });
+        }
+        panic!("a call alone does not end");
+    }
+
+    fn apply(&mut self, program: &mut Program, record: Record) {
+        let before = Before::new(program);
+        let answer = program.apply(record);
+        assert!(answer.is_ok());
+        self.watch(&before, program, record, answer);
+    }
+}
+
+/// What is compared with after a record.
+pub struct Before {
+    workers: Vec<Worker>,
+    stood_on: BTreeSet<u64>,
+}
+
+impl Before {
+    pub fn new(program: &Program) -> Self {
+        Self {
+            workers: program.workers().to_vec(),
+            stood_on: stood_on(program),
+        }
+    }
+}
+
+fn busy(program: &Program) -> impl Iterator<Item = &Worker> {
+    let workers = program.shape().workers as usize;
+    let workers = program.workers()[..workers].iter();
+    workers.filter(|worker| worker.is_busy())
+}
+
+fn node(program: &Program, node: u64) -> &[u64] {
+    let first = 3 + program.shape().buckets as usize + 8 * node as usize;
+    &program.store()[first..first + 8]
+}
+
+/// The nodes that calls in progress stand on.
+fn stood_on(program: &Program) -> BTreeSet<u64> {
+    let shape = program.shape();
+    let mut nodes = BTreeSet::new();
+    for worker in busy(program) {
+        if (1..=7).contains(&worker.stage) {
+            nodes.insert(worker.own);
+        }
+        if (2..=5).contains(&worker.stage) && worker.left >= shape.buckets.into() {
+            nodes.insert(worker.left - u64::from(shape.buckets));
+        }
+        if matches!(worker.stage, 2..=5 | 10 | 11) && worker.right != u64::from(shape.nodes) {
+            nodes.insert(worker.right);
+        }
+    }
+    nodes
+}
+
+/// Every node is free, resting or in use; a node stood on is not free; in use are
+/// the linked nodes and those of puts not linked yet.
+fn check_reclamation(program: &Program, lists: &Lists) {
+    let nodes = u64::from(program.shape().nodes);
+    let state = |of| Reclamation::from_word(node(program, of)[field::RECLAMATION]);
+    let rests = |since| busy(program).any(|worker| worker.ticket <= since);
+    let is_free = |of| match state(of) {
+        Reclamation::Unused => true,
+        Reclamation::Live => false,
+        Reclamation::Retired(since) => !rests(since),
+    };
+    let free = (0..nodes).filter(|&of| is_free(of)).count();
+    let resting = (0..nodes)
+        .filter(|&of| matches!(state(of), Reclamation::Retired(since) if rests(since)))
+        .count();
+    let in_use = (0..nodes)
+        .filter(|&of| state(of) == Reclamation::Live)
+        .count();
+    assert_eq!(free + resting + in_use, nodes as usize);
+
+    let private = busy(program).filter(|w| w.kind == kind::ENQUEUE && w.stage <= 5);
+    assert_eq!(in_use, lists.linked + private.count());
+    assert!(stood_on(program).into_iter().all(|of| !is_free(of)));
+}
+
+/// The lists of all buckets.
+struct Lists {
+    linked: usize,
+    /// The tickets of the unmarked nodes.
+    unmarked: Vec<u64>,
+}
+
+impl Lists {
+    /// Walks every list; keys must rise and times fit their bucket.
+    fn read(program: &Program) -> Self {
+        let shape = program.shape();
+        let mut lists = Self {
+            linked: 0,
+            unmarked: Vec::new(),
+        };
+        for bucket in 0..shape.buckets {
+            let mut next = word::successor(program.store()[3 + bucket as usize]);
+            let mut last = None;
+            while next != u64::from(shape.nodes) {
+                let words = node(program, next);
+                let key = (words[field::TIME], words[field::TICKET]);
+                assert!(last < Some(key), "a list out of order");
+                assert_eq!(key.0 / u64::from(shape.width), bucket.into());
+                lists.linked += 1;
+                if !word::is_marked(words[field::LINK]) {
+                    lists.unmarked.push(key.1);
+                }
+                last = Some(key);
+                next = word::successor(words[field::LINK]);
+            }
+        }
+        lists
+    }
+}

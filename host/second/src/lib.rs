@@ -1,0 +1,37 @@
+//! The arrival pool of document 01: a calendar queue whose calls advance by
+//! single steps, over memory that the caller lends.
+//!
+//! The four entry points are [`open`], [`enqueue_start`], [`dequeue_start`] and
+//! [`step`]. Each checks everything it is handed; a refused call leaves all lent
+//! memory as it was. [`run`] is the streaming turn-file program.
+//!
+//! Names of the document and their names here: put is enqueue, take is dequeue,
+//! turn is step, stamp is ticket, standing is the reclamation state, resting is
+//! retired, in use is live, never used is unused, answer is response.
+#![forbid(unsafe_code)]
+
+mod energy;
+mod lines;
+mod pool;
+mod program;
+mod ranges;
+mod response;
+mod shape;
+mod starts;
+mod steps;
+mod store;
+mod turn_file;
+mod worker;
+
+pub mod word;
+
+pub use energy::energy;
+pub use lines::Lines;
+pub use pool::{dequeue_start, enqueue_start, open, step};
+pub use program::{run, run_standard, Program, LENT_RECORDS, LENT_WORDS};
+pub use ranges::in_range;
+pub use response::{Answer, Refusal, Response};
+pub use shape::{Arrival, Shape};
+pub use store::{field, Reclamation};
+pub use turn_file::{Record, Records};
+pub use worker::{kind, stage, Worker};

@@ -1,0 +1,294 @@
+//! The four orders that catch an engine out. Each is run by the rules, and again
+//! with the mistake made by hand in the lent memory, to show that the order tells
+//! the two apart. Whether the answers are those of a plain queue is decided by a
+//! search over all orders.
+
+mod common;
+
+use common::sequential::{has_order, Call, Op};
+use common::*;
+use second::{field, word, Answer, Response};
+
+/// A pool that writes down its finished calls.
+struct Noted {
+    lent: Lent,
+    now: usize,
+    starts: Vec<(usize, Option<Op>)>,
+    calls: Vec<Call>,
+}
+
+impl Noted {
+    fn open(workers: u32, nodes: u32, buckets: u32, width: u32) -> Self {
+        Self {
+            lent: Lent::open(shape(workers, nodes, buckets, width)),
+            now: 0,
+            starts: vec![(0, None); workers as usize],
+            calls: Vec::new(),
+        }
+    }
+
+    fn put(&mut self, worker: usize, time: u32) -> Answer {
+        let answer = self.lent.put(worker, time);
+        if let Ok(Response::Begun(ticket)) = answer {
+            let op = Op::Enqueue((time.into(), ticket));
+            self.starts[worker] = (self.tick(), Some(op));
+        }
+        answer
+    }
+
+    fn take(&mut self, worker: usize) {
+        self.lent.take(worker).unwrap();
+        self.starts[worker] = (self.tick(), None);
+    }
+
+    fn turn(&mut self, worker: usize) -> Answer {
+        let answer = self.lent.turn(worker);
+        if answer != ON {
+            self.note(worker, answer);
+        }
+        answer
+    }
+
+    fn turns_to(&mut self, worker: usize, stage: u64) {
+        self.lent.turns_to(worker, stage);
+    }
+
+    fn finish(&mut self, worker: usize) -> Answer {
+        loop {
+            let answer = self.turn(worker);
+            if answer != ON {
+                return answer;
+            }
+        }
+    }
+
+    fn store(&mut self, worker: usize, time: u32) {
+        self.put(worker, time).unwrap();
+        assert!(matches!(self.finish(worker), Ok(Response::Stored(_))));
+    }
+
+    fn take_whole(&mut self, worker: usize) -> Answer {
+        self.take(worker);
+        self.finish(worker)
+    }
+
+    /// Writes down the end of a worker's call.
+    fn note(&mut self, worker: usize, answer: Answer) {
+        let (start, enqueue) = self.starts[worker];
+        let op = match (answer, enqueue) {
+            (Ok(Response::Stored(_)), Some(op)) => op,
+            (Ok(Response::Empty), None) => Op::Dequeue(None),
+            (Ok(Response::Took { time, .. }), None) => Op::Dequeue(Some((time, self.own(worker)))),
+            other => panic!("{other:?}"),
+        };
+        let end = self.tick();
+        self.calls.push(Call { start, end, op });
+    }
+
+    /// The ticket in the worker's own node.
+    fn own(&mut self, worker: usize) -> u64 {
+        let node = self.lent.workers[worker].own as usize;
+        *self.lent.node_word(node, field::TICKET)
+    }
+
+    fn tick(&mut self) -> usize {
+        self.now += 1;
+        self.now
+    }
+
+    fn is_a_queue(&self) -> bool {
+        has_order(&self.calls)
+    }
+}
+
+/// One bucket with 10 and 20; worker 0 reads current and pauses; 12 and then 15
+/// are stored; worker 1 takes 10 and 12.
+fn paused_before_15() -> Noted {
+    let mut pool = Noted::open(2, 4, 1, 100);
+    pool.store(0, 10);
+    pool.store(0, 20);
+    pool.take(0);
+    pool.turns_to(0, 9);
+    assert_eq!(pool.lent.workers[0].current_seen, word::current(0, 2));
+    pool.store(1, 12);
+    pool.store(1, 15);
+    assert_eq!(pool.take_whole(1), took(10));
+    assert_eq!(pool.take_whole(1), took(12));
+    assert_eq!(pool.lent.times(0), [15, 20]);
+    pool.turns_to(0, 10);
+    pool
+}
+
+#[test]
+fn a_node_of_a_higher_epoch_sends_the_taker_back() {
+    let mut pool = paused_before_15();
+    assert_eq!(pool.turn(0), ON);
+    assert_eq!(pool.lent.stage(0), 8);
+    assert_eq!(pool.turn(0), ON);
+    assert_eq!(pool.lent.workers[0].current_seen, word::current(0, 4));
+    assert_eq!(pool.finish(0), took(15));
+    assert_eq!(pool.take_whole(1), took(20));
+    assert_eq!(pool.take_whole(1), EMPTY);
+    assert!(pool.is_a_queue());
+}
+
+/// The mistake: walk past 15 to its successor. 20 comes out before 15 and 15
+/// only afterwards, though it was there all the time.
+#[test]
+fn passing_over_a_node_of_a_higher_epoch() {
+    let mut pool = paused_before_15();
+    assert_eq!(pool.turn(0), ON);
+    let record = &mut pool.lent.workers[0];
+    record.stage = 10;
+    record.right = word::successor(record.link_seen);
+    assert_eq!(pool.finish(0), took(20));
+    assert_eq!(pool.take_whole(1), took(15));
+    assert!(!pool.is_a_queue());
+}
+
+/// Two nodes. 10 is stored in node 0; the put of 20 stands on node 0 as its left
+/// and is about to link; worker 2 takes 10 to the end.
+fn stood_on_by_a_put() -> Noted {
+    let mut pool = Noted::open(3, 2, 1, 100);
+    pool.store(0, 10);
+    pool.put(1, 20).unwrap();
+    pool.turns_to(1, 5);
+    assert_eq!(pool.lent.workers[1].left, 1); // One head, then node 0's link.
+    assert_eq!(pool.take_whole(2), took(10));
+    pool
+}
+
+#[test]
+fn a_node_stood_on_rests() {
+    let mut pool = stood_on_by_a_put();
+    assert_eq!(pool.put(2, 30), refused(12));
+    assert_eq!(pool.turn(1), ON);
+    assert_eq!(pool.lent.stage(1), 1); // The link is marked: search again.
+    assert_eq!(pool.finish(1), stored(2));
+    pool.store(2, 30);
+    assert_eq!(pool.lent.workers[2].own, 0);
+    assert_eq!(pool.take_whole(0), took(20));
+    assert_eq!(pool.take_whole(0), took(30));
+    assert!(pool.is_a_queue());
+}
+
+/// The mistake: node 0 is free once its taker has ended. 30 gets it, its link is
+/// again the one that the paused put saw, and 20 is linked behind 30.
+#[test]
+fn freeing_a_node_when_its_taker_ends() {
+    let mut pool = stood_on_by_a_put();
+    *pool.lent.node_word(0, field::RECLAMATION) = 0;
+    pool.store(2, 30);
+    assert_eq!(pool.turn(1), ON);
+    assert_eq!(pool.lent.stage(1), 6);
+    assert_eq!(pool.finish(1), stored(2));
+    assert_eq!(pool.lent.times(0), [30, 20]);
+    assert_eq!(pool.take_whole(0), took(30));
+    assert!(!pool.is_a_queue());
+}
+
+/// One node, holding 10, marked by worker 0, which pauses before its search.
+fn marked_and_paused() -> Noted {
+    let mut pool = Noted::open(2, 1, 1, 100);
+    pool.store(0, 10);
+    pool.take(0);
+    pool.turns_to(0, 1);
+    assert_eq!(pool.lent.store[4] % 2, 1);
+    pool
+}
+
+#[test]
+fn a_marked_node_stays_in_use() {
+    let mut pool = marked_and_paused();
+    assert_eq!(pool.put(1, 30), refused(12));
+    assert_eq!(pool.finish(0), took(10));
+    pool.store(1, 30);
+    assert_eq!(pool.take_whole(0), took(30));
+    assert!(pool.is_a_queue());
+}
+
+/// The mistake: node 0 is free once it is marked. 30 overwrites 10 before the
+/// taker reads it: 10 is lost and 30 comes out twice.
+#[test]
+fn freeing_a_node_when_it_is_marked() {
+    let mut pool = marked_and_paused();
+    *pool.lent.node_word(0, field::RECLAMATION) = 0;
+    pool.store(1, 30);
+    assert_eq!(pool.finish(0), took(30));
+    assert_eq!(pool.take_whole(1), took(30));
+    assert!(!pool.is_a_queue());
+}
+
+/// Current has gone to bucket 1; the put of 5 has linked its node in bucket 0.
+fn linked_below_current() -> Noted {
+    let mut pool = Noted::open(2, 4, 2, 10);
+    assert_eq!(pool.take_whole(0), EMPTY);
+    pool.put(1, 5).unwrap();
+    pool.turns_to(1, 5);
+    assert_eq!(pool.turn(1), ON);
+    assert_eq!(pool.lent.times(0), [5]);
+    pool
+}
+
+#[test]
+fn stored_is_answered_after_current_is_lowered() {
+    let mut pool = linked_below_current();
+    assert_eq!(pool.lent.stage(1), 6);
+    assert_eq!(pool.take_whole(0), EMPTY); // The put has not ended yet.
+    assert_eq!(pool.turn(1), ON);
+    assert_eq!(pool.turn(1), stored(2));
+    assert_eq!(pool.lent.current(), (0, 1));
+    assert_eq!(pool.take_whole(0), took(5));
+    assert!(pool.is_a_queue());
+}
+
+/// The mistake: stored is answered at the link. The take after it starts in
+/// bucket 1 and answers empty.
+#[test]
+fn answering_stored_at_the_link() {
+    let mut pool = linked_below_current();
+    pool.lent.workers[1].stage = 0;
+    pool.note(1, stored(2));
+    assert_eq!(pool.take_whole(0), EMPTY);
+    assert_eq!(pool.lent.times(0), [5]);
+    assert!(!pool.is_a_queue());
+}
+
+/// Worker 0 saw bucket 0 empty in (0, 0) and pauses before advancing; worker 1
+/// walks to the last bucket; worker 2 stores 5, lowering current.
+fn stale_advance() -> Noted {
+    let mut pool = Noted::open(3, 4, 2, 10);
+    pool.take(0);
+    pool.turns_to(0, 12);
+    assert_eq!(pool.take_whole(1), EMPTY);
+    assert_eq!(pool.lent.current(), (1, 0));
+    pool.store(2, 5);
+    assert_eq!(pool.lent.current(), (0, 1));
+    pool
+}
+
+#[test]
+fn a_stale_advance_fails() {
+    let mut pool = stale_advance();
+    assert_eq!(pool.turn(0), ON);
+    assert_eq!(pool.lent.stage(0), 8);
+    assert_eq!(pool.lent.current(), (0, 1));
+    assert_eq!(pool.finish(0), took(5));
+    assert_eq!(pool.take_whole(1), EMPTY);
+    assert!(pool.is_a_queue());
+}
+
+/// The mistake: current goes back to bucket 0 in the old epoch. The stale swap
+/// finds what it saw, and 5 is behind current: the next take answers empty.
+#[test]
+fn lowering_current_without_a_new_epoch() {
+    let mut pool = stale_advance();
+    pool.lent.store[0] = word::current(0, 0);
+    assert_eq!(pool.turn(0), ON);
+    assert_eq!(pool.lent.stage(0), 9);
+    assert_eq!(pool.lent.current(), (1, 0));
+    assert_eq!(pool.finish(0), EMPTY);
+    assert_eq!(pool.take_whole(1), EMPTY);
+    assert_eq!(pool.lent.times(0), [5]);
+    assert!(!pool.is_a_queue());
+}

@@ -1,0 +1,489 @@
+//! Every kind of field pushed out of its range on its own, and to its bounds.
+
+mod common;
+
+use common::*;
+use second::{field, in_range, word, Response, Worker};
+
+const WORKERS: usize = 3;
+const NODES: u64 = 4;
+const BUCKETS: u64 = 2;
+const COUNT: u64 = 1 << 32;
+
+/// Two arrivals stored, one taken, three idle workers that have seen something.
+fn base() -> Lent {
+    let mut lent = Lent::with_stored(
+        shape(WORKERS as u32, NODES as u32, BUCKETS as u32, 10),
+        &[5, 15],
+    );
+    assert_eq!(lent.take_whole(1), took(5));
+    lent
+}
+
+/// Whether each start and turn of a worker passes refusal 3; they must agree.
+fn passes(lent: &Lent) -> bool {
+    let calls = [
+        lent.clone().put(0, 5),
+        lent.clone().take(0),
+        lent.clone().turn(0),
+        lent.clone().take(WORKERS - 1),
+        lent.clone().turn(WORKERS), // No such worker: 4, unless 3 comes first.
+    ];
+    let passed = calls.map(|answer| answer != refused(3));
+    assert!(passed.iter().all(|&each| each == passed[0]), "{calls:?}");
+    assert_eq!(passed[0], in_range(lent.shape, &lent.store, &lent.workers));
+    passed[0]
+}
+
+/// The field is accepted at `good` values and refused at `bad` ones.
+fn check(good: &[u64], bad: &[u64], set: impl Fn(&mut Lent, u64)) {
+    check_from(base(), good, bad, set);
+}
+
+fn check_from(base: Lent, good: &[u64], bad: &[u64], set: impl Fn(&mut Lent, u64)) {
+    for (values, expected) in [(good, true), (bad, false)] {
+        for &value in values {
+            let mut lent = base.clone();
+            set(&mut lent, value);
+            assert_eq!(passes(&lent), expected, "{value}");
+        }
+    }
+}
+
+#[test]
+fn the_base_and_a_fresh_pool_pass() {
+    assert!(passes(&base()));
+    assert!(passes(&Lent::open(base().shape)));
+}
+
+#[test]
+fn fixed_words() {
+    let last = word::current(BUCKETS - 1, COUNT - 1);
+    check(
+        &[0, COUNT - 1, COUNT, last],
+        &[last + 1, u64::MAX],
+        |lent, value| lent.store[0] = value,
+    );
+    check(&[0, COUNT - 1], &[COUNT, u64::MAX], |lent, value| {
+        // At the largest count every start is refused by 11, which 3 precedes.
+        lent.store[1] = value
+    });
+    check(&[0, NODES - 1], &[NODES, u64::MAX], |lent, value| {
+        lent.store[2] = value
+    });
+}
+
+#[test]
+fn heads_are_unmarked() {
+    for bucket in 0..BUCKETS as usize {
+        check(
+            &[0, 2, 2 * NODES],
+            &[1, 3, 2 * NODES + 1, 2 * NODES + 2, u64::MAX, u64::MAX - 1],
+            |lent, value| *lent.head(bucket) = value,
+        );
+    }
+}
+
+#[test]
+fn node_words() {
+    for node in 0..NODES as usize {
+        let words: [(usize, &[u64], &[u64]); 7] = [
+            (
+                field::LINK,
+                &[0, 1, 2 * NODES, 2 * NODES + 1],
+                &[2 * NODES + 2, 2 * NODES + 3, u64::MAX],
+            ),
+            (field::TIME, &[0, 20, COUNT - 1], &[COUNT, u64::MAX]),
+            (field::TICKET, &[0, COUNT - 1], &[COUNT, u64::MAX]),
+            (field::PATH, &[0, 65_535], &[65_536, u64::MAX]),
+            (field::ORDER, &[0, 63], &[64, u64::MAX]),
+            (field::DISTANCE, &[1, 1_024], &[1_025, u64::MAX]),
+            (field::EPOCH, &[0, COUNT - 1], &[COUNT, u64::MAX]),
+        ];
+        for (field, good, bad) in words {
+            check(good, bad, |lent, value| {
+                *lent.node_word(node, field) = value
+            });
+        }
+    }
+}
+
+#[test]
+fn reclamation_and_distance() {
+    for node in 0..NODES as usize {
+        for distance in [0, 1, 1_024, 1_025] {
+            let set = |lent: &mut Lent, value| {
+                *lent.node_word(node, field::DISTANCE) = distance;
+                *lent.node_word(node, field::RECLAMATION) = value;
+            };
+            let used: &[u64] = &[1, 2, 3, COUNT, COUNT + 1];
+            match distance {
+                0 => check(&[0], used, set),
+                1_025 => check(&[], &[0, 1, 2, 3, COUNT, COUNT + 1], set),
+                _ => {
+                    check(&[0], &[], set);
+                    check(used, &[COUNT + 2, COUNT + 3, u64::MAX], set);
+                }
+            }
+        }
+    }
+}
+
+/// Checks a field in each worker's record, at this stage.
+fn check_record(stage: u64, good: &[u64], bad: &[u64], set: fn(&mut Worker, u64)) {
+    for worker in 0..WORKERS {
+        let mut start = base();
+        start.workers[worker] = record_at(stage);
+        assert!(passes(&start));
+        check_from(start, good, bad, |lent, value| {
+            set(&mut lent.workers[worker], value)
+        });
+    }
+}
+
+#[test]
+fn stages() {
+    let idle_or_search = [0, 1, 2, 3];
+    check_record(
+        0,
+        &idle_or_search,
+        &[14, 15, COUNT, u64::MAX],
+        |record, value| record.stage = value,
+    );
+    for stage in 0..=13 {
+        check_record(stage, &[stage], &[14, u64::MAX], |record, value| {
+            record.stage = value
+        });
+    }
+}
+
+#[test]
+fn kinds_by_stage() {
+    for stage in 0..=13 {
+        let (good, bad): (&[u64], &[u64]) = match stage {
+            0..=3 => (&[0, 1], &[2, u64::MAX]),
+            4..=7 => (&[0], &[1, 2, u64::MAX]),
+            _ => (&[1], &[0, 2, u64::MAX]),
+        };
+        check_record(stage, good, bad, |record, value| record.kind = value);
+    }
+}
+
+#[test]
+fn record_fields_at_every_stage() {
+    let last = word::current(BUCKETS - 1, COUNT - 1);
+    for stage in 0..=13 {
+        check_record(
+            stage,
+            &[0, NODES - 1],
+            &[NODES, u64::MAX],
+            |record, value| record.own = value,
+        );
+        let left = BUCKETS + NODES;
+        check_record(stage, &[0, left - 1], &[left, u64::MAX], |record, value| {
+            record.left = value
+        });
+        let link = 2 * NODES + 1;
+        check_record(
+            stage,
+            &[0, 1, link - 1, link],
+            &[link + 1, u64::MAX],
+            |record, value| record.link_seen = value,
+        );
+        check_record(
+            stage,
+            &[0, COUNT - 1, last],
+            &[last + 1, u64::MAX],
+            |record, value| record.current_seen = value,
+        );
+        check_record(
+            stage,
+            &[0, COUNT - 1],
+            &[COUNT, u64::MAX],
+            |record, value| record.ticket = value,
+        );
+    }
+}
+
+#[test]
+fn right_by_stage() {
+    for stage in 0..=13 {
+        let (good, bad): (&[u64], &[u64]) = match stage {
+            2 | 3 | 10 | 11 => (&[0, NODES - 1], &[NODES, NODES + 1, u64::MAX]),
+            _ => (&[0, NODES], &[NODES + 1, u64::MAX]),
+        };
+        check_record(stage, good, bad, |record, value| record.right = value);
+    }
+}
+
+#[test]
+fn bucket_by_stage() {
+    for stage in 0..=13 {
+        let (good, bad): (&[u64], &[u64]) = match stage {
+            12 => (&[0], &[BUCKETS - 1, BUCKETS, u64::MAX]),
+            _ => (&[0, BUCKETS - 1], &[BUCKETS, u64::MAX]),
+        };
+        check_record(stage, good, bad, |record, value| record.bucket = value);
+    }
+}
+
+#[test]
+fn one_bucket_allows_no_stage_12() {
+    let mut lent = Lent::open(shape(1, 1, 1, 1));
+    lent.workers[0] = record_at(12);
+    assert_eq!(lent.turn(0), refused(3));
+}
+
+/// Ranges are all that is looked at: lists may loop or lead anywhere, times need
+/// not fit their bucket, tickets may be ahead of the count.
+#[test]
+fn nothing_else_is_looked_at() {
+    let mut lent = base();
+    *lent.head(1) = 0;
+    for node in 0..NODES as usize {
+        *lent.node_word(node, field::LINK) = 0;
+        *lent.node_word(node, field::TIME) = COUNT - 1;
+        *lent.node_word(node, field::TICKET) = COUNT - 1;
+        *lent.node_word(node, field::DISTANCE) = 1;
+        *lent.node_word(node, field::RECLAMATION) = 1;
+    }
+    lent.workers[2].ticket = COUNT - 1;
+    assert!(passes(&lent));
+}
+
+/// A node never used, without a distance, hangs in a list and is marked: stage 3
+/// unlinks it, and its distance is out of range from then on.
+#[test]
+fn the_one_leak() {
+    let mut lent = Lent::open(shape(1, 2, 1, 10));
+    *lent.head(0) = 0;
+    *lent.node_word(0, field::LINK) = 5;
+    *lent.node_word(1, field::RECLAMATION) = 1;
+    *lent.node_word(1, field::DISTANCE) = 1;
+    lent.store[1] = 8;
+    lent.workers[0] = Worker {
+        own: 1,
+        link_seen: 5,
+        ..record_at(3)
+    };
+    assert_eq!(lent.turn(0), ON);
+    assert_eq!(*lent.node_word(0, field::RECLAMATION), 10);
+    assert_eq!((lent.stage(0), lent.workers[0].right), (4, 2));
+    assert_eq!(lent.turn(0), refused(3));
+    assert_eq!(lent.take(0), refused(3));
+    assert_eq!(lent.put(0, 5), refused(3));
+}
+
+/// Distance 0 in a store not grown from an opening has energy 0.
+#[test]
+fn a_taken_distance_of_0() {
+    let mut lent = Lent::open(shape(1, 2, 1, 10));
+    lent.workers[0] = Worker {
+        kind: 1,
+        ..record_at(1)
+    };
+    let expected = Response::Took {
+        time: 0,
+        path: 0,
+        order: 0,
+        distance: 0,
+        energy: 0,
+    };
+    assert_eq!(lent.turn(0), Ok(expected));
+}
+
+/// Stages 12 and 13 look at the record's bucket and the epoch seen, stage 7 at
+/// the whole word seen; they differ only on stores not grown from an opening.
+#[test]
+fn what_the_swaps_of_current_compare() {
+    let record = |stage| Worker {
+        current_seen: word::current(2, 7),
+        right: 4,
+        ..record_at(stage)
+    };
+    let open = || Lent::open(shape(1, 4, 3, 10));
+
+    let mut lent = open();
+    lent.store[0] = word::current(0, 7);
+    lent.workers[0] = record(12);
+    assert_eq!(lent.turn(0), ON);
+    assert_eq!((lent.stage(0), lent.current()), (9, (1, 7)));
+    assert_eq!(lent.workers[0].current_seen, word::current(1, 7));
+    assert_eq!(lent.workers[0].bucket, 1);
+
+    lent.workers[0] = record(13);
+    lent.workers[0].bucket = 1;
+    assert_eq!(lent.turn(0), EMPTY);
+    assert_eq!(lent.workers[0].current_seen, word::current(2, 7));
+
+    lent.workers[0] = record(7);
+    assert_eq!(lent.turn(0), ON);
+    assert_eq!((lent.stage(0), lent.current()), (6, (1, 7)));
+    lent.store[0] = word::current(2, 7);
+    lent.workers[0] = record(7);
+    assert_eq!(lent.turn(0), stored(0));
+    assert_eq!(lent.current(), (0, 8));
+}
+
+/// Stage 11 keeps a mark that the link word seen has already.
+#[test]
+fn marking_what_is_marked() {
+    let mut lent = Lent::open(shape(1, 2, 1, 10));
+    *lent.node_word(1, field::LINK) = 1;
+    lent.workers[0] = Worker {
+        right: 1,
+        link_seen: 1,
+        ..record_at(11)
+    };
+    assert_eq!(lent.turn(0), ON);
+    assert_eq!(*lent.node_word(1, field::LINK), 1);
+    assert_eq!((lent.stage(0), lent.workers[0].own), (1, 1));
+}
+
+/// splitmix64
+struct Random(u64);
+
+impl Random {
+    fn next(&mut self) -> u64 {
+        self.0 = self.0.wrapping_add(0x9E37_79B9_7F4A_7C15);
+        let mut z = self.0;
+        z = (z ^ (z >> 30)).wrapping_mul(0xBF58_476D_1CE4_E5B9);
+        z = (z ^ (z >> 27)).wrapping_mul(0x94D0_49BB_1331_11EB);
+        z ^ (z >> 31)
+    }
+
+    fn below(&mut self, bound: u64) -> u64 {
+        self.next() % bound
+    }
+
+    /// Mostly small, often at the bound, sometimes anything in between.
+    fn up_to(&mut self, most: u64) -> u64 {
+        match self.below(4) {
+            0 => most,
+            1 => self.next() % (most + 1),
+            _ => self.below(9).min(most),
+        }
+    }
+}
+
+/// Memory with every field somewhere in its range.
+fn any_in_range(random: &mut Random) -> Lent {
+    let nodes = 1 + random.below(4);
+    let buckets = 1 + random.below(3);
+    let workers = 1 + random.below(3);
+    let mut lent = Lent::open(shape(workers as u32, nodes as u32, buckets as u32, 10));
+    lent.store[0] = word::current(random.below(buckets), random.up_to(COUNT - 1));
+    lent.store[1] = random.up_to(COUNT - 1);
+    lent.store[2] = random.below(nodes);
+    for bucket in 0..buckets as usize {
+        *lent.head(bucket) = 2 * random.below(nodes + 1);
+    }
+    for node in 0..nodes as usize {
+        let reclamation = random.up_to(COUNT + 1);
+        let distance = random.up_to(1_024).max(u64::from(reclamation > 0));
+        let words = [
+            random.below(2 * nodes + 2),
+            random.up_to(COUNT - 1),
+            random.up_to(COUNT - 1),
+            random.up_to(65_535),
+            random.up_to(63),
+            distance,
+            random.up_to(COUNT - 1),
+            reclamation,
+        ];
+        for (field, value) in words.into_iter().enumerate() {
+            *lent.node_word(node, field) = value;
+        }
+    }
+    for worker in 0..workers as usize {
+        let stage = match random.below(14) {
+            12 if buckets == 1 => 13,
+            stage => stage,
+        };
+        lent.workers[worker] = Worker {
+            stage,
+            kind: match stage {
+                0..=3 => random.below(2),
+                4..=7 => 0,
+                _ => 1,
+            },
+            own: random.below(nodes),
+            bucket: random.below(if stage == 12 { buckets - 1 } else { buckets }),
+            left: random.below(buckets + nodes),
+            right: random.below(match stage {
+                2 | 3 | 10 | 11 => nodes,
+                _ => nodes + 1,
+            }),
+            link_seen: random.below(2 * nodes + 2),
+            current_seen: word::current(random.below(buckets), random.up_to(COUNT - 1)),
+            ticket: random.up_to(COUNT - 1),
+        };
+    }
+    lent
+}
+
+/// No call on memory in range panics, is refused by 3, or leaves the ranges but
+/// by the one leak.
+#[test]
+fn any_memory_in_range() {
+    let mut random = Random(1);
+    for _ in 0..60_000 {
+        let lent = any_in_range(&mut random);
+        assert!(in_range(lent.shape, &lent.store, &lent.workers));
+        for worker in 0..lent.shape.workers as usize {
+            for call in 0..3 {
+                let mut after = lent.clone();
+                let answer = match call {
+                    0 => after.put(worker, random.up_to(30) as u32),
+                    1 => after.take(worker),
+                    _ => after.turn(worker),
+                };
+                assert_ne!(answer, refused(3));
+                let right = lent.workers[worker].right as usize;
+                let leak = lent.stage(worker) == 3
+                    && *after.node_word(right, field::DISTANCE) == 0
+                    && *after.node_word(right, field::RECLAMATION) >= 2;
+                assert_eq!(in_range(after.shape, &after.store, &after.workers), !leak);
+            }
+        }
+    }
+}
+
+/// The field of a record by its number.
+fn record_field(record: &mut Worker, field: u64) -> &mut u64 {
+    match field {
+        0 => &mut record.stage,
+        1 => &mut record.kind,
+        2 => &mut record.own,
+        3 => &mut record.bucket,
+        4 => &mut record.left,
+        5 => &mut record.right,
+        6 => &mut record.link_seen,
+        7 => &mut record.current_seen,
+        _ => &mut record.ticket,
+    }
+}
+
+/// Any content at all: one field or many far out of range are refused by 3.
+#[test]
+fn any_memory_at_all() {
+    let mut random = Random(2);
+    for round in 0..60_000 {
+        let mut lent = any_in_range(&mut random);
+        let words = lent.shape.store_words();
+        let damage = if round % 2 == 0 { 1 } else { words };
+        for _ in 0..damage {
+            let value = random.next() | 1 << 63;
+            if random.below(2) == 0 {
+                lent.store[random.below(words as u64) as usize] = value;
+            } else {
+                let worker = random.below(lent.shape.workers.into()) as usize;
+                *record_field(&mut lent.workers[worker], random.below(9)) = value;
+            }
+        }
+        let worker = random.below(4) as usize;
+        assert_eq!(lent.put(worker, random.next() as u32), refused(3));
+        assert_eq!(lent.take(worker), refused(3));
+        assert_eq!(lent.turn(worker), refused(3));
+    }
+}

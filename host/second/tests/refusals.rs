@@ -1,0 +1,390 @@
+//! Each refusal where it can occur, and which one wins. That refused calls change
+//! nothing is checked inside [`common::Lent`].
+
+mod common;
+
+use common::*;
+use second::{field, word, Answer, Arrival, Response, Shape, Worker};
+
+const MAX: u64 = (1 << 32) - 1;
+
+/// The answers of the four entry points on copies of the same memory.
+fn all_entries(lent: &Lent) -> [Answer; 4] {
+    [
+        lent.clone().reopen(),
+        lent.clone().put(0, 0),
+        lent.clone().take(0),
+        lent.clone().turn(0),
+    ]
+}
+
+#[test]
+fn refusal_1_at_every_limit() {
+    let base = shape(2, 4, 2, 10);
+    let outside = [
+        Shape { workers: 0, ..base },
+        Shape {
+            workers: 65,
+            ..base
+        },
+        Shape { nodes: 0, ..base },
+        Shape {
+            nodes: 4_097,
+            ..base
+        },
+        Shape { buckets: 0, ..base },
+        Shape {
+            buckets: 257,
+            ..base
+        },
+        Shape { width: 0, ..base },
+        Shape {
+            width: 65_536,
+            ..base
+        },
+        shape(0, 0, 0, 0),
+        shape(u32::MAX, u32::MAX, u32::MAX, u32::MAX),
+    ];
+    for shape in outside {
+        let mut lent = Lent::open(base);
+        lent.shape = shape;
+        assert_eq!(all_entries(&lent), [refused(1); 4]);
+        lent.store.clear();
+        lent.workers.clear();
+        assert_eq!(all_entries(&lent), [refused(1); 4]);
+    }
+}
+
+#[test]
+fn the_limits_themselves_open() {
+    for shape in [shape(1, 1, 1, 1), shape(64, 4_096, 256, 65_535)] {
+        let mut lent = Lent::open(shape);
+        lent.store_whole(0, shape.time_limit() - 1);
+        assert_eq!(lent.put(0, shape.time_limit()), refused(6));
+        assert_eq!(lent.take_whole(0), took(shape.time_limit() as u64 - 1));
+    }
+}
+
+#[test]
+fn refusal_2_one_short_and_none_spare() {
+    let whole = Lent::open(shape(3, 4, 2, 10));
+    let words = whole.shape.store_words();
+    assert_eq!(words, 3 + 2 + 8 * 4);
+
+    let mut exact = whole.clone();
+    exact.store.truncate(words);
+    exact.workers.truncate(3);
+    let expected = [Ok(Response::Open), begun(1), begun(1), refused(10)];
+    assert_eq!(all_entries(&exact), expected);
+
+    for (words, records) in [(words - 1, 3), (words, 2), (0, 3), (words, 0), (0, 0)] {
+        let mut short = whole.clone();
+        short.store.truncate(words);
+        short.workers.truncate(records);
+        assert_eq!(all_entries(&short), [refused(2); 4]);
+    }
+}
+
+#[test]
+fn opening_never_reads_the_old_contents() {
+    let mut lent = Lent::garbage(shape(2, 3, 2, 10));
+    assert_eq!(lent.reopen(), Ok(Response::Open));
+    let mut expected = vec![0, 0, 2, 6, 6];
+    expected.extend([0; 24]);
+    expected.extend([GARBAGE; SPARE_WORDS]);
+    assert_eq!(lent.store, expected);
+    assert_eq!(lent.workers[..2], [Worker::default(); 2]);
+    assert_eq!(lent.workers[2..], [garbage_record(); SPARE_RECORDS]);
+}
+
+#[test]
+fn refusal_4_for_records_beyond_the_workers() {
+    for worker in [2, 3, 64, usize::MAX] {
+        let mut lent = Lent::open(shape(2, 4, 2, 10));
+        assert_eq!(lent.put(worker, 5), refused(4));
+        assert_eq!(lent.take(worker), refused(4));
+        assert_eq!(lent.turn(worker), refused(4));
+    }
+}
+
+#[test]
+fn refusal_5_by_each_field() {
+    let base = arrival(5);
+    let mut lent = Lent::open(shape(2, 4, 2, 10));
+    for arrival in [
+        Arrival {
+            path: 65_536,
+            ..base
+        },
+        Arrival {
+            path: u32::MAX,
+            ..base
+        },
+        Arrival { order: 64, ..base },
+        Arrival {
+            order: u32::MAX,
+            ..base
+        },
+        Arrival {
+            distance: 0,
+            ..base
+        },
+        Arrival {
+            distance: 1_025,
+            ..base
+        },
+        Arrival {
+            distance: 0,
+            time: 20,
+            ..base
+        },
+    ] {
+        assert_eq!(lent.put_arrival(0, arrival), refused(5));
+    }
+    let largest = Arrival {
+        time: 19,
+        path: 65_535,
+        order: 63,
+        distance: 1_024,
+    };
+    assert_eq!(lent.put_arrival(0, largest), begun(1));
+    lent.finish(0).1.unwrap();
+    let expected = Response::Took {
+        time: 19,
+        path: 65_535,
+        order: 63,
+        distance: 1_024,
+        energy: 16,
+    };
+    assert_eq!(lent.take_whole(1), Ok(expected));
+}
+
+#[test]
+fn refusals_9_and_10_at_every_stage() {
+    for stage in 1..=13 {
+        let mut lent = Lent::open(shape(2, 4, 2, 10));
+        lent.workers[0] = record_at(stage);
+        assert_eq!(lent.put(0, 5), refused(9));
+        assert_eq!(lent.take(0), refused(9));
+        assert_eq!(lent.turn(1), refused(10));
+        assert_ne!(lent.turn(0), refused(10));
+    }
+}
+
+#[test]
+fn refusal_11_at_a_start() {
+    let mut lent = Lent::open(shape(2, 4, 2, 10));
+    lent.store[1] = MAX - 1;
+    assert_eq!(lent.put(0, 5), begun(MAX));
+    assert_eq!(lent.store[1], MAX);
+    assert_eq!(lent.put(1, 5), refused(11));
+    assert_eq!(lent.take(1), refused(11));
+    assert_eq!(lent.finish(0), (5, stored(MAX)));
+}
+
+/// A put at stage 7 that saw (1, 2^32 - 1), wanting bucket 0.
+fn lowering_at_the_largest_epoch() -> Lent {
+    let mut lent = Lent::open(shape(2, 4, 2, 10));
+    lent.store[0] = word::current(1, MAX);
+    lent.put(0, 5).unwrap();
+    lent.turns_to(0, 7);
+    lent
+}
+
+#[test]
+fn refusal_11_at_stage_7_only_if_the_swap_would_succeed() {
+    let mut lent = lowering_at_the_largest_epoch();
+    for _ in 0..3 {
+        assert_eq!(lent.turn(0), refused(11));
+    }
+    // Another bucket, another epoch: the swap fails and the put reads again.
+    for other in [word::current(0, MAX), word::current(1, MAX - 1)] {
+        let mut lent = lowering_at_the_largest_epoch();
+        lent.store[0] = other;
+        assert_eq!(lent.turn(0), ON);
+        assert_eq!(lent.stage(0), 6);
+        assert_eq!(lent.store[0], other);
+    }
+    // One epoch below the largest is still lowered.
+    let mut lent = lowering_at_the_largest_epoch();
+    lent.store[0] = word::current(1, MAX - 1);
+    assert_eq!(lent.finish(0), (3, stored(1)));
+    assert_eq!(lent.current(), (0, MAX));
+}
+
+#[test]
+fn the_arrival_of_a_refused_put_can_be_taken() {
+    let mut lent = Lent::open(shape(2, 4, 1, 10));
+    lent.store[0] = word::current(0, MAX);
+    lent.put(0, 5).unwrap();
+    lent.turns_to(0, 7);
+    assert_eq!(lent.turn(0), refused(11));
+    assert_eq!(lent.take_whole(1), took(5));
+    assert_eq!(lent.turn(0), refused(11));
+}
+
+#[test]
+fn refusal_12_while_nodes_rest() {
+    let mut lent = Lent::open(shape(3, 1, 2, 10));
+    lent.store_whole(0, 5);
+    assert_eq!(lent.put(0, 5), refused(12));
+    // A call older than the unlinking keeps the node resting, a newer one not.
+    lent.take(1).unwrap();
+    assert_eq!(lent.take_whole(0), took(5));
+    assert_eq!(lent.put(0, 5), refused(12));
+    assert_eq!(lent.finish(1).1, EMPTY);
+    lent.take(2).unwrap();
+    assert_eq!(lent.put(0, 5), begun(5));
+}
+
+#[test]
+fn a_ticket_equal_to_the_unlinking_keeps_the_node_resting() {
+    for (ticket, answer) in [(6, refused(12)), (7, refused(12)), (8, begun(10))] {
+        let mut lent = Lent::open(shape(2, 1, 2, 10));
+        lent.store[1] = 9;
+        *lent.node_word(0, field::DISTANCE) = 1;
+        *lent.node_word(0, field::RECLAMATION) = 2 + 7;
+        lent.workers[1] = Worker {
+            ticket,
+            ..record_at(8)
+        };
+        assert_eq!(lent.clone().put(0, 5), answer);
+        // An idle record's ticket does not count.
+        lent.workers[1].stage = 0;
+        assert_eq!(lent.put(0, 5), begun(10));
+    }
+}
+
+#[test]
+fn nodes_are_tried_after_the_last_one_and_round() {
+    for (last, live, expected) in [
+        (3, &[][..], 0),
+        (0, &[][..], 1),
+        (1, &[2, 3][..], 0),
+        (1, &[0, 2, 3][..], 1),
+        (3, &[0, 1][..], 2),
+    ] {
+        let mut lent = Lent::open(shape(2, 4, 2, 10));
+        lent.store[2] = last;
+        for &node in live {
+            *lent.node_word(node, field::RECLAMATION) = 1;
+            *lent.node_word(node, field::DISTANCE) = 1;
+        }
+        assert_eq!(lent.put(0, 5), begun(1));
+        assert_eq!((lent.store[2], lent.workers[0].own), (expected, expected));
+    }
+}
+
+#[test]
+fn starts_touch_only_what_they_name() {
+    let mut lent = Lent::open(shape(2, 4, 2, 10));
+    let seen = Worker {
+        stage: 0,
+        kind: 1,
+        own: 3,
+        bucket: 1,
+        left: 5,
+        right: 4,
+        link_seen: 9,
+        current_seen: word::current(1, 77),
+        ticket: 66,
+    };
+    lent.workers[0] = seen;
+    lent.workers[1] = Worker { kind: 0, ..seen };
+    *lent.node_word(0, field::LINK) = 9;
+    *lent.node_word(0, field::EPOCH) = 55;
+
+    assert_eq!(lent.put(0, 5), begun(1));
+    let put = Worker {
+        stage: 1,
+        kind: 0,
+        own: 0,
+        bucket: 0,
+        ticket: 1,
+        ..seen
+    };
+    assert_eq!(lent.workers[0], put);
+    assert_eq!(lent.store[5..13], [9, 5, 1, 7, 1, 3, 55, 1]);
+
+    assert_eq!(lent.take(1), begun(2));
+    let take = Worker {
+        stage: 8,
+        kind: 1,
+        ticket: 2,
+        ..seen
+    };
+    assert_eq!(lent.workers[1], take);
+    assert_eq!(lent.store[1], 2);
+}
+
+/// Makes the condition of a refusal true, for the start or turn of worker 0.
+fn provoke(number: u8, lent: &mut Lent, call: &mut (usize, Arrival)) {
+    match number {
+        1 => lent.shape.width = 0,
+        2 => lent.workers.truncate(1),
+        3 => lent.store[2] = 4,
+        4 => call.0 = 2,
+        5 => call.1.distance = 0,
+        6 => call.1.time = 20,
+        9 => lent.workers[0].stage = 7,
+        10 => lent.workers[0].stage = 0,
+        11 => {
+            lent.store[0] = word::current(1, MAX);
+            lent.store[1] = MAX;
+            lent.workers[0].current_seen = word::current(1, MAX);
+        }
+        12 => {
+            for node in 0..4 {
+                *lent.node_word(node, field::DISTANCE) = 1;
+                *lent.node_word(node, field::RECLAMATION) = 1;
+            }
+        }
+        _ => unreachable!(),
+    }
+}
+
+/// Tries every set of conditions; the lowest number must be the answer.
+fn lowest_wins(numbers: &[u8], stage: u64, entry: fn(&mut Lent, usize, Arrival) -> Answer) {
+    for set in 0..1u32 << numbers.len() {
+        let chosen: Vec<u8> = (0..numbers.len())
+            .filter(|i| set >> i & 1 == 1)
+            .map(|i| numbers[i])
+            .collect();
+        let mut lent = Lent::open(shape(2, 4, 2, 10));
+        lent.workers[0] = record_at(stage);
+        let mut call = (0, arrival(5));
+        // The shape last: the others look at the layout.
+        for &number in chosen.iter().rev() {
+            provoke(number, &mut lent, &mut call);
+        }
+        let answer = entry(&mut lent, call.0, call.1);
+        match chosen.first() {
+            Some(&lowest) => assert_eq!(answer, refused(lowest), "{chosen:?}"),
+            None => assert!(answer.is_ok()),
+        }
+    }
+}
+
+#[test]
+fn the_lowest_number_wins() {
+    lowest_wins(
+        &[1, 2, 3, 4, 5, 6, 9, 11, 12],
+        0,
+        |lent, worker, arrival| lent.put_arrival(worker, arrival),
+    );
+    lowest_wins(&[1, 2, 3, 4, 9, 11], 0, |lent, worker, _| lent.take(worker));
+    lowest_wins(&[1, 2, 3, 4, 10, 11], 7, |lent, worker, _| {
+        lent.turn(worker)
+    });
+}
+
+/// Conditions of other entry points do not count.
+#[test]
+fn each_applies_on_its_condition_only() {
+    let mut lent = Lent::with_stored(shape(2, 1, 2, 10), &[5]);
+    lent.store[1] = MAX;
+    lent.workers[0] = record_at(8);
+    assert_eq!(lent.turn(0), ON); // 11 and 12 would hold for a put.
+    lent.store[1] = 1;
+    assert_eq!(lent.take(1), begun(2)); // 12 would hold for a put.
+}
