@@ -20,6 +20,14 @@ lower a b = ltb (a .time) (b .time) || (eqb (a .time) (b .time) && ltb (a .ticke
 unfoldable pub bucketOf : Shape → ℕ → ℕ
 bucketOf sh time = time / sh .width
 
+-- the bucket of an item
+unfoldable pub itemBucket : Shape → Item → ℕ
+itemBucket sh x = bucketOf sh (x .time)
+
+pub item-bucket : (sh : Shape) (x : Item) → itemBucket sh x ≡ bucketOf sh (x .time)
+unfolding itemBucket
+item-bucket sh x = refl
+
 abbrev Below : Item → Item → Type 0
 Below a b = (a .time < b .time) ⊎ ((a .time ≡ b .time) × (a .ticket < b .ticket))
 
@@ -93,8 +101,8 @@ lower-total a b h n = lowered b a (go (ltb (b .time) (a .time)) refl (ltb (a .ti
     go false e false f false g = absurd (not-below (inr (omega (arith, ltb-true, ltb-false))))
 
 -- A lower key lies in no higher bucket.
-pub bucket-mono : (sh : Shape) (a b : Item) → 1 ≤ sh .width → lower a b ≡ true → bucketOf sh (a .time) ≤ bucketOf sh (b .time)
-unfolding bucketOf
+pub bucket-mono : (sh : Shape) (a b : Item) → 1 ≤ sh .width → lower a b ≡ true → itemBucket sh a ≤ itemBucket sh b
+unfolding itemBucket bucketOf
 bucket-mono sh a b w p = go (below a b p)
   where
     go : Below a b → a .time / sh .width ≤ b .time / sh .width

@@ -15,6 +15,7 @@ use Rattle.arrival.specs.Tests.{left-true, right-true, parts, neither}
 use Rattle.calendar.specs.Layout.{layout, started}
 use Rattle.calendar.specs.Ranges.{worker, pathInRange, orderInRange, distanceInRange, storeInRange, tableInRange}
 use Rattle.calendar.specs.RangeFacts.{Limits, limits, StoreRanges, store-ranges, RecordRanges, table-ranges}
+use Rattle.calendar.specs.Views.{view}
 use Rattle.calendar.specs.Reclaim.{firstFree}
 use Rattle.calendar.specs.Refusals.{badShape, tooShort, outOfRange, noWorker, badArrival, tooLate, busy, idle, noTicket, noEpoch, noNode, openRefusal, enqueueRefusal, dequeueRefusal, stepRefusal}
 
@@ -27,7 +28,7 @@ pub record Lent (sh : Shape) (s : List ℕ) (t : List Worker) : Type 0 where
 -- and 3 and 4
 pub record Usable (sh : Shape) (s : List ℕ) (t : List Worker) (i : ℕ) : Type 0 where
   pub lent : Lent sh s t
-  pub store : StoreRanges sh s
+  pub store : StoreRanges sh (view sh s)
   pub table : (j : ℕ) → j < sh .workers → RecordRanges sh (worker t j)
   pub exists : i < sh .workers
 

@@ -12,14 +12,11 @@ use Rattle.arrival.specs.declared.Arrival.{Arrival}
 use Rattle.arrival.specs.declared.Worker.{Worker}
 use Rattle.arrival.specs.Responses.{said}
 use Rattle.calendar.specs.Layout.{Place, word, cell, field, Write, _≔_, writeAll, write, address, layout, valid, length-write, word-inside, cell-inside, field-inside}
+use Rattle.calendar.specs.Views.{AllInside}
 use Rattle.calendar.specs.RangeFacts.{RecordRanges}
 use Rattle.calendar.specs.Outcome.{Outcome}
 use Rattle.calendar.specs.Starts.{enqueueStart, dequeueStart}
 use Rattle.calendar.specs.Changes.{Found, put-found, take-ends, Settled, at-end, goes-on, Walked, out, out-last, meets, Change, head-read, mark-seen, passed, stopped, unlinked, again-3, prepared, linked, again-5, stored-6, on-7, stored-7, back-6, current-read, first-read, mark-passed, newer, on-11, marked, back-10, advanced, back-12, emptied, back-13}
-
-abbrev pub AllInside : Shape → List Write → Type 0
-AllInside sh [] = Unit {0}
-AllInside sh ((p ≔ v) ∷ ws) = (valid p ≡ true) × (address sh p < layout sh) × AllInside sh ws
 
 -- ── the starts ──
 pub enqueue-inside : (sh : Shape) (s : List ℕ) (n : ℕ) (a : Arrival) (w : Worker) → n < sh .nodes → AllInside sh (enqueueStart sh s n a w .writes)
@@ -36,7 +33,7 @@ dequeue-inside sh s w = (refl, word-inside sh 1 (lit< tt), tt)
 
 -- ── a turn ──
 module _ (sh : Shape) (s : List ℕ) where
-  found-writes : {ws : List Write} {v : Worker} {o : Outcome} → Found sh s ws v o → o .writes ≡ ws
+  pub found-writes : {ws : List Write} {v : Worker} {o : Outcome} → Found sh s ws v o → o .writes ≡ ws
   found-writes (put-found e) = refl
   found-writes (take-ends e) = refl
 

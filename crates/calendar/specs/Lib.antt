@@ -14,6 +14,7 @@ pub mod Operations
 pub mod Ledger
 pub mod Lists
 pub mod Linearizability
+pub mod Views
 pub mod RangeFacts
 pub mod Accepted
 pub mod Changes

@@ -11,6 +11,7 @@ use Rattle.arrival.specs.declared.Shape.{Shape}
 use Rattle.arrival.specs.declared.Worker.{Worker}
 use Rattle.arrival.specs.Tests.{parts, never}
 use Rattle.calendar.specs.Layout.{current, started, lastNode, head, link, timeAt, ticketAt, pathAt, orderAt, distanceAt, epochAt, standing, bucketIn}
+use Rattle.calendar.specs.Views.{View, view}
 use Rattle.calendar.specs.Every.{every, every-at, every-all}
 use Rattle.calendar.specs.Ranges.{shapeInRange, headInRange, nodeInRange, storeInRange, recordInRange, tableInRange, worker, implies, between}
 
@@ -80,34 +81,41 @@ limits sh e =
       width = leb-true _ _ width;
     }
 
--- ── the store ──
-pub record HeadRanges (sh : Shape) (s : List ℕ) (b : ℕ) : Type 0 where
-  pub even : head sh s b % 2 ≡ 0
-  pub next : head sh s b / 2 ≤ sh .nodes
+-- ── the store, by its view ──
+-- a node's words: link, time, ticket, path, order, distance, epoch, standing
+abbrev pub NodeWords : Shape → ℕ → ℕ → ℕ → ℕ → ℕ → ℕ → ℕ → ℕ → Type 0
+NodeWords sh link time ticket path order distance epoch standing = record {
+  next : link / 2 ≤ sh .nodes;
+  time : time < 4294967296;
+  ticket : ticket < 4294967296;
+  path : path ≤ 65535;
+  order : order ≤ 63;
+  far : (1 ≤ distance) ⊎ (standing ≡ 0);
+  distance : distance ≤ 1024;
+  epoch : epoch < 4294967296;
+  standing : standing < 4294967298;
+}
 
-pub record NodeRanges (sh : Shape) (s : List ℕ) (n : ℕ) : Type 0 where
-  pub next : link sh s n / 2 ≤ sh .nodes
-  pub time : timeAt sh s n < 4294967296
-  pub ticket : ticketAt sh s n < 4294967296
-  pub path : pathAt sh s n ≤ 65535
-  pub order : orderAt sh s n ≤ 63
-  pub far : (1 ≤ distanceAt sh s n) ⊎ (standing sh s n ≡ 0)
-  pub distance : distanceAt sh s n ≤ 1024
-  pub epoch : epochAt sh s n < 4294967296
-  pub standing : standing sh s n < 4294967298
+abbrev pub NodeRanges : Shape → View → ℕ → Type 0
+NodeRanges sh m n = NodeWords sh (m .cells (sh .buckets + n)) (m .time n) (m .ticket n) (m .path n) (m .order n) (m .distance n) (m .epoch n) (m .standing n)
 
-pub record StoreRanges (sh : Shape) (s : List ℕ) : Type 0 where
-  pub current : bucketIn (current sh s) < sh .buckets
-  pub started : started sh s < 4294967296
-  pub last : lastNode sh s < sh .nodes
-  pub heads : (b : ℕ) → b < sh .buckets → HeadRanges sh s b
-  pub nodes : (n : ℕ) → n < sh .nodes → NodeRanges sh s n
+abbrev pub HeadRanges : Shape → View → ℕ → Type 0
+HeadRanges sh m b = (m .cells b % 2 ≡ 0) × (m .cells b / 2 ≤ sh .nodes)
 
-head-ranges : (sh : Shape) (s : List ℕ) (b : ℕ) → headInRange sh s b ≡ true → HeadRanges sh s b
-head-ranges sh s b e = let (p, q) = parts _ _ e in record { even = eqb-true _ _ p; next = leb-true _ _ q }
+abbrev pub StoreRanges : Shape → View → Type 0
+StoreRanges sh m = record {
+  current : m .current / 4294967296 < sh .buckets;
+  started : m .started < 4294967296;
+  last : m .last < sh .nodes;
+  heads : (b : ℕ) → b < sh .buckets → HeadRanges sh m b;
+  nodes : (n : ℕ) → n < sh .nodes → NodeRanges sh m n;
+}
 
-head-tests : (sh : Shape) (s : List ℕ) (b : ℕ) → HeadRanges sh s b → headInRange sh s b ≡ true
-head-tests sh s b r = rw (eq-eqb (head sh s b % 2) 0 (r .even), le-leb (head sh s b / 2) (sh .nodes) (r .next))
+head-ranges : (sh : Shape) (s : List ℕ) (b : ℕ) → headInRange sh s b ≡ true → HeadRanges sh (view sh s) b
+head-ranges sh s b e = let (p, q) = parts _ _ e in (eqb-true _ _ p, leb-true _ _ q)
+
+head-tests : (sh : Shape) (s : List ℕ) (b : ℕ) → HeadRanges sh (view sh s) b → headInRange sh s b ≡ true
+head-tests sh s b r = rw (eq-eqb (head sh s b % 2) 0 (r .0), le-leb (head sh s b / 2) (sh .nodes) (r .1))
 
 one-of : (d k : ℕ) → (leb 1 d ≡ true) ⊎ (eqb k 0 ≡ true) → (1 ≤ d) ⊎ (k ≡ 0)
 one-of d k (inl p) = inl (leb-true _ _ p)
@@ -117,7 +125,7 @@ of-one : (d k : ℕ) → (1 ≤ d) ⊎ (k ≡ 0) → (leb 1 d || eqb k 0) ≡ tr
 of-one d k (inl p) = or-left (leb 1 d) (eqb k 0) (le-leb 1 d p)
 of-one d k (inr p) = or-right (leb 1 d) (eqb k 0) (eq-eqb k 0 p)
 
-node-ranges : (sh : Shape) (s : List ℕ) (n : ℕ) → nodeInRange sh s n ≡ true → NodeRanges sh s n
+node-ranges : (sh : Shape) (s : List ℕ) (n : ℕ) → nodeInRange sh s n ≡ true → NodeRanges sh (view sh s) n
 node-ranges sh s n e =
     let (e, standing) = parts _ _ e in
     let (e, epoch) = parts _ _ e in
@@ -139,7 +147,7 @@ node-ranges sh s n e =
       standing = ltb-true _ _ standing;
     }
 
-node-tests : (sh : Shape) (s : List ℕ) (n : ℕ) → NodeRanges sh s n → nodeInRange sh s n ≡ true
+node-tests : (sh : Shape) (s : List ℕ) (n : ℕ) → NodeRanges sh (view sh s) n → nodeInRange sh s n ≡ true
 node-tests sh s n r =
     rw (
       le-leb (link sh s n / 2) (sh .nodes) (r .next),
@@ -153,7 +161,7 @@ node-tests sh s n r =
       lt-ltb (standing sh s n) 4294967298 (r .standing),
     )
 
-pub store-ranges : (sh : Shape) (s : List ℕ) → storeInRange sh s ≡ true → StoreRanges sh s
+pub store-ranges : (sh : Shape) (s : List ℕ) → storeInRange sh s ≡ true → StoreRanges sh (view sh s)
 unfolding storeInRange
 store-ranges sh s e =
     let (e, nodes) = parts _ _ e in
@@ -168,7 +176,7 @@ store-ranges sh s e =
       nodes = λ n h. node-ranges sh s n (every-at _ _ nodes n h);
     }
 
-pub store-tests : (sh : Shape) (s : List ℕ) → StoreRanges sh s → storeInRange sh s ≡ true
+pub store-tests : (sh : Shape) (s : List ℕ) → StoreRanges sh (view sh s) → storeInRange sh s ≡ true
 unfolding storeInRange
 store-tests sh s r =
     rw (

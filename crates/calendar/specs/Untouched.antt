@@ -27,8 +27,9 @@ use Rattle.calendar.specs.Outcome.{Outcome}
 use Rattle.calendar.specs.Starts.{enqueueStart, dequeueStart}
 use Rattle.calendar.specs.Refusals.{openRefusal}
 use Rattle.calendar.specs.Accepted.{Lent, open-accepted, enqueue-accepted, dequeue-accepted, step-accepted}
+use Rattle.calendar.specs.Views.{AllInside}
 use Rattle.calendar.specs.Changes.{step-is}
-use Rattle.calendar.specs.Inside.{AllInside, enqueue-inside, dequeue-inside, change-inside, change-said, length-writeAll}
+use Rattle.calendar.specs.Inside.{enqueue-inside, dequeue-inside, change-inside, change-said, length-writeAll}
 use Rattle.calendar.specs.Operations.{Memory, Result, unless, perform, open-pool, actor, refusal, outcome, act, run}
 
 -- ── a refused operation ──

@@ -1,0 +1,11 @@
+pub mod Chain
+pub mod Linking
+pub mod Marking
+pub mod Knowledge
+pub mod Table
+pub mod Searching
+pub mod Stepping
+pub mod Filling
+pub mod Starting
+pub mod Reach
+pub mod Ahead
