@@ -1,5 +1,5 @@
 -- The order of keys and the bucket of a time, with their laws: what all proofs use. Outside this file only the functions
--- that compute them open either. Assumes nothing.
+-- that compute them and runs that are computed open either. Assumes nothing.
 use mathlib.Core.Path.{_≡_, refl, sym, ap, _∙_}
 use mathlib.Core.Bool.{Bool, true, false, _&&_, _||_}
 use mathlib.Core.Logic.{_≢_, _⊎_, inl, inr}

@@ -1,5 +1,5 @@
 -- The sequential queue of demand 3: items, calls and replies. It knows keys and energy, and nothing of the pool. Assumes nothing.
-use mathlib.Core.Bool.{Bool, cond}
+use mathlib.Core.Bool.{cond}
 use mathlib.Core.Option.{Option, none, some}
 use mathlib.Core.List.{List, [], _∷_}
 use Prim.Native.Nat.{ℕ}
@@ -15,7 +15,7 @@ pub data Call : Type 0 where
   enqueue : Item → Call
   dequeue : Call
 
--- What it gives back: the response, and the ticket of the item stored or taken (0 where there is none).
+-- What it gives back: the response, and of an item taken its ticket (0 otherwise).
 pub record Reply : Type 0 where
   pub response : Response
   pub ticket : ℕ
@@ -33,7 +33,7 @@ abbrev pub lowest : Items → Option Item
 lowest [] = none
 lowest (x ∷ S) = some (lowerOf x (lowest S))
 
--- the items without the one of this ticket
+-- the items without the one of this ticket: no two items have one
 abbrev pub remove : ℕ → Items → Items
 remove c [] = []
 remove c (x ∷ S) = cond (eqb (x .ticket) c) (remove c S) (x ∷ remove c S)
@@ -49,10 +49,9 @@ abbrev pub left-over : Items → Option Item → Items
 left-over S none = S
 left-over S (some x) = remove (x .ticket) S
 
--- A put adds its arrival and answers stored with its ticket. A take on the empty set answers empty; otherwise it removes
--- the arrival of lowest key and answers it.
+-- a put adds its item; a take removes the lowest, if there is one
 abbrev pub reply : Items → Call → Reply
-reply S (enqueue x) = record { response = Stored (x .ticket); ticket = x .ticket }
+reply S (enqueue x) = record { response = Stored (x .ticket); ticket = 0 }
 reply S dequeue = dequeued (lowest S)
 
 abbrev pub after : Items → Call → Items

@@ -17,9 +17,9 @@ calls = dequeue ∷ enqueue (item 9 2) ∷ enqueue (item 5 3) ∷ enqueue (item 
 given : List Reply
 given =
     record { response = Empty; ticket = 0 }
-    ∷ record { response = Stored 2; ticket = 2 }
-    ∷ record { response = Stored 3; ticket = 3 }
-    ∷ record { response = Stored 1; ticket = 1 }
+    ∷ record { response = Stored 2; ticket = 0 }
+    ∷ record { response = Stored 3; ticket = 0 }
+    ∷ record { response = Stored 1; ticket = 0 }
     ∷ record { response = Took 5 7 1 3 1864135; ticket = 1 }
     ∷ record { response = Took 5 7 1 3 1864135; ticket = 3 }
     ∷ record { response = Took 9 7 1 3 1864135; ticket = 2 }

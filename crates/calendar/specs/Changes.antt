@@ -16,7 +16,7 @@ use Rattle.arrival.specs.Tests.{by-test}
 use Rattle.calendar.specs.Layout.{Write, _≔_, word, head, link, linkCell, current, successor, bucketIn}
 use Rattle.calendar.specs.Outcome.{Outcome, on, answer, withOwn, withBucket, withLeft, withRight, withSeen, withCurrent}
 use Rattle.calendar.specs.SearchSteps.{answered, found, settle, rightIsMarked, rightIsLower, leftHolds, unlink, step-1, step-2, step-3}
-use Rattle.calendar.specs.EnqueueSteps.{prepare, linkOwn, currentIsLower, currentHolds, lowerCurrent, step-4, step-5, step-6, step-7}
+use Rattle.calendar.specs.EnqueueSteps.{prepare, linkOwn, currentIsLower, currentHolds, renewCurrent, step-4, step-5, step-6, step-7}
 use Rattle.calendar.specs.DequeueSteps.{moreBuckets, walk, nodeIsMarked, nodeIsNewer, linkHolds, markNode, nextCurrent, advances, stillCurrent, step-8, step-9, step-10, step-11, step-12, step-13}
 use Rattle.calendar.specs.Steps.{Rule, rules, no-step, step}
 
@@ -50,7 +50,7 @@ module _ (sh : Shape) (s : List ℕ) where
     again-5 : w .stage ≡ 5 → leftHolds sh s w ≡ false → Change w (on [] 1 w)
     stored-6 : w .stage ≡ 6 → currentIsLower sh s w ≡ true → Change w (answer [] (withCurrent (current sh s) w) (Stored (w .ticket)))
     on-7 : w .stage ≡ 6 → currentIsLower sh s w ≡ false → Change w (on [] 7 (withCurrent (current sh s) w))
-    stored-7 : w .stage ≡ 7 → currentHolds sh s w ≡ true → Change w (answer (lowerCurrent w) w (Stored (w .ticket)))
+    stored-7 : w .stage ≡ 7 → currentHolds sh s w ≡ true → Change w (answer (renewCurrent w) w (Stored (w .ticket)))
     back-6 : w .stage ≡ 7 → currentHolds sh s w ≡ false → Change w (on [] 6 w)
     current-read : w .stage ≡ 8 → Change w (on [] 9 (withBucket (bucketIn (current sh s)) (withCurrent (current sh s) w)))
     first-read : {o : Outcome} → w .stage ≡ 9 → Walked (withRight (successor (head sh s (w .bucket))) w) o → Change w o

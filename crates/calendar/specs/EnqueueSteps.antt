@@ -41,9 +41,9 @@ abbrev pub currentHolds : Shape → List ℕ → Worker → Bool
 currentHolds sh s w = eqb (current sh s) (w .current)
 
 -- current becomes the arrival's bucket with epoch e + 1
-abbrev pub lowerCurrent : Worker → List Write
-lowerCurrent w = (word 0 ≔ currentWord (w .bucket) (epochIn (w .current) + 1)) ∷ []
+abbrev pub renewCurrent : Worker → List Write
+renewCurrent w = (word 0 ≔ currentWord (w .bucket) (epochIn (w .current) + 1)) ∷ []
 
 -- 7: swap current; success answers stored, failure returns to 6.
 unfoldable pub step-7 : Shape → List ℕ → Worker → Outcome
-step-7 sh s w = cond (currentHolds sh s w) (answer (lowerCurrent w) w (Stored (w .ticket))) (on [] 6 w)
+step-7 sh s w = cond (currentHolds sh s w) (answer (renewCurrent w) w (Stored (w .ticket))) (on [] 6 w)

@@ -43,7 +43,7 @@ module _ (sh : Shape) (s : List ℕ) (t : List Worker) where
   unfolding firstFree
   first-free-free l h = first-of (sh .nodes) (lastNode sh s) l h .1
 
-  -- t is among the k nodes that follow n
+  -- x is among the k nodes that follow n
   abbrev Among : ℕ → ℕ → ℕ → Type 0
   Among k n x = ((n < x) × (x ≤ n + k)) ⊎ (x + sh .nodes ≤ n + k)
 

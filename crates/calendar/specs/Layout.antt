@@ -120,8 +120,8 @@ currentWord b e = b * 4294967296 + e
 abbrev pub inUse : ℕ
 inUse = 1
 
-abbrev pub retiredAt : ℕ → ℕ
-retiredAt s = 2 + s
+abbrev pub unlinkedAt : ℕ → ℕ
+unlinkedAt s = 2 + s
 
 -- ── what a write does ──
 abbrev pub same : Place → Place → Bool

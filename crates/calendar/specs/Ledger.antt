@@ -85,7 +85,7 @@ notes sh m (Enqueue i a) r L = begins i (queue.enqueue (itemOf a (L .started + 1
 notes sh m (Dequeue i) r L = begins i queue.dequeue L
 notes sh m (Step i) r L = hears i r (sees sh m i L)
 
--- What was refused leaves the ledger too.
+-- What was refused leaves the ledger unchanged.
 abbrev pub reads : Shape → Memory → Action → Ledger → Ledger
 reads sh m a L = let r = act sh m a .response in cond (eqb (said r .number) 0) (notes sh m a r L) L
 

@@ -22,3 +22,5 @@ pub mod Inside
 pub mod FirstFree
 pub mod Untouched
 pub mod Starred
+pub mod RangesKept
+pub mod LedgerRun

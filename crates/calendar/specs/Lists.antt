@@ -3,7 +3,7 @@ use mathlib.Core.List.{List, [], _∷_}
 use mathlib.Core.Bool.{Bool, cond, not, _&&_, _||_}
 use mathlib.Core.Option.{Option, none, some}
 use Prim.Native.Nat.{ℕ, zero, suc, _+_}
-use lib.Dec.{eqb, leb}
+use lib.Dec.{eqb}
 use Rattle.arrival.specs.declared.Shape.{Shape}
 use Rattle.arrival.specs.declared.Item.{Item}
 use Rattle.arrival.specs.declared.Worker.{Worker}
@@ -45,8 +45,7 @@ unfoldable pub unmarkedTo : Shape → List ℕ → (ℕ → List ℕ) → ℕ �
 unmarkedTo sh s lists zero = 0
 unmarkedTo sh s lists (suc b) = unmarkedIn sh s (lists b) + unmarkedTo sh s lists b
 
--- A call in progress stands on its own node at stages 1 to 7, on its left, if that is a node, at 2 to 5, and on its right,
--- if that is not end, at 2 to 5, 10 and 11. (n is a node.)
+-- Document 01's "stands on", of a node n: as own node at 1 to 7, as left at 2 to 5, as right at 2 to 5, 10 and 11.
 abbrev pub holds : Shape → Worker → ℕ → Bool
 holds sh w n =
     (between 1 7 (w .stage) && eqb (w .own) n)

@@ -30,7 +30,7 @@ pub record Result : Type 0 where
   pub memory : Memory
   pub response : Response
 
--- An operation is refused by number k and leaves the memory, or k is 0 and it has its result.
+-- An operation is refused by number k and leaves the memory unchanged, or k is 0 and it has its result.
 abbrev pub unless : ℕ → Memory → Result → Result
 unless k m r = cond (eqb k 0) r (record { memory = m; response = Refused k })
 

@@ -1,9 +1,9 @@
 -- Document 01's "Ranges": of the shape, of every layout word of the store, of one worker's record. Assumes nothing.
 use mathlib.Core.List.{List}
 use mathlib.Core.Bool.{Bool, _&&_, _||_, not}
-use Prim.Native.Nat.{ℕ, _+_, _*_, _-_, _%_}
+use Prim.Native.Nat.{ℕ, _+_, _-_, _%_}
 use lib.Dec.{eqb, leb, ltb}
-use lib.ListN.{length, getD}
+use lib.ListN.{getD}
 use Rattle.arrival.specs.declared.Shape.{Shape}
 use Rattle.arrival.specs.declared.Worker.{Worker}
 use Rattle.calendar.specs.Layout.{current, started, lastNode, head, link, timeAt, ticketAt, pathAt, orderAt, distanceAt, epochAt, standing, successor, bucketIn}
@@ -15,7 +15,7 @@ shapeInRange sh =
     leb 1 (sh .workers) && leb (sh .workers) 64 && leb 1 (sh .nodes) && leb (sh .nodes) 4096
     && leb 1 (sh .buckets) && leb (sh .buckets) 256 && leb 1 (sh .width) && leb (sh .width) 65535
 
--- path 0 to 65,535, order 0 to 63, distance 1 to 1,024 (0 too in a node never used)
+-- path 0 to 65,535, order 0 to 63, distance 1 to 1,024
 abbrev pub pathInRange : ℕ → Bool
 pathInRange path = leb path 65535
 
@@ -40,6 +40,7 @@ linkInRange sh x = leb (successor x) (sh .nodes)
 abbrev pub headInRange : Shape → List ℕ → ℕ → Bool
 headInRange sh s b = eqb (head sh s b % 2) 0 && linkInRange sh (head sh s b)
 
+-- Distance 0 is in range too in a node never used.
 abbrev pub nodeInRange : Shape → List ℕ → ℕ → Bool
 nodeInRange sh s n =
     linkInRange sh (link sh s n)

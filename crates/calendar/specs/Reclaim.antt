@@ -16,12 +16,12 @@ abbrev pub inProgress : Worker → Bool
 inProgress w = not (eqb (w .stage) 0)
 
 -- a call in progress whose ticket is at most s
-abbrev pub olderThan : ℕ → Worker → Bool
-olderThan s w = inProgress w && leb (w .ticket) s
+abbrev pub startedBy : ℕ → Worker → Bool
+startedBy s w = inProgress w && leb (w .ticket) s
 
 -- A standing x is free if it is 0, or 2 + s with no call in progress whose ticket is at most s;
 unfoldable pub isFree : Shape → List Worker → ℕ → Bool
-isFree sh t x = eqb x 0 || (leb 2 x && every (sh .workers) (λ i. not (olderThan (x - 2) (worker t i))))
+isFree sh t x = eqb x 0 || (leb 2 x && every (sh .workers) (λ i. not (startedBy (x - 2) (worker t i))))
 
 -- retired if it is 2 + s and not free;
 abbrev pub isRetired : Shape → List Worker → ℕ → Bool
@@ -33,7 +33,7 @@ isInUse x = eqb x 1
 
 one-of-three : (sh : Shape) (t : List Worker) (x : ℕ) → cond (isFree sh t x) 1 0 + cond (isRetired sh t x) 1 0 + cond (isInUse x) 1 0 ≡ 1
 unfolding isFree
-one-of-three sh t x = go (eqb x 0) refl (leb 2 x) refl (eqb x 1) refl (every (sh .workers) (λ i. not (olderThan (x - 2) (worker t i))))
+one-of-three sh t x = go (eqb x 0) refl (leb 2 x) refl (eqb x 1) refl (every (sh .workers) (λ i. not (startedBy (x - 2) (worker t i))))
   where
     go : (a : Bool) → eqb x 0 ≡ a → (b : Bool) → leb 2 x ≡ b → (c : Bool) → eqb x 1 ≡ c → (d : Bool)
         → cond (a || (b && d)) 1 0 + cond (b && not (a || (b && d))) 1 0 + cond c 1 0 ≡ 1

@@ -8,7 +8,7 @@ use Rattle.arrival.specs.declared.Worker.{Worker}
 use Rattle.arrival.specs.declared.Response.{Response}
 use Rattle.arrival.specs.Keys.{lower}
 use Rattle.arrival.specs.Queue.{taken}
-use Rattle.calendar.specs.Layout.{Write, _≔_, cell, field, read, started, head, link, linkCell, itemAt, successor, isMarked, unmarked, retiredAt}
+use Rattle.calendar.specs.Layout.{Write, _≔_, cell, field, read, started, head, link, linkCell, itemAt, successor, isMarked, unmarked, unlinkedAt}
 use Rattle.calendar.specs.Outcome.{Outcome, on, answer, withLeft, withRight, withSeen}
 
 -- what a take answers: the arrival in its own node
@@ -33,8 +33,7 @@ rightIsMarked sh s w = isMarked (link sh s (w .right))
 abbrev pub rightIsLower : Shape → List ℕ → Worker → Bool
 rightIsLower sh s w = lower (itemAt sh s (w .right)) (itemAt sh s (w .own))
 
--- 2: read right's link; if marked, 3; if right's key is lower, left becomes right's link and right its successor, and 2
--- again; otherwise the search ends.
+-- 2: read right's link. Marked: 3. Right's key lower: one node on, and 2 again. Otherwise the search ends.
 unfoldable pub step-2 : Shape → List ℕ → Worker → Outcome
 step-2 sh s w =
     let x = link sh s (w .right) in
@@ -49,7 +48,7 @@ leftHolds sh s w = eqb (read sh s (cell (w .left))) (unmarked (w .right))
 
 -- left's successor becomes the one in the link word seen, unmarked; right's standing becomes 2 + word 1
 abbrev pub unlink : Shape → List ℕ → Worker → List Write
-unlink sh s w = (cell (w .left) ≔ unmarked (successor (w .seen))) ∷ (field 7 (w .right) ≔ retiredAt (started sh s)) ∷ []
+unlink sh s w = (cell (w .left) ≔ unmarked (successor (w .seen))) ∷ (field 7 (w .right) ≔ unlinkedAt (started sh s)) ∷ []
 
 -- 3: swap the left word; on success right is the successor in the link word seen, back to 2; on failure 1.
 unfoldable pub step-3 : Shape → List ℕ → Worker → Outcome

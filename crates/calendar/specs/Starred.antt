@@ -33,30 +33,30 @@ pub record Case : Type 0 where
   pub bucket : ℕ
   pub epoch : ℕ
 
-pub two-workers : Shape
+unfoldable pub two-workers : Shape
 two-workers = record { workers = 2; nodes = 4; buckets = 2; width = 10 }
 
 four-workers : Shape
 four-workers = record { workers = 4; nodes = 4; buckets = 2; width = 10 }
 
 -- an arrival by time and distance
-pub arrival : ℕ → ℕ → Arrival
+unfoldable pub arrival : ℕ → ℕ → Arrival
 arrival time distance = record { time = time; path = 7; order = 1; distance = distance }
 
-turns : ℕ → ℕ → List Action
+unfoldable pub turns : ℕ → ℕ → List Action
 turns i k = replicate k (Step i)
 
 ons : ℕ → List Response
 ons k = replicate k On
 
--- a put of worker i whose call takes k turns, and what it gives as the call c; the same for a take
-pub put : ℕ → Arrival → ℕ → List Action
+-- a put of worker i and k turns; the responses of a put that is call c: begun, k times on, stored; a take and k turns
+unfoldable pub put : ℕ → Arrival → ℕ → List Action
 put i a k = Enqueue i a ∷ turns i k
 
 stored : ℕ → ℕ → List Response
 stored c k = Begun c ∷ (ons k ++ (Stored c ∷ []))
 
-pub take : ℕ → ℕ → List Action
+unfoldable pub take : ℕ → ℕ → List Action
 take i k = Dequeue i ∷ turns i k
 
 pub table : List Case
@@ -90,6 +90,13 @@ table =
       bucket = 0;
       epoch = 0;
     }
+    ∷ record {
+      shape = two-workers;
+      history = put 0 (arrival 15 3) 4 ++ put 1 (arrival 14 3) 5 ++ put 0 (arrival 13 3) 5 ++ put 1 (arrival 12 3) 5 ++ (Enqueue 0 (arrival 11 3) ∷ []);
+      gives = stored 1 3 ++ stored 2 4 ++ stored 3 4 ++ stored 4 4 ++ (Refused 12 ∷ []);
+      bucket = 0;
+      epoch = 0;
+    }
     -- distance 1 gives 16,777,216, 5 gives 671,088, 1,024 gives 16
     ∷ record { shape = two-workers; history = put 0 (arrival 5 1) 5 ++ take 0 7; gives = stored 1 4 ++ (Begun 2 ∷ (ons 6 ++ (Took 5 7 1 1 16777216 ∷ []))); bucket = 0; epoch = 1 }
     ∷ record { shape = two-workers; history = put 0 (arrival 5 5) 5 ++ take 0 7; gives = stored 1 4 ++ (Begun 2 ∷ (ons 6 ++ (Took 5 7 1 5 671088 ∷ []))); bucket = 0; epoch = 1 }
@@ -97,8 +104,8 @@ table =
     ∷ []
 
 -- memory as it is lent, with something in it and more of it than the shape needs
-pub lent : Memory
-lent = record { store = replicate 40 9; table = replicate 5 blank }
+unfoldable pub lent : Memory
+lent = record { store = replicate 40 9; table = replicate 5 (record { stage = 3; kind = 1; own = 9; bucket = 9; left = 9; right = 9; seen = 9; current = 9; ticket = 9 }) }
 
 pub Holds : Case → Type 0
 Holds c = let m = open-pool (c .shape) lent .memory in
@@ -113,7 +120,7 @@ All (c ∷ cs) = Holds c × All cs
 pub starred-cases : All table
 unfolding All Holds table lent two-workers four-workers arrival turns ons put stored take address read write every blank storeInRange tableInRange isFree firstFreeOf firstFree wordsFrom openStore openTable enqueueStart dequeueStart found settle step-1 step-2 step-3 step-4 step-5 step-6 step-7 walk step-8 step-9 step-10 step-11 step-12 step-13 no-step step openRefusal enqueueRefusal dequeueRefusal stepRefusal open-pool act run responses lower bucketOf energyOf
 starred-cases =
-    ((refl, refl, refl), ((refl, refl, refl), ((refl, refl, refl), ((refl, refl, refl), ((refl, refl, refl), ((refl, refl, refl), ((refl, refl, refl), ((refl, refl, refl), ((refl, refl, refl), ((refl, refl, refl), ((refl, refl, refl), ((refl, refl, refl), tt))))))))))))
+    ((refl, refl, refl), ((refl, refl, refl), ((refl, refl, refl), ((refl, refl, refl), ((refl, refl, refl), ((refl, refl, refl), ((refl, refl, refl), ((refl, refl, refl), ((refl, refl, refl), ((refl, refl, refl), ((refl, refl, refl), ((refl, refl, refl), ((refl, refl, refl), tt)))))))))))))
 
 -- Every word after an arrival was put and taken: current (0, 1), two calls, node 0 handed out and retired when two calls had
 -- started, its item and its marked link as they were.

@@ -33,7 +33,7 @@ use Rattle.calendar.specs.Inside.{enqueue-inside, dequeue-inside, change
 use Rattle.calendar.specs.Operations.{Memory, Result, unless, perform, open-pool, actor, refusal, outcome, act, run}
 
 -- ── a refused operation ──
--- If the response is a refusal, the operation was refused by its number.
+-- A refusal as response: the memory is as it was.
 refused : (k n : ℕ) (m : Memory) (r : Result) → (k ≡ 0 → said (r .response) .number ≡ 0) → unless k m r .response ≡ Refused (suc n) → unless k m r .memory ≡ m
 refused k n m r ok e = go (eqb k 0) refl e
   where

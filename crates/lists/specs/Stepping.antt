@@ -12,7 +12,7 @@ use Rattle.arrival.specs.Keys.{lower-total}
 use Rattle.calendar.specs.Layout.{Write, cell, field, word, read, linkCell, link, current, itemAt}
 use Rattle.calendar.specs.Outcome.{Outcome, withStage, withOwn, withBucket, withLeft, withRight, withSeen, withCurrent}
 use Rattle.calendar.specs.SearchSteps.{rightIsMarked, leftHolds, unlink}
-use Rattle.calendar.specs.EnqueueSteps.{prepare, linkOwn, lowerCurrent}
+use Rattle.calendar.specs.EnqueueSteps.{prepare, linkOwn, renewCurrent}
 use Rattle.calendar.specs.DequeueSteps.{linkHolds, markNode, nodeIsMarked, nodeIsNewer, nextCurrent}
 use Rattle.calendar.specs.Inside.{found-writes, settled-writes, walked-writes}
 use Rattle.calendar.specs.Changes.{Found, put-found, take-ends, Settled, at-end, goes-on, Walked, out, out-last, meets, Change, head-read, mark-seen, passed, stopped, unlinked, again-3, prepared, linked, again-5, stored-6, on-7, stored-7, back-6, current-read, first-read, mark-passed, newer, on-11, marked, back-10, advanced, back-12, emptied, back-13}
@@ -356,7 +356,7 @@ module _ (sh : Shape) (s : List ℕ) (T : ℕ → Worker) (i : ℕ) (l : i < sh 
         again (record { range = S .range; kinds = inl z; enqueueOwn = λ y. S .enqueueOwn y (omega arith); dequeueOwn = λ y. absurd (omega arith); ownHome = S .ownHome (omega arith) })
     inv-step inC (stored-6 q t) = own m ch R (withStage 0 (withCurrent (current sh s) w)) refl (at-rest sh m ch (withCurrent (current sh s) w) (k .kinds))
     inv-step inC (on-7 q t) = after-link 7 (withStage 7 (withCurrent (current sh s) w)) (omega arith) (omega arith) (omega arith) (omega arith) refl
-    inv-step inC (stored-7 q t) = close sh (updates (lowerCurrent w) m) ch T i (withStage 0 w) l busy refl R (at-rest sh m ch w (k .kinds))
+    inv-step inC (stored-7 q t) = close sh (updates (renewCurrent w) m) ch T i (withStage 0 w) l busy refl R (at-rest sh m ch w (k .kinds))
     inv-step inC (back-6 q t) = after-link 6 (withStage 6 w) (omega arith) (omega arith) (omega arith) (omega arith) refl
     inv-step inC (current-read q) =
         own m ch R _ refl (at-walk sh m ch (withBucket (current sh s / 4294967296) (withCurrent (current sh s) w)) 9 (dequeues (omega arith)) (omega arith) (λ a. (inC, refl)) (λ a b. absurd (omega arith)) (λ a. absurd (omega arith)) (λ a. absurd (omega arith)))
