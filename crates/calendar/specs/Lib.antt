@@ -24,3 +24,4 @@ pub mod Untouched
 pub mod Starred
 pub mod RangesKept
 pub mod LedgerRun
+pub mod Opened

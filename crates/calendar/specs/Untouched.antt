@@ -41,7 +41,7 @@ refused k n m r ok e = go (eqb k 0) refl e
     go true q e = absurd (omega (arith, ok (eqb-true k 0 q), ap (λ (x : Response). said x .number) e))
     go false q e = refl
 
-outcome-said : (sh : Shape) (m : Memory) (a : Action) → refusal sh m a ≡ 0 → said (outcome sh m a .response) .number ≡ 0
+pub outcome-said : (sh : Shape) (m : Memory) (a : Action) → refusal sh m a ≡ 0 → said (outcome sh m a .response) .number ≡ 0
 unfolding enqueueStart dequeueStart
 outcome-said sh m (Enqueue i a) e = refl
 outcome-said sh m (Dequeue i) e = refl

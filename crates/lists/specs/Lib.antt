@@ -9,3 +9,5 @@ pub mod Filling
 pub mod Starting
 pub mod Reach
 pub mod Ahead
+pub mod Reached
+pub mod Reuse

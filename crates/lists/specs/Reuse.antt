@@ -1,0 +1,248 @@
+-- Over every history from an opening: fields stay in range, so 1, 2 and 3 never occur, and no put gets a node that another
+-- call in progress stands on. Assumes nothing.
+use mathlib.Core.Path.{_≡_, refl, sym, ap, _∙_, subst}
+use mathlib.Core.List.{List, [], _∷_}
+use mathlib.Core.Bool.{Bool, true, false, cond, not, _&&_, _||_}
+use mathlib.Core.Logic.{_≢_, _⊎_, inl, inr}
+use Prim.Native.Nat.{ℕ, zero, suc, _+_, _≤_, _<_}
+use native.Mathlib.Omega.{arith}
+use lib.Dec.{eqb, leb, ltb}
+use lib.ListN.{length, set}
+use lib.Seq.{getD-set-same}
+use borrow.Author.Tests.{eqb-true, eqb-false, leb-true, leb-false, le-leb, le-ltb}
+use Rattle.arrival.specs.declared.Shape.{Shape}
+use Rattle.arrival.specs.declared.Arrival.{Arrival}
+use Rattle.arrival.specs.declared.Worker.{Worker}
+use Rattle.arrival.specs.declared.Action.{Action}
+use Rattle.arrival.specs.declared.Action.the-variants.{Enqueue, Dequeue, Step}
+use Rattle.arrival.specs.declared.Response.{Response}
+use Rattle.arrival.specs.declared.Response.the-variants.{Opened, Begun, Refused}
+use Rattle.arrival.specs.Responses.{said}
+use Rattle.arrival.specs.Tests.{never, parts}
+use Rattle.calendar.specs.Layout.{layout, linkCell}
+use Rattle.calendar.specs.Views.{View, view, itemIn}
+use Rattle.calendar.specs.Ranges.{blank, worker, between, shapeInRange, storeInRange, tableInRange}
+use Rattle.calendar.specs.RangeFacts.{StoreRanges, RecordRanges, store-tests, table-tests}
+use Rattle.calendar.specs.Reclaim.{firstFree}
+use Rattle.calendar.specs.FirstFree.{first-free-node, first-free-free}
+use Rattle.calendar.specs.Opening.{openStore, openTable}
+use Rattle.calendar.specs.Starts.{enqueueStart, dequeueStart}
+use Rattle.calendar.specs.Refusals.{badShape, tooShort, outOfRange, noWorker, badArrival, tooLate, busy, idle, noTicket, noEpoch, noNode, openRefusal, enqueueRefusal, dequeueRefusal, stepRefusal}
+use Rattle.calendar.specs.Accepted.{Lent, EnqueueAccepted, open-accepted, enqueue-accepted, dequeue-accepted, step-accepted}
+use Rattle.calendar.specs.Changes.{step-is}
+use Rattle.calendar.specs.Inside.{change-said}
+use Rattle.calendar.specs.Lists.{holds}
+use Rattle.calendar.specs.Untouched.{open-same-size, outcome-said}
+use Rattle.calendar.specs.Operations.{Memory, Result, unless, perform, open-pool, actor, refusal, outcome, act, run}
+use Rattle.lists.specs.Linking.{Chains, Safe}
+use Rattle.lists.specs.Filling.{Free, not-used, not-safe}
+use Rattle.lists.specs.Knowledge.{Private, Stands}
+use Rattle.lists.specs.Table.{Knows, Live, Inv}
+use Rattle.lists.specs.Searching.{Left}
+use Rattle.lists.specs.Reached.{Reached, reached-open, reached-enqueue, reached-dequeue, reached-step, free-node}
+use Rattle.lists.specs.Stepping.{chains-after}
+
+abbrev pub SomeReached : Shape → Memory → Type 0
+SomeReached sh m = (ch : Chains) × Reached sh m ch
+
+-- ── the induction ──
+-- an opening that answers open is not refused
+pub opened : (sh : Shape) (m : Memory) → open-pool sh m .response ≡ Opened → (openRefusal sh (m .store) (m .table) ≡ 0) × (open-pool sh m .memory ≡ record { store = openStore sh (m .store); table = openTable sh (m .table) })
+unfolding open-pool
+opened sh m e = go (eqb (openRefusal sh (m .store) (m .table)) 0) refl e
+  where
+    go : (b : Bool) → eqb (openRefusal sh (m .store) (m .table)) 0 ≡ b
+        → cond {A = Result} b (record { memory = record { store = openStore sh (m .store); table = openTable sh (m .table) }; response = Opened }) (record { memory = m; response = Refused (openRefusal sh (m .store) (m .table)) }) .response ≡ Opened
+        → (openRefusal sh (m .store) (m .table) ≡ 0)
+        × (cond {A = Result} b (record { memory = record { store = openStore sh (m .store); table = openTable sh (m .table) }; response = Opened }) (record { memory = m; response = Refused (openRefusal sh (m .store) (m .table)) }) .memory ≡ record { store = openStore sh (m .store); table = openTable sh (m .table) })
+    go true q r = (eqb-true (openRefusal sh (m .store) (m .table)) 0 q, refl)
+    go false q r = absurd (let z : _≡_ {A = ℕ} 0 1 = cc in omega arith)
+
+pub open-reaches : (sh : Shape) (m : Memory) → open-pool sh m .response ≡ Opened → Reached sh (open-pool sh m .memory) (λ b. [])
+open-reaches sh m e =
+    let (z, q) = opened sh m e in
+    let A = open-accepted sh (m .store) (m .table) z in
+    let size = open-same-size sh m in
+    let B : Lent sh (openStore sh (m .store)) (openTable sh (m .table)) = record {
+      limits = A .limits;
+      store = subst (λ (n : Memory). layout sh ≤ length (n .store)) q (rw (size .store) (A .store));
+      table = subst (λ (n : Memory). sh .workers ≤ length (n .table)) q (rw (size .table) (A .table));
+    } in
+    subst (λ n. Reached sh n (λ b. [])) (sym q) (reached-open sh m A B)
+
+-- a property that refused actions keep and accepted ones bring
+pub by-refusal : (sh : Shape) (P : Memory → Type 0) (m : Memory) (a : Action) → P m → (refusal sh m a ≡ 0 → P (perform sh m (actor a) (outcome sh m a) .memory)) → P (act sh m a .memory)
+unfolding act
+by-refusal sh P m a same h = go (eqb (refusal sh m a) 0) refl
+  where
+    go : (b : Bool) → eqb (refusal sh m a) 0 ≡ b → P (cond b (perform sh m (actor a) (outcome sh m a)) (record { memory = m; response = Refused (refusal sh m a) }) .memory)
+    go true e = h (eqb-true (refusal sh m a) 0 e)
+    go false e = same
+
+act-reaches : (sh : Shape) (m : Memory) (a : Action) → SomeReached sh m → SomeReached sh (act sh m a .memory)
+act-reaches sh m a (ch, K) = by-refusal sh (SomeReached sh) m a (ch, K) (accepted a)
+  where
+    accepted : (a : Action) → refusal sh m a ≡ 0 → SomeReached sh (perform sh m (actor a) (outcome sh m a) .memory)
+    accepted (Enqueue i x) e = (ch, reached-enqueue sh m ch i x K (enqueue-accepted sh (m .store) (m .table) i x e))
+    accepted (Dequeue i) e = (ch, reached-dequeue sh m ch i K (dequeue-accepted sh (m .store) (m .table) i e))
+    accepted (Step i) e =
+        let A = step-accepted sh (m .store) (m .table) i e in
+        let c = step-is sh (m .store) (worker (m .table) i) (A .busy) (K .table i (A .usable .exists) .stage) in
+        (chains-after sh (m .store) (worker (m .table)) i (A .usable .exists) (A .busy) ch (K .inv) c, reached-step sh m ch i K A c)
+
+run-reaches : (sh : Shape) (m : Memory) (h : List Action) → SomeReached sh m → SomeReached sh (run sh m h)
+unfolding run
+run-reaches sh m [] K = K
+run-reaches sh m (a ∷ h) K = run-reaches sh (act sh m a .memory) h (act-reaches sh m a K)
+
+-- EVERY HISTORY FROM AN OPENING
+pub history-reaches : (sh : Shape) (m : Memory) → open-pool sh m .response ≡ Opened → (h : List Action) → SomeReached sh (run sh (open-pool sh m .memory) h)
+history-reaches sh m e h = run-reaches sh (open-pool sh m .memory) h (λ b. [], open-reaches sh m e)
+
+-- ── ranges ──
+pub reached-in-range : (sh : Shape) (m : Memory) (ch : Chains) → Reached sh m ch → (storeInRange sh (m .store) ≡ true) × (tableInRange sh (m .table) ≡ true)
+reached-in-range sh m ch K = (store-tests sh (m .store) (K .store), table-tests sh (m .table) (K .table))
+
+pub always-in-range : (sh : Shape) (m : Memory) → open-pool sh m .response ≡ Opened → (h : List Action)
+    → let n = run sh (open-pool sh m .memory) h in (storeInRange sh (n .store) ≡ true) × (tableInRange sh (n .table) ≡ true)
+always-in-range sh m e h = let (ch, K) = history-reaches sh m e h in reached-in-range sh (run sh (open-pool sh m .memory) h) ch K
+
+-- the first three tests of every list of refusals fail
+module _ (sh : Shape) (m : Memory) (ch : Chains) (K : Reached sh m ch) where
+  in-shape : badShape sh ≡ false
+  in-shape = let L = K .lent .limits in
+      rw (le-leb 1 (sh .workers) (L .some-worker), le-leb (sh .workers) 64 (L .workers), le-leb 1 (sh .nodes) (L .some-node), le-leb (sh .nodes) 4096 (L .nodes), le-leb 1 (sh .buckets) (L .some-bucket), le-leb (sh .buckets) 256 (L .buckets), le-leb 1 (sh .width) (L .some-width), le-leb (sh .width) 65535 (L .width))
+
+  long : tooShort sh (m .store) (m .table) ≡ false
+  long = rw (le-ltb (length (m .store)) (layout sh) (K .lent .store), le-ltb (length (m .table)) (sh .workers) (K .lent .table))
+
+  ranged : outOfRange sh (m .store) (m .table) ≡ false
+  ranged = let (p, q) = reached-in-range sh m ch K in rw (p, q)
+
+  later : (k n : ℕ) → k ≤ 3 → (b : Bool) → 4 ≤ n → {rest : ℕ} → rest ≢ k → cond b n rest ≢ k
+  later k n h true l r e = omega arith
+  later k n h false l r e = r e
+
+  -- nothing but 4 and more is left
+  pub not-1-to-3 : (a : Action) (k : ℕ) → 1 ≤ k → k ≤ 3 → refusal sh m a ≢ k
+  unfolding enqueueRefusal dequeueRefusal stepRefusal
+  not-1-to-3 (Enqueue i x) k lo hi =
+      rw (in-shape, long, ranged)
+      (later k 4 hi (noWorker sh i) (omega arith) (later k 5 hi (badArrival x) (omega arith) (later k 6 hi (tooLate sh x) (omega arith) (later k 9 hi (busy (worker (m .table) i)) (omega arith)
+      (later k 11 hi (noTicket sh (m .store)) (omega arith) (later k 12 hi (noNode sh (m .store) (m .table)) (omega arith) {rest = 0} (λ e. omega arith)))))))
+  not-1-to-3 (Dequeue i) k lo hi =
+      rw (in-shape, long, ranged) (later k 4 hi (noWorker sh i) (omega arith) (later k 9 hi (busy (worker (m .table) i)) (omega arith) (later k 11 hi (noTicket sh (m .store)) (omega arith) {rest = 0} (λ e. omega arith))))
+  not-1-to-3 (Step i) k lo hi =
+      rw (in-shape, long, ranged) (later k 4 hi (noWorker sh i) (omega arith) (later k 10 hi (idle (worker (m .table) i)) (omega arith) (later k 11 hi (noEpoch sh (m .store) (worker (m .table) i)) (omega arith) {rest = 0} (λ e. omega arith))))
+
+-- a refusal's number is the one of the list
+pub refused-by : (sh : Shape) (m : Memory) (a : Action) (k : ℕ) → 1 ≤ k → act sh m a .response ≡ Refused k → refusal sh m a ≡ k
+unfolding act
+refused-by sh m a k lo e = go (eqb (refusal sh m a) 0) refl e
+  where
+    go : (b : Bool) → eqb (refusal sh m a) 0 ≡ b → cond b (perform sh m (actor a) (outcome sh m a)) (record { memory = m; response = Refused (refusal sh m a) }) .response ≡ Refused k → refusal sh m a ≡ k
+    go true q r = absurd (omega (arith, outcome-said sh m a (eqb-true (refusal sh m a) 0 q), ap (λ (x : Response). said x .number) r))
+    go false q r = ap (λ (x : Response). said x .number) r
+
+-- REFUSALS 1, 2 AND 3 NEVER OCCUR
+pub never-refused-1-to-3 : (sh : Shape) (m : Memory) → open-pool sh m .response ≡ Opened → (h : List Action) (a : Action) (k : ℕ) → 1 ≤ k → k ≤ 3 → act sh (run sh (open-pool sh m .memory) h) a .response ≢ Refused k
+never-refused-1-to-3 sh m e h a k lo hi r =
+    let n = run sh (open-pool sh m .memory) h in
+    let (ch, K) = history-reaches sh m e h in
+    not-1-to-3 sh n ch K a k lo hi (refused-by sh n a k lo r)
+
+-- ── what a call stands on ──
+-- no free node is one that a call in progress stands on
+module _ (sh : Shape) (v : View) (ch : Chains) (T : ℕ → Worker) (I : Inv sh v ch T) (x : ℕ) (isNode : x < sh .nodes) (free : Free v (Live (sh .workers) T) x) (j : ℕ) (l : j < sh .workers) where
+  abbrev w : Worker
+  w = T j
+
+  live : (T j) .stage ≢ 0 → Live (sh .workers) T ((T j) .ticket)
+  live u = (j, l, u, refl)
+
+  stands-off : {b n : ℕ} → (T j) .stage ≢ 0 → Stands sh v ch ((T j) .ticket) b n → n ≢ x
+  stands-off {n} u st e = not-safe sh v ch (Live (sh .workers) T) (I .lists) x (itemIn v x) free ((T j) .ticket) n (live u) (st .safe) (sym e)
+
+  k : Knows sh v ch (T j)
+  k = I .knows j l
+
+  own-off : 1 ≤ (T j) .stage → (T j) .stage ≤ 7 → (T j) .own ≢ x
+  own-off a b = go (leb (w .stage) 5) refl (k .kinds)
+    where
+      used : Private sh v ch ((T j) .ticket) ((T j) .own) → (T j) .own ≢ x
+      used p e = not-used sh v ch (Live (sh .workers) T) (I .lists) x (itemIn v x) free (ap (v .standing) (sym e) ∙ p .used)
+
+      go : (t : Bool) → leb ((T j) .stage) 5 ≡ t → ((T j) .kind ≡ 0) ⊎ ((T j) .kind ≡ 1) → (T j) .own ≢ x
+      go true t (inl z) = let h = leb-true (w .stage) 5 t in used (k .search a h .enqueueOwn z h)
+      go true t (inr z) = let h = leb-true (w .stage) 5 t in stands-off (λ e. omega arith) (k .search a h .dequeueOwn z (k .dequeues z b) .stands)
+      go false t z = stands-off (λ e. omega arith) (k .linked (omega (arith, leb-false (w .stage) 5 t)) b .node)
+
+  left-off : 2 ≤ (T j) .stage → (T j) .stage ≤ 5 → (T j) .left ≢ sh .buckets + x
+  left-off a b e = go (k .search (omega arith) b .left a b)
+    where
+      go : Left sh v ch (T j) → ⊥
+      go (inl q) = omega (arith, k .search (omega arith) b .range)
+      go (inr (n, q, st, lt)) = stands-off (λ u. omega arith) st (omega arith)
+
+  right-off : ((2 ≤ (T j) .stage) × ((T j) .stage ≤ 5)) ⊎ ((10 ≤ (T j) .stage) × ((T j) .stage ≤ 11)) → (T j) .right ≢ x
+  right-off (inl (a, b)) e = go (k .search (omega arith) b .right a b)
+    where
+      go : ((T j) .right ≡ sh .nodes) ⊎ Stands sh v ch ((T j) .ticket) ((T j) .bucket) ((T j) .right) → ⊥
+      go (inl q) = omega arith
+      go (inr st) = stands-off (λ u. omega arith) st e
+  right-off (inr (a, b)) e = stands-off (λ u. omega arith) (k .stand a b) e
+
+  within : (lo hi n : ℕ) → between lo hi n ≡ true → (lo ≤ n) × (n ≤ hi)
+  within lo hi n e = let (p, q) = parts (leb lo n) (leb n hi) e in (leb-true lo n p, leb-true n hi q)
+
+  pub not-stood-on : holds sh (T j) x ≡ false
+  not-stood-on = go (holds sh (T j) x) refl
+    where
+      either : (a b : Bool) → (a || b) ≡ true → (a ≡ true) ⊎ (b ≡ true)
+      either true b e = inl refl
+      either false b e = inr e
+
+      on-right : (between 2 5 ((T j) .stage) ≡ true) ⊎ (between 10 11 ((T j) .stage) ≡ true) → (T j) .right ≢ x
+      on-right (inl e) = right-off (inl (within 2 5 (w .stage) e))
+      on-right (inr e) = right-off (inr (within 10 11 (w .stage) e))
+
+      by : ((between 1 7 ((T j) .stage) && eqb ((T j) .own) x) ≡ true) ⊎ (((between 2 5 ((T j) .stage) && eqb ((T j) .left) (linkCell sh x)) ≡ true) ⊎ (((between 2 5 ((T j) .stage) || between 10 11 ((T j) .stage)) && eqb ((T j) .right) x) ≡ true)) → ⊥
+      by (inl e) = let (p, q) = parts _ _ e in let (a, b) = within 1 7 (w .stage) p in own-off a b (eqb-true (w .own) x q)
+      by (inr (inl e)) = let (p, q) = parts _ _ e in let (a, b) = within 2 5 (w .stage) p in left-off a b (eqb-true (w .left) (linkCell sh x) q)
+      by (inr (inr e)) = let (p, q) = parts _ _ e in on-right (either _ _ p) (eqb-true (w .right) x q)
+
+      split : (a b c : Bool) → (a || b || c) ≡ true → (a ≡ true) ⊎ ((b ≡ true) ⊎ (c ≡ true))
+      split true b c e = inl refl
+      split false true c e = inr (inl refl)
+      split false false c e = inr (inr e)
+
+      go : (t : Bool) → holds sh (T j) x ≡ t → t ≡ false
+      go true e = absurd (by (split _ _ _ e))
+      go false e = refl
+
+-- the node that a put gets is the first free one
+put-gets : (sh : Shape) (m : Memory) (i c : ℕ) (a : Arrival) → act sh m (Enqueue i a) .response ≡ Begun c
+    → (enqueueRefusal sh (m .store) (m .table) i a ≡ 0) × (sh .workers ≤ length (m .table) → i < sh .workers → worker (act sh m (Enqueue i a) .memory .table) i .own ≡ firstFree sh (m .store) (m .table))
+unfolding act enqueueStart
+put-gets sh m i c a e = go (eqb (enqueueRefusal sh (m .store) (m .table) i a) 0) refl e
+  where
+    go : (b : Bool) → eqb (enqueueRefusal sh (m .store) (m .table) i a) 0 ≡ b
+        → cond b (perform sh m i (outcome sh m (Enqueue i a))) (record { memory = m; response = Refused (enqueueRefusal sh (m .store) (m .table) i a) }) .response ≡ Begun c
+        → (enqueueRefusal sh (m .store) (m .table) i a ≡ 0)
+        × (sh .workers ≤ length (m .table) → i < sh .workers → worker (cond b (perform sh m i (outcome sh m (Enqueue i a))) (record { memory = m; response = Refused (enqueueRefusal sh (m .store) (m .table) i a) }) .memory .table) i .own ≡ firstFree sh (m .store) (m .table))
+    go true q r = (eqb-true _ 0 q, λ t l. ap (λ (w : Worker). w .own) (getD-set-same (m .table) i (outcome sh m (Enqueue i a) .worker) blank (omega arith)))
+    go false q r = absurd (let z : _≡_ {A = ℕ} 0 1 = cc in omega arith)
+
+-- NO PUT GETS A NODE THAT ANOTHER CALL IN PROGRESS STANDS ON
+pub reached-not-held : (sh : Shape) (m : Memory) (ch : Chains) → Reached sh m ch → (i c : ℕ) (a : Arrival) → act sh m (Enqueue i a) .response ≡ Begun c
+    → (j : ℕ) → j < sh .workers → j ≢ i → holds sh (worker (m .table) j) (worker (act sh m (Enqueue i a) .memory .table) i .own) ≡ false
+reached-not-held sh m ch K i c a e j l u =
+    let (z, own) = put-gets sh m i c a e in
+    let A = enqueue-accepted sh (m .store) (m .table) i a z in
+    rw (own (K .lent .table) (A .usable .exists))
+    (not-stood-on sh (view sh (m .store)) ch (worker (m .table)) (K .inv) (firstFree sh (m .store) (m .table)) (first-free-node sh (m .store) (m .table) (K .store .last) (A .node))
+    (free-node sh (m .store) (m .table) (firstFree sh (m .store) (m .table)) (first-free-free sh (m .store) (m .table) (K .store .last) (A .node))) j l)
+
+pub no-put-gets-a-held-node : (sh : Shape) (m : Memory) → open-pool sh m .response ≡ Opened → (h : List Action) → let n = run sh (open-pool sh m .memory) h in
+    (i c : ℕ) (a : Arrival) → act sh n (Enqueue i a) .response ≡ Begun c → (j : ℕ) → j < sh .workers → j ≢ i → holds sh (worker (n .table) j) (worker (act sh n (Enqueue i a) .memory .table) i .own) ≡ false
+no-put-gets-a-held-node sh m e h = let (ch, K) = history-reaches sh m e h in reached-not-held sh (run sh (open-pool sh m .memory) h) ch K
