@@ -179,6 +179,13 @@ module _ (sh : Shape) (s : List ℕ) (T : ℕ → Worker) (i : ℕ) (l : i < sh 
     abbrev pub chains-3 : (T i) .stage ≡ 3 → leftHolds sh s (T i) ≡ true → Chains
     chains-3 three t = setChain ch ((T i) .bucket) (removeAt sh (edge sh (view sh s) ch (Live (sh .workers) T) (R .lists) ((T i) .bucket) ((T i) .left) ((T i) .right) ((T i) .seen) (unlinking three t)))
 
+    pub rest-3 : (three : (T i) .stage ≡ 3) (t : leftHolds sh s (T i) ≡ true) → Rest sh (updates (unlink sh s (T i)) (view sh s)) (chains-3 three t) T i
+    rest-3 three t =
+        let U = unlinking three t in
+        rest-stable sh m ch (updates (unlink sh s w) m) (chains-3 three t) T i l busy R (λ n. refl) refl
+        (unlink-keeps sh m ch (Live (sh .workers) T) (R .lists) (w .bucket) (w .left) (w .right) (w .seen) U)
+        (λ c v n. unlink-stable sh m ch (Live (sh .workers) T) (R .lists) (w .bucket) (w .left) (w .right) (w .seen) U c v)
+
     keeps-3 : {o : Outcome} (three : (T i) .stage ≡ 3) (t : leftHolds sh s (T i) ≡ true) → Settled sh s (unlink sh s (T i)) (withRight ((T i) .seen / 2) (T i)) o
         → Inv sh (updates (unlink sh s (T i)) (view sh s)) (chains-3 three t) (with-record T i (o .worker))
     keeps-3 three t set =
@@ -189,11 +196,7 @@ module _ (sh : Shape) (s : List ℕ) (T : ℕ → Worker) (i : ℕ) (l : i < sh 
         let h : Stable sh m ch m′ ch′ (w .ticket) = unlink-stable sh m ch (Live (sh .workers) T) (R .lists) (w .bucket) (w .left) (w .right) (w .seen) U (w .ticket) live in
         let S′ : Searches sh m′ ch′ w = searches-stable sh m ch m′ ch′ w h S (k .kinds) (λ z. omega arith) in
         let y = right-stands (omega arith) (omega arith) in
-        settled-keeps m′ ch′
-        (rest-stable sh m ch m′ ch′ T i l busy R (λ n. refl) refl
-        (unlink-keeps sh m ch (Live (sh .workers) T) (R .lists) (w .bucket) (w .left) (w .right) (w .seen) U)
-        (λ c v n. unlink-stable sh m ch (Live (sh .workers) T) (R .lists) (w .bucket) (w .left) (w .right) (w .seen) U c v))
-        set refl
+        settled-keeps m′ ch′ (rest-3 three t) set refl
         (record { range = S′ .range; kinds = k .kinds; enqueueOwn = λ z. S′ .enqueueOwn z (omega arith); dequeueOwn = λ z. S′ .dequeueOwn z (omega arith); ownHome = S′ .ownHome (omega arith) })
         (S′ .left (omega arith) (omega arith))
         (go m′ ch′ h (subst (λ q. (q / 2 ≡ sh .nodes) ⊎ Stands sh m ch (w .ticket) (w .bucket) (q / 2)) (S .atThree three .link) (next-right y)))

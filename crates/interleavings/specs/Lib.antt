@@ -1,0 +1,9 @@
+pub mod Keys
+pub mod Joint
+pub mod Closing
+pub mod Nodes
+pub mod Ends
+pub mod Linked
+pub mod Claiming
+pub mod Starting
+pub mod Stepping

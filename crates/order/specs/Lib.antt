@@ -1,0 +1,10 @@
+pub mod Entries
+pub mod Place
+pub mod Insertion
+pub mod Time
+pub mod Scans
+pub mod Orders
+pub mod Appending
+pub mod Calls
+pub mod Claimed
+pub mod Example
