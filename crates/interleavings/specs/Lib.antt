@@ -7,3 +7,5 @@ pub mod Linked
 pub mod Claiming
 pub mod Starting
 pub mod Stepping
+pub mod Effects
+pub mod Agreement
