@@ -70,7 +70,7 @@ none-is-some x e = absurd (let z : _≡_ {A = ℕ} 0 1 = cc in omega arith)
 
 module _ (sh : Shape) (wd : 1 ≤ sh .width) (v : View) (T : ℕ → Worker) (g : Ghost (keys sh wd)) (L : Ledger) (A : Agrees sh wd v T g L) (i : ℕ) (l : i < sh .workers) where
   -- ── a start: worker i was idle, no call has the new ticket, other calls' items stay ──
-  agrees-start : (v′ : View) (w : Worker) (call : queue.Call) (d : Option Item) → itemAsked call ≡ d → (T i) .stage ≡ 0 → w .ticket ≡ v .started + 1 → v′ .started ≡ v .started + 1
+  pub agrees-start : (v′ : View) (w : Worker) (call : queue.Call) (d : Option Item) → itemAsked call ≡ d → (T i) .stage ≡ 0 → w .ticket ≡ v .started + 1 → v′ .started ≡ v .started + 1
       → (w .kind ≡ 1 → 1 ≤ w .stage → w .stage ≤ 3 → ⊥)
       → ((j : ℕ) → j < sh .workers → (T j) .stage ≢ 0 → ((T j) .ticket ≤ v .started) × ((T j) .kind ≡ 1 → 1 ≤ (T j) .stage → (T j) .stage ≤ 3 → itemIn v′ ((T j) .own) ≡ itemIn v ((T j) .own)))
       → Agrees sh wd v′ (with-record T i w) (logs g (v .started + 1) d) (begins i call L)
@@ -125,7 +125,7 @@ module _ (sh : Shape) (wd : 1 ≤ sh .width) (v : View) (T : ℕ → Worker) (g 
     start = same-start ∙ ap (λ (x : View). x .started) (sym v-is)
 
     -- the agreement after the turn, from what the turn did to the two accounts
-    after : (L′ : Ledger) → L′ .started ≡ L .started → L′ .asked ≡ L .asked → L′ .callOf ≡ L .callOf → g′ .what ≡ g .what → ((c : ℕ) → L′ .ended c ≡ endedAt (g′ .hist .end c))
+    pub after : (L′ : Ledger) → L′ .started ≡ L .started → L′ .asked ≡ L .asked → L′ .callOf ≡ L .callOf → g′ .what ≡ g .what → ((c : ℕ) → L′ .ended c ≡ endedAt (g′ .hist .end c))
         → ((c t : ℕ) → g′ .hist .end c ≡ ended t → Same sh wd (g′ .said c) (L′ .response c) (L′ .marked c)) → ((c : ℕ) → c ≢ (T i) .ticket → L′ .marked c ≡ L .marked c)
         → (o .worker .stage ≢ 0 → MarkOf (updates (o .writes) (view sh s)) (o .worker) (L′ .marked (o .worker .ticket)))
         → (o .worker .stage ≢ 0) ⊎ ((t : ℕ) × (g′ .hist .end ((T i) .ticket) ≡ ended t)) → ((c t : ℕ) → g .hist .end c ≡ ended t → g′ .hist .end c ≡ ended t)
@@ -164,7 +164,7 @@ module _ (sh : Shape) (wd : 1 ≤ sh .width) (v : View) (T : ℕ → Worker) (g 
         status d x e false q = let u : d ≢ (T i) .ticket = λ z. eqb-false ((T i) .ticket) d q (sym z) in still-there d u (A .status d x (sym (other d u) ∙ e))
 
     -- a record of the same role has the same mark
-    same-mark : SameRole (T i) (o .worker) → MarkOf (updates (o .writes) (view sh s)) (o .worker) (L .marked (o .worker .ticket))
+    pub same-mark : SameRole (T i) (o .worker) → MarkOf (updates (o .writes) (view sh s)) (o .worker) (L .marked (o .worker .ticket))
     same-mark r = record {
       holding = λ z p q. let (a, b) = r .search (sym (r .kind) ∙ z) p q in ap (L .marked) (E .ticket) ∙ A .marks i l busy .holding (sym (r .kind) ∙ z) a b ∙ ap (λ n. some (itemIn v n)) (sym (r .own)) ∙ ap some (sym (items (w′ .own)));
       clear = λ z. ap (L .marked) (E .ticket) ∙ A .marks i l busy .clear (role z);
@@ -178,7 +178,7 @@ module _ (sh : Shape) (wd : 1 ≤ sh .width) (v : View) (T : ℕ → Worker) (g 
     still {c} e q = ap (λ (f : ℕ → End). f c) e ∙ q
 
     -- nothing ended
-    agrees-on : (L′ : Ledger) → L′ .started ≡ L .started → L′ .asked ≡ L .asked → L′ .callOf ≡ L .callOf → L′ .ended ≡ L .ended → L′ .response ≡ L .response → o .response ≡ On → Still g g′ → ((c : ℕ) → c ≢ (T i) .ticket → L′ .marked c ≡ L .marked c)
+    pub agrees-on : (L′ : Ledger) → L′ .started ≡ L .started → L′ .asked ≡ L .asked → L′ .callOf ≡ L .callOf → L′ .ended ≡ L .ended → L′ .response ≡ L .response → o .response ≡ On → Still g g′ → ((c : ℕ) → c ≢ (T i) .ticket → L′ .marked c ≡ L .marked c)
         → MarkOf (updates (o .writes) (view sh s)) (o .worker) (L′ .marked (o .worker .ticket)) → Agrees sh wd (updates (o .writes) (view sh s)) (with-record T i (o .worker)) g′ L′
     agrees-on L′ e1 e2 e3 e4 e5 on (e, w, sd) other mine =
         after L′ e1 e2 e3 w (λ c. ap (λ (f : ℕ → Option ℕ). f c) e4 ∙ A .finish c ∙ ap (λ (f : ℕ → End). endedAt (f c)) (sym e))
@@ -195,7 +195,7 @@ module _ (sh : Shape) (wd : 1 ≤ sh .width) (v : View) (T : ℕ → Worker) (g 
             (subst (λ k. Same sh wd (g .said c) (L .response c) k) (sym (other c (not-this c t h))) (A .said c t h)))
 
     -- the call ended with the entry ent
-    agrees-end : (ent : Entry (keys sh wd)) (r : Response) (more-stored more-taken : ℕ) → Closes g g′ (updates (o .writes) (view sh s) .started) ((T i) .ticket) ent → Same sh wd ent r (L .marked ((T i) .ticket))
+    pub agrees-end : (ent : Entry (keys sh wd)) (r : Response) (more-stored more-taken : ℕ) → Closes g g′ (updates (o .writes) (view sh s) .started) ((T i) .ticket) ent → Same sh wd ent r (L .marked ((T i) .ticket))
         → SameRole (T i) (o .worker) → Agrees sh wd (updates (o .writes) (view sh s)) (with-record T i (o .worker)) g′ (ends i r more-stored more-taken L)
     agrees-end ent r n₁ n₂ (e, w, sd) fine role =
         after (ends i r n₁ n₂ L) refl refl refl w

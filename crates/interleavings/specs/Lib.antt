@@ -9,3 +9,4 @@ pub mod Starting
 pub mod Stepping
 pub mod Effects
 pub mod Agreement
+pub mod Following

@@ -1,0 +1,14 @@
+pub mod Tests
+pub mod Fields
+pub mod Records
+pub mod Reading
+pub mod Encoding
+pub mod Front
+pub mod Encoded
+pub mod Found
+pub mod OneReading
+pub mod Decimal
+pub mod Lines
+pub mod Stores
+pub mod Buffer
+pub mod Examples
