@@ -10,3 +10,5 @@ pub mod Stepping
 pub mod Effects
 pub mod Agreement
 pub mod Following
+pub mod Sequential
+pub mod Linearized

@@ -1,0 +1,133 @@
+-- The sequential queue, fed an order's calls, gives the order's answers. Assumes nothing.
+use mathlib.Core.Path.{_≡_, refl, sym, _∙_, ap, subst}
+use mathlib.Core.Bool.{Bool, true, false, cond}
+use mathlib.Core.Logic.{_≢_, _⊎_, inl, inr}
+use mathlib.Core.Option.{Option, none, some}
+use mathlib.Core.List.{List, [], _∷_, List·Memᴰ as Mem, List·Memᴰ·head as here, List·Memᴰ·tail as there}
+use Prim.Native.Nat.{ℕ, _≤_}
+use native.Mathlib.Omega.{arith}
+use lib.Dec.{eqb}
+use borrow.Author.Tests.{eqb-true, eqb-false, eq-eqb, ne-eqb}
+use Rattle.arrival.specs.declared.Shape.{Shape}
+use Rattle.arrival.specs.declared.Item.{Item}
+use Rattle.arrival.specs.declared.Response.the-variants.{Stored, Empty}
+use Rattle.arrival.specs.Keys.{lower}
+use Rattle.arrival.specs.Queue as queue
+use Rattle.arrival.specs.Queue.{Call, Reply, lowerOf, lowest, remove, taken, replies}
+use Rattle.order.specs.Entries.{Element, Entry, enqueue, dequeue, empty, scan, Q, Order, _≺_, ticket, irrefl, trans, same?, at-most-below, keep, without, without-mem, Below, step, Ok, Legal}
+use Rattle.interleavings.specs.Keys.{keys}
+
+module _ (sh : Shape) (wd : 1 ≤ sh .width) where
+  -- the order as calls, as tickets and as replies; scans are none
+  abbrev pub asks : Order (keys sh wd) → List Call
+  asks [] = []
+  asks (enqueue x ∷ L) = queue.enqueue (x .it) ∷ asks L
+  asks (dequeue z c ∷ L) = queue.dequeue ∷ asks L
+  asks (empty c ∷ L) = queue.dequeue ∷ asks L
+  asks (scan v ∷ L) = asks L
+
+  abbrev pub answers : Order (keys sh wd) → List Reply
+  answers [] = []
+  answers (enqueue x ∷ L) = record { response = Stored (ticket x); ticket = 0 } ∷ answers L
+  answers (dequeue z c ∷ L) = record { response = taken (z .it); ticket = ticket z } ∷ answers L
+  answers (empty c ∷ L) = record { response = Empty; ticket = 0 } ∷ answers L
+  answers (scan v ∷ L) = answers L
+
+  abbrev pub items : Q (keys sh wd) → queue.Items
+  items [] = []
+  items (p ∷ S) = p .it ∷ items S
+
+  -- ── the lowest ──
+  abbrev Lowest : Q (keys sh wd) → Option Item → Type 0
+  Lowest S none = (q : Element (keys sh wd)) → ¬ Mem q S
+  Lowest S (some x) = (p : Element (keys sh wd)) × (p .it ≡ x) × Mem p S × ¬ Below S p
+
+  lowest-step : (p : Element (keys sh wd)) (S : Q (keys sh wd)) (o : Option Item) → Lowest S o → Lowest (p ∷ S) (some (lowerOf (p .it) o))
+  lowest-step p S none h = (p, refl, here refl, alone)
+    where
+      alone : ¬ Below (p ∷ S) p
+      alone (q, here e, l) = irrefl q p e l
+      alone (q, there m, l) = h q m
+  lowest-step p S (some x) (y, e, k, n) = go (lower x (p .it)) refl
+    where
+      go : (t : Bool) → lower x (p .it) ≡ t → Lowest (p ∷ S) (some (cond t x (p .it)))
+      go true l = (y, e, there k, low)
+        where
+          below : y ≺ p
+          below = subst (λ z. lower z (p .it) ≡ true) (sym e) l
+
+          low : ¬ Below (p ∷ S) y
+          low (q, here f, g) = irrefl q q refl (trans q y q g (subst (λ t. y ≺ t) (sym f) below))
+          low (q, there j, g) = n (q, j, g)
+      go false l = (p, refl, here refl, low)
+        where
+          not-below : ¬ (y ≺ p)
+          not-below h = let z : true ≡ false = sym (subst (λ z. lower z (p .it) ≡ true) e h) ∙ l in let u : _≡_ {A = ℕ} 0 1 = cc in omega arith
+
+          low : ¬ Below (p ∷ S) p
+          low (q, here f, g) = irrefl q p f g
+          low (q, there j, g) = not-below (at-most-below q y p (λ f. n (q, j, f)) g)
+
+  lowest-ok : (S : Q (keys sh wd)) → Lowest S (lowest (items S))
+  lowest-ok [] = λ q m. elim m [ ]
+  lowest-ok (p ∷ S) = lowest-step p S (lowest (items S)) (lowest-ok S)
+
+  -- two of the queue are one, or one is lower; and with one ticket they are one
+  abbrev pub Apart : (Element (keys sh wd) → Type 0) → Type 0
+  Apart Z = (y z : Element (keys sh wd)) → Z y → Z z → ((y ≡ z) ⊎ ((y ≺ z) ⊎ (z ≺ y))) × (ticket y ≡ ticket z → y ≡ z)
+
+  lowest-is : (S : Q (keys sh wd)) (z : Element (keys sh wd)) → ((y : Element (keys sh wd)) → Mem y S → (y ≡ z) ⊎ ((y ≺ z) ⊎ (z ≺ y))) → Mem z S → ¬ Below S z → lowest (items S) ≡ some (z .it)
+  lowest-is S z t m n = go (lowest (items S)) (lowest-ok S)
+    where
+      go : (o : Option Item) → Lowest S o → o ≡ some (z .it)
+      go none h = absurd (h z m)
+      go (some x) (y, e, k, l) = pick (t y k)
+        where
+          pick : (y ≡ z) ⊎ ((y ≺ z) ⊎ (z ≺ y)) → some x ≡ some (z .it)
+          pick (inl f) = ap some (sym e ∙ ap (λ (u : Element (keys sh wd)). u .it) f)
+          pick (inr (inl g)) = absurd (n (y, k, g))
+          pick (inr (inr g)) = absurd (l (z, m, g))
+
+  lowest-none : (S : Q (keys sh wd)) → ((q : Element (keys sh wd)) → ¬ Mem q S) → lowest (items S) ≡ none
+  lowest-none S n = go (lowest (items S)) (lowest-ok S)
+    where
+      go : (o : Option Item) → Lowest S o → o ≡ none
+      go none h = refl
+      go (some x) (y, e, k, l) = absurd (n y k)
+
+  removed : (S : Q (keys sh wd)) (z : Element (keys sh wd)) → ((y : Element (keys sh wd)) → Mem y S → ticket y ≡ ticket z → y ≡ z) → remove (ticket z) (items S) ≡ items (without S z)
+  removed [] z u = refl
+  removed (p ∷ S) z u = go (same? p z) (removed S z (λ y m. u y (there m)))
+    where
+      go : (d : Dec (p ≡ z)) → remove (ticket z) (items S) ≡ items (without S z) → cond (eqb (ticket p) (ticket z)) (remove (ticket z) (items S)) (p .it ∷ remove (ticket z) (items S)) ≡ items (keep d p (without S z))
+      go (yes e) ih = rw (eq-eqb (ticket p) (ticket z) (ap ticket e)) ih
+      go (no n) ih = rw (ne-eqb (ticket p) (ticket z) (λ e. n (u p (here refl) e))) (ap (p .it ∷_) ih)
+
+  -- THE QUEUE GIVES THE ORDER'S ANSWERS
+  pub plain : (S : Q (keys sh wd)) (L : Order (keys sh wd)) → Apart (λ y. Mem y S ⊎ Mem (enqueue y) L) → Legal S L → replies (items S) (asks L) ≡ answers L
+  plain S [] t l = refl
+  plain S (enqueue x ∷ L) t l = ap (record { response = Stored (ticket x); ticket = 0 } ∷_) (plain (x ∷ S) L (λ y z a b. t y z (old y a) (old z b)) (l .1))
+    where
+      old : (y : Element (keys sh wd)) → Mem y (x ∷ S) ⊎ Mem (enqueue y) L → Mem y S ⊎ Mem (enqueue y) (enqueue x ∷ L)
+      old y (inl (here e)) = inr (here (ap enqueue e))
+      old y (inl (there j)) = inl j
+      old y (inr j) = inr (there j)
+  plain S (dequeue z c ∷ L) t l =
+      let e : lowest (items S) ≡ some (z .it) = lowest-is S z (λ y j. t y z (inl j) (inl (l .0 .0)) .0) (l .0 .0) (l .0 .1) in
+      rw (e, removed S z (λ y j. t y z (inl j) (inl (l .0 .0)) .1)) (ap (record { response = taken (z .it); ticket = ticket z } ∷_) (plain (without S z) L (λ y x a b. t y x (old y a) (old x b)) (l .1)))
+    where
+      old : (y : Element (keys sh wd)) → Mem y (without S z) ⊎ Mem (enqueue y) L → Mem y S ⊎ Mem (enqueue y) (dequeue z c ∷ L)
+      old y (inl j) = inl (without-mem S z j .0)
+      old y (inr j) = inr (there j)
+  plain S (empty c ∷ L) t l =
+      let e : lowest (items S) ≡ none = lowest-none S (l .0) in
+      rw e (ap (record { response = Empty; ticket = 0 } ∷_) (plain S L (λ y z a b. t y z (old y a) (old z b)) (l .1)))
+    where
+      old : (y : Element (keys sh wd)) → Mem y S ⊎ Mem (enqueue y) L → Mem y S ⊎ Mem (enqueue y) (empty c ∷ L)
+      old y (inl j) = inl j
+      old y (inr j) = inr (there j)
+  plain S (scan v ∷ L) t l = plain S L (λ y z a b. t y z (old y a) (old z b)) (l .1)
+    where
+      old : (y : Element (keys sh wd)) → Mem y S ⊎ Mem (enqueue y) L → Mem y S ⊎ Mem (enqueue y) (scan v ∷ L)
+      old y (inl j) = inl j
+      old y (inr j) = inr (there j)
