@@ -12,3 +12,4 @@ pub mod Agreement
 pub mod Following
 pub mod Sequential
 pub mod Linearized
+pub mod Fates

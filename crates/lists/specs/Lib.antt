@@ -11,3 +11,4 @@ pub mod Reach
 pub mod Ahead
 pub mod Reached
 pub mod Reuse
+pub mod Walks

@@ -8,3 +8,4 @@ pub mod Appending
 pub mod Calls
 pub mod Claimed
 pub mod Example
+pub mod Fate
