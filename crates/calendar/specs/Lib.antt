@@ -25,3 +25,4 @@ pub mod Starred
 pub mod RangesKept
 pub mod LedgerRun
 pub mod Opened
+pub mod Acting

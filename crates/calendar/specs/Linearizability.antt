@@ -97,5 +97,5 @@ pub record Correct (sh : Shape) (m : Memory) (L : Ledger) : Type 0 where
   pub balance : L .stored + workersWith sh (m .table) hasLinked ≡ L .took + workersWith sh (m .table) hasMarked + unmarkedTo sh (m .store) lists (sh .buckets)
 
 -- DEMAND 3: after any opening that is not refused, any history of starts and turns, refused ones included.
-pub Demand3 : Type 0
+unfoldable pub Demand3 : Type 0
 Demand3 = (sh : Shape) (m : Memory) → open-pool sh m .response ≡ Opened → (h : List Action) → Correct sh (run sh (open-pool sh m .memory) h) (ledger sh (open-pool sh m .memory) h new)

@@ -34,7 +34,7 @@ use Rattle.calendar.specs.Accepted.{EnqueueAccepted, DequeueAccepted, StepAccep
 use Rattle.calendar.specs.Changes.{Change, step-is}
 use Rattle.calendar.specs.Inside.{enqueue-inside, dequeue-inside, change-inside}
 use Rattle.calendar.specs.Views.{AllInside}
-use Rattle.calendar.specs.Untouched.{outcome-said}
+use Rattle.calendar.specs.Acting.{by-act}
 use Rattle.calendar.specs.Operations.{Memory, perform, open-pool, actor, refusal, outcome, act, run}
 use Rattle.calendar.specs.Ledger.{Ledger, new, begins, hears, sees, notes, reads, ledger}
 use Rattle.lists.specs.Linking.{Chains}
@@ -58,18 +58,6 @@ pub record Followed (sh : Shape) (wd : 1 ≤ sh .width) (m : Memory) (L : Ledger
   pub reached : Reached sh m chains
   pub ord : Ord sh wd (view sh (m .store)) chains (worker (m .table)) ghost
   pub agrees : Agrees sh wd (view sh (m .store)) (worker (m .table)) ghost L
-
--- an action is refused and changes neither memory nor ledger, or is noted
-pub by-act : (sh : Shape) (P : Memory → Ledger → Type 0) (m : Memory) (L : Ledger) (a : Action) → P m L
-    → (refusal sh m a ≡ 0 → P (perform sh m (actor a) (outcome sh m a) .memory) (notes sh m a (outcome sh m a .response) L)) → P (act sh m a .memory) (reads sh m a L)
-unfolding act
-by-act sh P m L a same h = go (eqb (refusal sh m a) 0) refl
-  where
-    go : (b : Bool) → eqb (refusal sh m a) 0 ≡ b
-        → P (cond b (perform sh m (actor a) (outcome sh m a)) (record { memory = m; response = Refused (refusal sh m a) }) .memory)
-            (cond (eqb (said (cond b (perform sh m (actor a) (outcome sh m a)) (record { memory = m; response = Refused (refusal sh m a) }) .response) .number) 0) (notes sh m a (cond b (perform sh m (actor a) (outcome sh m a)) (record { memory = m; response = Refused (refusal sh m a) }) .response) L) L)
-    go true e = let z = eqb-true (refusal sh m a) 0 e in subst (λ n. P (perform sh m (actor a) (outcome sh m a) .memory) (cond (eqb n 0) (notes sh m a (outcome sh m a .response) L) L)) (sym (outcome-said sh m a z)) (h z)
-    go false e = subst (λ b. P m (cond b (notes sh m a (Refused (refusal sh m a)) L) L)) (sym e) same
 
 module _ (sh : Shape) (wd : 1 ≤ sh .width) where
   -- the joint invariant of what was performed, in the terms of the new memory

@@ -13,3 +13,4 @@ pub mod Following
 pub mod Sequential
 pub mod Linearized
 pub mod Fates
+pub mod Demand3

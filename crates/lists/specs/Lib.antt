@@ -12,3 +12,6 @@ pub mod Ahead
 pub mod Reached
 pub mod Reuse
 pub mod Walks
+pub mod Counting
+pub mod Balance
+pub mod Sum

@@ -33,6 +33,8 @@ use Rattle.calendar.specs.Changes.{step-is}
 use Rattle.calendar.specs.Inside.{change-said}
 use Rattle.calendar.specs.Lists.{holds}
 use Rattle.calendar.specs.Untouched.{open-same-size, outcome-said}
+use Rattle.calendar.specs.Ledger.{new}
+use Rattle.calendar.specs.Acting.{by-act}
 use Rattle.calendar.specs.Operations.{Memory, Result, unless, perform, open-pool, actor, refusal, outcome, act, run}
 use Rattle.lists.specs.Linking.{Chains, Safe}
 use Rattle.lists.specs.Filling.{Free, not-used, not-safe}
@@ -70,17 +72,8 @@ open-reaches sh m e =
     } in
     subst (λ n. Reached sh n (λ b. [])) (sym q) (reached-open sh m A B)
 
--- a property that refused actions keep and accepted ones bring
-pub by-refusal : (sh : Shape) (P : Memory → Type 0) (m : Memory) (a : Action) → P m → (refusal sh m a ≡ 0 → P (perform sh m (actor a) (outcome sh m a) .memory)) → P (act sh m a .memory)
-unfolding act
-by-refusal sh P m a same h = go (eqb (refusal sh m a) 0) refl
-  where
-    go : (b : Bool) → eqb (refusal sh m a) 0 ≡ b → P (cond b (perform sh m (actor a) (outcome sh m a)) (record { memory = m; response = Refused (refusal sh m a) }) .memory)
-    go true e = h (eqb-true (refusal sh m a) 0 e)
-    go false e = same
-
 act-reaches : (sh : Shape) (m : Memory) (a : Action) → SomeReached sh m → SomeReached sh (act sh m a .memory)
-act-reaches sh m a (ch, K) = by-refusal sh (SomeReached sh) m a (ch, K) (accepted a)
+act-reaches sh m a (ch, K) = by-act sh (λ n L. SomeReached sh n) m new a (ch, K) (accepted a)
   where
     accepted : (a : Action) → refusal sh m a ≡ 0 → SomeReached sh (perform sh m (actor a) (outcome sh m a) .memory)
     accepted (Enqueue i x) e = (ch, reached-enqueue sh m ch i x K (enqueue-accepted sh (m .store) (m .table) i x e))

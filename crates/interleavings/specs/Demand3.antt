@@ -1,0 +1,41 @@
+-- DEMAND 3, whole: every history from an opening. Assumes nothing.
+use mathlib.Core.Path.{_≡_}
+use mathlib.Core.List.{List}
+use Prim.Native.Nat.{ℕ, _≤_}
+use Rattle.arrival.specs.declared.Shape.{Shape}
+use Rattle.arrival.specs.declared.Action.{Action}
+use Rattle.arrival.specs.declared.Response.the-variants.{Opened}
+use Rattle.calendar.specs.Ranges.{worker}
+use Rattle.calendar.specs.Accepted.{open-accepted}
+use Rattle.calendar.specs.Operations.{Memory, open-pool, run}
+use Rattle.calendar.specs.Ledger.{new, ledger}
+use Rattle.calendar.specs.Linearizability.{Correct, Demand3}
+use Rattle.lists.specs.Table.{Live}
+use Rattle.lists.specs.Reuse.{opened, reached-in-range, reached-not-held}
+use Rattle.lists.specs.Walks.{walk-meets}
+use Rattle.lists.specs.Sum.{sum-balances}
+use Rattle.interleavings.specs.Following.{followed}
+use Rattle.interleavings.specs.Linearized.{linearized}
+use Rattle.interleavings.specs.Fates.{marks-new, marked-once, marked-put, marked-kept, not-lost}
+
+pub demand-3 : Demand3
+unfolding Demand3
+demand-3 sh m e h =
+    let wd : 1 ≤ sh .width = open-accepted sh (m .store) (m .table) (opened sh m e .0) .limits .some-width in
+    let n = run sh (open-pool sh m .memory) h in
+    let L = ledger sh (open-pool sh m .memory) h new in
+    let F = followed sh wd m e h in
+    let listed = walk-meets sh (n .store) (F .chains) (Live (sh .workers) (worker (n .table))) (F .reached .inv .lists) in
+    record {
+      linearization = linearized sh wd n L F;
+      in-range = reached-in-range sh n (F .chains) (F .reached);
+      lists = F .chains;
+      listed = listed;
+      not-held = reached-not-held sh n (F .chains) (F .reached);
+      marks-new = marks-new sh wd n L F;
+      marked-once = marked-once sh wd n L F;
+      marked-put = marked-put sh wd n L F;
+      marked-kept = marked-kept sh wd n L F;
+      not-lost = not-lost sh wd n L F;
+      balance = sum-balances sh m e h (F .chains) listed;
+    }
