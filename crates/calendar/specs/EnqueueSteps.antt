@@ -10,9 +10,13 @@ use Rattle.calendar.specs.Layout.{Write, _≔_, word, cell, field, curre
 use Rattle.calendar.specs.Outcome.{Outcome, on, answer, withCurrent}
 use Rattle.calendar.specs.SearchSteps.{leftHolds}
 
--- current's epoch goes into own node, whose link becomes unmarked right
+-- the epoch that goes into own node: current's
+abbrev pub ownEpoch : Shape → List ℕ → ℕ
+ownEpoch sh s = epochIn (current sh s)
+
+-- own node gets it, and its link becomes unmarked right
 abbrev pub prepare : Shape → List ℕ → Worker → List Write
-prepare sh s w = (field 6 (w .own) ≔ epochIn (current sh s)) ∷ (cell (linkCell sh (w .own)) ≔ unmarked (w .right)) ∷ []
+prepare sh s w = (field 6 (w .own) ≔ ownEpoch sh s) ∷ (cell (linkCell sh (w .own)) ≔ unmarked (w .right)) ∷ []
 
 -- 4: read current, and prepare own node.
 unfoldable pub step-4 : Shape → List ℕ → Worker → Outcome
@@ -40,9 +44,12 @@ step-6 sh s w =
 abbrev pub currentHolds : Shape → List ℕ → Worker → Bool
 currentHolds sh s w = eqb (current sh s) (w .current)
 
--- current becomes the arrival's bucket with epoch e + 1
+-- the arrival's bucket with epoch e + 1
+abbrev pub renewed : Worker → ℕ
+renewed w = currentWord (w .bucket) (epochIn (w .current) + 1)
+
 abbrev pub renewCurrent : Worker → List Write
-renewCurrent w = (word 0 ≔ currentWord (w .bucket) (epochIn (w .current) + 1)) ∷ []
+renewCurrent w = (word 0 ≔ renewed w) ∷ []
 
 -- 7: swap current; success answers stored, failure returns to 6.
 unfoldable pub step-7 : Shape → List ℕ → Worker → Outcome

@@ -19,8 +19,8 @@ use Rattle.calendar.specs.Ranges.{worker}
 use Rattle.calendar.specs.RangeFacts.{NodeWords, NodeRanges, HeadRanges, StoreRanges, RecordRanges}
 use Rattle.calendar.specs.Outcome.{Outcome, withStage, withSeen, withRight, withLeft, withOwn, withBucket, withCurrent}
 use Rattle.calendar.specs.Starts.{enqueueStart, dequeueStart}
-use Rattle.calendar.specs.SearchSteps.{leftHolds, unlink}
-use Rattle.calendar.specs.EnqueueSteps.{currentHolds}
+use Rattle.calendar.specs.SearchSteps.{leftHolds, retirement, unlink}
+use Rattle.calendar.specs.EnqueueSteps.{ownEpoch, currentHolds, renewed}
 use Rattle.calendar.specs.DequeueSteps.{nextCurrent}
 use Rattle.calendar.specs.Reclaim.{firstFree}
 use Rattle.calendar.specs.FirstFree.{first-free-node}
@@ -288,7 +288,7 @@ module _ (sh : Shape) (s : List ℕ) where
 
     store-kept : {o : Outcome} → leaks sh s (worker t i) ≡ false → Change sh s (worker t i) o → StoreRanges sh (updates (o .writes) (view sh s))
     store-kept {o} tight (unlinked q h set) = subst (λ ws. StoreRanges sh (updates ws m)) (sym (settled-writes sh s set))
-        (set-standing sh (update (cell (w .left)) (2 * (w .seen / 2)) m) (set-cell sh m I (w .left) (2 * (w .seen / 2)) (λ l. omega arith) (omega (arith, F .seen))) (w .right) (2 + started sh s) (omega (arith, I .started)) far)
+        (set-standing sh (update (cell (w .left)) (2 * (w .seen / 2)) m) (set-cell sh m I (w .left) (2 * (w .seen / 2)) (λ l. omega arith) (omega (arith, F .seen))) (w .right) (retirement sh s) (omega (arith, I .started)) far)
       where
         far : 1 ≤ view sh s .distance (worker t i .right)
         far = go (eqb (view sh s .distance (w .right)) 0) refl
@@ -301,12 +301,12 @@ module _ (sh : Shape) (s : List ℕ) where
     store-kept tight (passed q h lt set) = none (settled-writes sh s set)
     store-kept tight (stopped q h lt f) = none (found-writes sh s f)
     store-kept tight (again-3 q h) = I
-    store-kept tight (prepared q) = set-cell sh (update (field 6 (w .own)) (current sh s % 4294967296) m) (set-epoch sh m I (w .own) (current sh s % 4294967296) (omega arith)) (sh .buckets + w .own) (2 * w .right) (λ l. omega arith) (omega (arith, F .right))
+    store-kept tight (prepared q) = set-cell sh (update (field 6 (w .own)) (ownEpoch sh s) m) (set-epoch sh m I (w .own) (ownEpoch sh s) (omega arith)) (sh .buckets + w .own) (2 * w .right) (λ l. omega arith) (omega (arith, F .right))
     store-kept tight (linked q h) = set-cell sh m I (w .left) (2 * w .own) (λ l. omega arith) (omega (arith, F .own))
     store-kept tight (again-5 q h) = I
     store-kept tight (stored-6 q h) = I
     store-kept tight (on-7 q h) = I
-    store-kept tight (stored-7 q h) = set-current sh m I (w .bucket * 4294967296 + (w .current % 4294967296 + 1)) (omega (arith, F .bucket, epoch-fits q h))
+    store-kept tight (stored-7 q h) = set-current sh m I (renewed w) (omega (arith, F .bucket, epoch-fits q h))
     store-kept tight (back-6 q h) = I
     store-kept tight (current-read q) = I
     store-kept tight (first-read q wk) = none (walked-writes sh s wk)

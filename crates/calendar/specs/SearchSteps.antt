@@ -46,9 +46,13 @@ step-2 sh s w =
 abbrev pub leftHolds : Shape → List ℕ → Worker → Bool
 leftHolds sh s w = eqb (read sh s (cell (w .left))) (unmarked (w .right))
 
--- left's successor becomes the one in the link word seen, unmarked; right's standing becomes 2 + word 1
+-- the standing of a node that is unlinked: 2 + word 1
+abbrev pub retirement : Shape → List ℕ → ℕ
+retirement sh s = unlinkedAt (started sh s)
+
+-- left's successor becomes the one in the link word seen, unmarked, and right gets that standing
 abbrev pub unlink : Shape → List ℕ → Worker → List Write
-unlink sh s w = (cell (w .left) ≔ unmarked (successor (w .seen))) ∷ (field 7 (w .right) ≔ unlinkedAt (started sh s)) ∷ []
+unlink sh s w = (cell (w .left) ≔ unmarked (successor (w .seen))) ∷ (field 7 (w .right) ≔ retirement sh s) ∷ []
 
 -- 3: swap the left word; on success right is the successor in the link word seen, back to 2; on failure 1.
 unfoldable pub step-3 : Shape → List ℕ → Worker → Outcome

@@ -18,7 +18,7 @@ use Rattle.calendar.specs.Layout.{Write, _≔_, word, cell, field, head, link, 
 use Rattle.calendar.specs.Views.{View, view, update, updates, itemIn, upd-same}
 use Rattle.calendar.specs.Outcome.{Outcome, withStage, withOwn, withBucket, withRight, withSeen, withCurrent}
 use Rattle.calendar.specs.SearchSteps.{leftHolds, unlink}
-use Rattle.calendar.specs.EnqueueSteps.{prepare, linkOwn, currentHolds, renewCurrent}
+use Rattle.calendar.specs.EnqueueSteps.{ownEpoch, prepare, linkOwn, currentHolds, renewed, renewCurrent}
 use Rattle.calendar.specs.DequeueSteps.{nodeIsMarked, linkHolds, markNode, nextCurrent, thisCurrent}
 use Rattle.calendar.specs.Refusals.{noEpoch}
 use Rattle.calendar.specs.Inside.{found-writes, settled-writes, walked-writes}
@@ -290,8 +290,8 @@ module _ (sh : Shape) (wd : 1 ≤ sh .width) (s : List ℕ) (T : ℕ → Worker)
     share-4 a =
         let p : Private sh m₀ ch ((T i) .ticket) ((T i) .own) = knows .search (omega arith) (omega arith) .enqueueOwn (put (omega arith) (omega arith)) (omega arith) in
         let m′ : View = updates (prepare sh s (T i)) m₀ in
-        (_, quiet sh wd m′ ch T g (own-written sh wd m₀ ch T g P O i l a p (2 * (T i) .right) (current sh s % 4294967296)) i (withStage 5 (withCurrent (current sh s) (T i))) (λ z c h. absurd (omega (arith, h .hi))) (λ j. absurd (omega (arith, O .whole .scans i j .1)))
-        (unlinked-part m′ a (λ c t e h. rw (upd-same ((T i) .own) ((T i) .own) (current sh s % 4294967296) (m₀ .epoch ((T i) .own)) refl) (O .whole .lates c t e)) (current sh s)), (refl, refl, refl), refl)
+        (_, quiet sh wd m′ ch T g (own-written sh wd m₀ ch T g P O i l a p (2 * (T i) .right) (ownEpoch sh s)) i (withStage 5 (withCurrent (current sh s) (T i))) (λ z c h. absurd (omega (arith, h .hi))) (λ j. absurd (omega (arith, O .whole .scans i j .1)))
+        (unlinked-part m′ a (λ c t e h. rw (upd-same ((T i) .own) ((T i) .own) (ownEpoch sh s) (m₀ .epoch ((T i) .own)) refl) (O .whole .lates c t e)) (current sh s)), (refl, refl, refl), refl)
 
     share-5 : (a : (T i) .stage ≡ 5) (t : leftHolds sh s (T i) ≡ true) → Share (updates (linkOwn (T i)) (view sh s)) (chains-5 sh s T i l busy ch P a t) (record { writes = linkOwn (T i); worker = withStage 6 (T i); response = On })
     share-5 a t =
@@ -345,7 +345,7 @@ module _ (sh : Shape) (wd : 1 ≤ sh .width) (s : List ℕ) (T : ℕ → Worker)
 
     share-7 : (T i) .stage ≡ 7 → current sh s ≡ (T i) .current → (T i) .current % 4294967296 ≢ 4294967295 → Share (updates (renewCurrent (T i)) (view sh s)) ch (record { writes = renewCurrent (T i); worker = withStage 0 (T i); response = Stored ((T i) .ticket) })
     share-7 a same top =
-        let x : ℕ = (T i) .bucket * 4294967296 + ((T i) .current % 4294967296 + 1) in
+        let x : ℕ = renewed (T i) in
         let m′ : View = updates (renewCurrent (T i)) m₀ in
         let d : x / 4294967296 ≡ (T i) .bucket = omega arith in
         let r : x % 4294967296 ≡ (T i) .current % 4294967296 + 1 = omega arith in

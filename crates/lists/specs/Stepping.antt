@@ -12,7 +12,7 @@ use Rattle.arrival.specs.Keys.{lower-total}
 use Rattle.calendar.specs.Layout.{Write, cell, field, word, read, linkCell, link, current, itemAt}
 use Rattle.calendar.specs.Outcome.{Outcome, withStage, withOwn, withBucket, withLeft, withRight, withSeen, withCurrent}
 use Rattle.calendar.specs.SearchSteps.{rightIsMarked, leftHolds, unlink}
-use Rattle.calendar.specs.EnqueueSteps.{prepare, linkOwn, renewCurrent}
+use Rattle.calendar.specs.EnqueueSteps.{ownEpoch, prepare, linkOwn, renewCurrent}
 use Rattle.calendar.specs.DequeueSteps.{linkHolds, markNode, nodeIsMarked, nodeIsNewer, nextCurrent}
 use Rattle.calendar.specs.Inside.{found-writes, settled-writes, walked-writes}
 use Rattle.calendar.specs.Changes.{Found, put-found, take-ends, Settled, at-end, goes-on, Walked, out, out-last, meets, Change, head-read, mark-seen, passed, stopped, unlinked, again-3, prepared, linked, again-5, stored-6, on-7, stored-7, back-6, current-read, first-read, mark-passed, newer, on-11, marked, back-10, advanced, back-12, emptied, back-13}
@@ -212,12 +212,12 @@ module _ (sh : Shape) (s : List ℕ) (T : ℕ → Worker) (i : ℕ) (l : i < sh 
         let z : w .kind ≡ 0 = enqueues (omega arith) (omega arith) in
         let S = k .search (omega arith) (omega arith) in
         let p = S .enqueueOwn z (omega arith) in
-        let m₁ : View = update (field 6 (w .own)) (current sh s % 4294967296) m in
+        let m₁ : View = update (field 6 (w .own)) (ownEpoch sh s) m in
         let m′ : View = updates (prepare sh s w) m in
         own m′ ch
         (rest-stable sh m ch m′ ch T i l busy R (λ n. refl) refl
         (private-keeps sh m₁ ch (Live (sh .workers) T) (w .own) (2 * w .right) (R .lists) (p .used) (p .out))
-        (λ c v n. private-stable sh m ch c (w .ticket) (w .own) (current sh s % 4294967296) (2 * w .right) n p))
+        (λ c v n. private-stable sh m ch c (w .ticket) (w .own) (ownEpoch sh s) (2 * w .right) n p))
         (withStage 5 (withCurrent (current sh s) w)) refl
         (at-stage sh m′ ch (withCurrent (current sh s) w) 5 (omega arith) (omega arith) (λ q. absurd (omega arith))
         (record { range = S .range; kinds = inl z; enqueueOwn = λ q. p; dequeueOwn = λ q. absurd (omega arith); ownHome = S .ownHome (omega arith) })
