@@ -14,3 +14,4 @@ pub mod Sequential
 pub mod Linearized
 pub mod Fates
 pub mod Demand3
+pub mod Worked
