@@ -20,6 +20,6 @@ by-act sh P m L a same h = go (eqb (refusal sh m a) 0) refl
   where
     go : (b : Bool) → eqb (refusal sh m a) 0 ≡ b
         → P (cond b (perform sh m (actor a) (outcome sh m a)) (record { memory = m; response = Refused (refusal sh m a) }) .memory)
-            (cond (eqb (said (cond b (perform sh m (actor a) (outcome sh m a)) (record { memory = m; response = Refused (refusal sh m a) }) .response) .number) 0) (notes sh m a (cond b (perform sh m (actor a) (outcome sh m a)) (record { memory = m; response = Refused (refusal sh m a) }) .response) L) L)
+        (cond (eqb (said (cond b (perform sh m (actor a) (outcome sh m a)) (record { memory = m; response = Refused (refusal sh m a) }) .response) .number) 0) (notes sh m a (cond b (perform sh m (actor a) (outcome sh m a)) (record { memory = m; response = Refused (refusal sh m a) }) .response) L) L)
     go true e = let z = eqb-true (refusal sh m a) 0 e in subst (λ n. P (perform sh m (actor a) (outcome sh m a) .memory) (cond (eqb n 0) (notes sh m a (outcome sh m a .response) L) L)) (sym (outcome-said sh m a z)) (h z)
     go false e = subst (λ b. P m (cond b (notes sh m a (Refused (refusal sh m a)) L) L)) (sym e) same

@@ -3,11 +3,11 @@ use mathlib.Core.Path.{_≡_, refl, sym, ap, _∙_, subst, subst⁻¹}
 use mathlib.Core.Bool.{Bool, true, false, cond, _&&_}
 use mathlib.Core.Logic.{_≢_, _⊎_, inl, inr}
 use mathlib.Core.Option.{Option, none, some}
-use mathlib.Core.List.{List, [], _∷_}
-use Prim.Native.Nat.{ℕ, zero, suc, _+_, _≤_, _<_}
+use mathlib.Core.List.{List}
+use Prim.Native.Nat.{ℕ, _+_, _≤_, _<_}
 use native.Mathlib.Omega.{arith}
 use lib.Dec.{eqb}
-use borrow.Author.Tests.{eqb-true, eqb-false, eq-eqb, ne-eqb}
+use borrow.Author.Tests.{eqb-true, eqb-false, eq-eqb}
 use Rattle.arrival.specs.declared.Shape.{Shape}
 use Rattle.arrival.specs.declared.Item.{Item}
 use Rattle.arrival.specs.declared.Worker.{Worker}
@@ -20,9 +20,9 @@ use Rattle.calendar.specs.Ranges.{worker}
 use Rattle.calendar.specs.Outcome.{Outcome}
 use Rattle.calendar.specs.Operations.{Memory}
 use Rattle.calendar.specs.DequeueSteps.{linkHolds}
-use Rattle.calendar.specs.Ledger.{Ledger, begins, ends, marks, hears, succeeds-11, sees}
+use Rattle.calendar.specs.Ledger.{Ledger, begins, ends, marks, hears, sees}
 use Rattle.lists.specs.Table.{with-record}
-use Rattle.order.specs.Entries.{Keys, Element, Entry, enqueue, dequeue, empty, scan, ticket}
+use Rattle.order.specs.Entries.{Entry, enqueue, dequeue, empty, scan, ticket}
 use Rattle.order.specs.Time.{End, running, ended}
 use Rattle.interleavings.specs.Keys.{keys}
 use Rattle.interleavings.specs.Joint.{Ghost}

@@ -1,35 +1,32 @@
 -- Step 11's success: the node is marked, and its dequeue goes into the order. Assumes nothing.
 use mathlib.Core.Path.{_≡_, refl, sym, ap, _∙_, subst}
-use mathlib.Core.Bool.{Bool, true, false, cond}
+use mathlib.Core.Bool.{Bool, true, false}
 use mathlib.Core.Logic.{_≢_, _⊎_, inl, inr}
-use mathlib.Core.Option.{Option, none, some}
-use mathlib.Core.List.{List, [], _∷_, _++_, Memᴰ·cast, List·Memᴰ as Mem, List·Memᴰ·head as here, List·Memᴰ·tail as there}
-use Prim.Native.Nat.{ℕ, zero, suc, _+_, _*_, _/_, _%_, _≤_, _<_}
+use mathlib.Core.Option.{none, some}
+use mathlib.Core.List.{[], List·Memᴰ as Mem}
+use Prim.Native.Nat.{ℕ, _+_, _*_, _/_, _%_, _≤_, _<_}
 use native.Mathlib.Omega.{arith}
 use native.Mathlib.Decide.{ℕ-discrete}
-use lib.Dec.{eqb}
 use Rattle.arrival.specs.declared.Shape.{Shape}
 use Rattle.arrival.specs.declared.Worker.{Worker}
-use Rattle.calendar.specs.Layout.{Place, word, cell, field}
+use Rattle.calendar.specs.Layout.{cell}
 use Rattle.arrival.specs.declared.Item.{Item}
-use Rattle.arrival.specs.Keys.{lower, itemBucket}
+use Rattle.arrival.specs.Keys.{lower, itemBucket, lower-trans, lower-irr, lower-total}
 use Rattle.calendar.specs.Outcome.{withStage, withOwn}
-use Rattle.arrival.specs.Keys.{lower-trans, lower-irr, lower-total}
 use Rattle.calendar.specs.Views.{View, update, itemIn, Lt, upd-same, upd-other}
 use Rattle.lists.specs.Chain.{In}
-use Rattle.calendar.specs.Views.{upd-cases}
 use Rattle.lists.specs.Linking.{Chains, home, Safe}
 use Rattle.lists.specs.Marking.{marked-half}
 use Rattle.lists.specs.Table.{Knows, Live, Inv, with-record}
-use Rattle.lists.specs.Reach.{Reach, reach-half}
+use Rattle.lists.specs.Reach.{reach-half}
 use Rattle.lists.specs.Ahead.{ahead-above}
-use Rattle.order.specs.Entries.{Keys, Element, Entry, enqueue, dequeue, empty, scan, Q, Order, _≺_, ticket, bucket, irrefl, trans, without, mem-without, without-mem, run}
-use Rattle.order.specs.Time.{End, running, ended, Hist, ticket-of}
+use Rattle.order.specs.Entries.{Keys, Element, Entry, enqueue, dequeue, empty, scan, Order, _≺_, ticket, bucket, mem-without, without-mem, run}
+use Rattle.order.specs.Time.{End, running, ended, ticket-of}
 use Rattle.order.specs.Orders.{Inv as Orderly, Taking}
-use Rattle.order.specs.Calls.{Call, Distinct}
+use Rattle.order.specs.Calls.{Call}
 use Rattle.order.specs.Claimed.{Found, found, taken-gone, taken-enqueued}
-use Rattle.interleavings.specs.Keys.{keys, arr, Holds, Meets, Ahead, walk}
-use Rattle.interleavings.specs.Joint.{Holder, held-close, Ghost, Absent, Logged, Marked, Clean, Part, walks, Whole, Ord, Leaves, part-left, orderly-shift, parts-close, scans-close}
+use Rattle.interleavings.specs.Keys.{keys, arr, Holds, Meets, Ahead}
+use Rattle.interleavings.specs.Joint.{Holder, held-close, Ghost, Absent, Logged, Marked, Clean, Part, walks, Whole, Ord, part-left, orderly-shift, parts-close, scans-close}
 use Rattle.interleavings.specs.Nodes.{reach-trans, reach-above, one-node, none-some}
 
 module _ (sh : Shape) (wd : 0 < sh .width) (m : View) (ch : Chains) (T : ℕ → Worker) (g : Ghost (keys sh wd)) (P : Inv sh m ch T) (O : Ord sh wd m ch T g)
@@ -140,8 +137,12 @@ module _ (sh : Shape) (wd : 0 < sh .width) (m : View) (ch : Chains) (T : ℕ →
           meet : (k : ℕ) → Holds sh wd m ch ((T v) .bucket) q k → Meets sh wd m (T v) n → Meets sh wd m (T v) k
           meet k y (inl z) = inl z
           meet k y (inr (a, b, rr)) =
-              inr (a, b, reach-trans sh (m .cells) (ahead-above sh m ch (Live (sh .workers) T) (P .lists) ((T v) .bucket) n k (P .lists .member ((T v) .bucket) n (h .inside) .inRange) (h .inside) (y .inside)
-              (rw (h .key, y .key) lt)) rr)
+              inr (
+                a,
+                b,
+                reach-trans sh (m .cells) (ahead-above sh m ch (Live (sh .workers) T) (P .lists) ((T v) .bucket) n k (P .lists .member ((T v) .bucket) n (h .inside) .inRange) (h .inside) (y .inside)
+                    (rw (h .key, y .key) lt)) rr,
+              )
 
   -- no entry dequeues x
   untaken : (d : ℕ) → ¬ Mem (dequeue x d) (g .order)
@@ -259,7 +260,6 @@ module _ (sh : Shape) (wd : 0 < sh .width) (m : View) (ch : Chains) (T : ℕ →
       finished = λ c s e. let (y, k, z) = O .whole .finished c s e in (F .kept (g .said c) k y, k, z);
       held = λ z c j e. held z c e (F .new (dequeue z c) tt j);
     }
-
       where
         proper : (e : Entry K) → Call e → Mem e (g .order) ⊎ (e ≡ dequeue x ((T i) .ticket)) ⊎ (e ≡ enqueue x) → 1 ≤ ticket-of e
         proper e c (inl j) = O .whole .proper e j c

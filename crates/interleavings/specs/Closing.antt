@@ -1,34 +1,27 @@
 -- Changes of the order that leave the store: scans set and removed, calls that end. Assumes nothing.
 use mathlib.Core.Path.{_≡_, refl, sym, ap, _∙_, subst}
-use mathlib.Core.Bool.{Bool, true, false, cond}
+use mathlib.Core.Bool.{cond}
 use mathlib.Core.Logic.{_≢_, _⊎_, inl, inr}
-use mathlib.Core.Option.{Option, none, some}
-use mathlib.Core.List.{List, [], _∷_, _++_, append-nil, List·Memᴰ as Mem, List·Memᴰ·head as here, List·Memᴰ·tail as there, List·Memᴰ·append-cases as mem-append, Memᴰ·append-left as mem-left, Memᴰ·append-right as mem-right}
-use Prim.Native.Nat.{ℕ, zero, suc, _+_, _*_, _/_, _%_, _≤_, _<_}
+use mathlib.Core.List.{[], _∷_, _++_, append-nil, List·Memᴰ as Mem, List·Memᴰ·head as here, List·Memᴰ·append-cases as mem-append, Memᴰ·append-left as mem-left}
+use Prim.Native.Nat.{ℕ, _/_, _%_, _≤_, _<_}
 use native.Mathlib.Omega.{arith}
 use native.Mathlib.Decide.{ℕ-discrete}
 use lib.Dec.{eqb}
 use Rattle.arrival.specs.declared.Shape.{Shape}
 use Rattle.arrival.specs.declared.Worker.{Worker}
-use Rattle.calendar.specs.Layout.{Place, word, cell, field}
-use Rattle.arrival.specs.declared.Item.{Item}
-use Rattle.arrival.specs.Keys.{lower, itemBucket}
-use Rattle.calendar.specs.Outcome.{withStage, withOwn}
-use Rattle.calendar.specs.Views.{View, update, itemIn, Lt, upd-same, upd-other}
+use Rattle.calendar.specs.Views.{View, upd-same, upd-other, upd-cases}
 use Rattle.lists.specs.Chain.{In}
-use Rattle.calendar.specs.Views.{upd-cases}
 use Rattle.lists.specs.Linking.{Chains, home}
-use Rattle.lists.specs.Table.{Knows, Live, Rest, Inv, with-record}
-use Rattle.order.specs.Entries.{Keys, Element, Entry, enqueue, dequeue, empty, scan, Q, Order, ticket, bucket, run, run-append}
-use Rattle.order.specs.Time.{End, running, ended, Hist, ticket-of, pairs-snoc}
+use Rattle.lists.specs.Table.{Rest, with-record}
+use Rattle.order.specs.Entries.{Keys, Element, Entry, enqueue, dequeue, empty, scan, Order, ticket, bucket, run}
+use Rattle.order.specs.Time.{running, ended, Hist, ticket-of}
 use Rattle.order.specs.Scans.{Alike, nil, right, alike-append, alike-refl, alike-sym, alike-run, alike-mem, alike-unscan, unscan, running-ended}
 use Rattle.order.specs.Orders.{Inv as Orderly, inv-unscan}
-use Rattle.order.specs.Appending.{Ends, Past, inv-end, inv-enqueue, inv-empty, inv-scan, unscan-mem, walked-out}
-use Rattle.order.specs.Calls.{Call, Apart, Distinct, scans, scans-append, scans-unscan}
+use Rattle.order.specs.Appending.{Ends, inv-scan, unscan-mem}
+use Rattle.order.specs.Calls.{Call, Distinct, scans, scans-unscan}
 use Rattle.order.specs.Claimed.{alike-distinct, alike-call, scans-in, scans-out}
-use Rattle.interleavings.specs.Keys.{keys, arr, Holds, Meets, Ahead, walk}
-use Rattle.interleavings.specs.Joint.{Holder, held-close, Ghost, Absent, Logged, Rises, Marked, Clean, Part, walks, Whole, Ord, Leaves, part-left, orderly-shift, parts-close, scans-close}
-use Rattle.interleavings.specs.Nodes.{one-node, none-some}
+use Rattle.interleavings.specs.Keys.{keys, arr, Holds, Ahead, walk}
+use Rattle.interleavings.specs.Joint.{Holder, held-close, Ghost, Absent, Logged, Clean, Part, walks, Ord, part-left, orderly-shift, parts-close, scans-close}
 
 -- the tickets of the calls in progress and of the nodes
 abbrev pub Tickets : Shape → View → Chains → (ℕ → Worker) → Type 0

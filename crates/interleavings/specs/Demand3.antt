@@ -1,15 +1,10 @@
 -- DEMAND 3, whole: every history from an opening. Assumes nothing.
-use mathlib.Core.Path.{_≡_}
-use mathlib.Core.List.{List}
-use Prim.Native.Nat.{ℕ, _≤_}
-use Rattle.arrival.specs.declared.Shape.{Shape}
-use Rattle.arrival.specs.declared.Action.{Action}
-use Rattle.arrival.specs.declared.Response.the-variants.{Opened}
+use Prim.Native.Nat.{_≤_}
 use Rattle.calendar.specs.Ranges.{worker}
 use Rattle.calendar.specs.Accepted.{open-accepted}
-use Rattle.calendar.specs.Operations.{Memory, open-pool, run}
+use Rattle.calendar.specs.Operations.{open-pool, run}
 use Rattle.calendar.specs.Ledger.{new, ledger}
-use Rattle.calendar.specs.Linearizability.{Correct, Demand3}
+use Rattle.calendar.specs.Linearizability.{Demand3}
 use Rattle.lists.specs.Table.{Live}
 use Rattle.lists.specs.Reuse.{opened, reached-in-range, reached-not-held}
 use Rattle.lists.specs.Walks.{walk-meets}

@@ -1,21 +1,19 @@
 -- What a turn does to what an onlooker sees: items and tickets stay, a call goes on or ends, a take comes to hold an item only
 -- at 11. One match over the changes. Assumes nothing.
-use mathlib.Core.Path.{_≡_, refl, sym, ap, _∙_, subst}
-use mathlib.Core.Bool.{Bool, true, false, cond}
+use mathlib.Core.Path.{_≡_, refl, sym, _∙_, subst}
+use mathlib.Core.Bool.{true, false}
 use mathlib.Core.Logic.{_≢_, _⊎_, inl, inr}
-use mathlib.Core.List.{List, [], _∷_}
-use Prim.Native.Nat.{ℕ, zero, suc, _+_, _≤_, _<_}
+use mathlib.Core.List.{List, []}
+use Prim.Native.Nat.{ℕ, _≤_}
 use native.Mathlib.Omega.{arith}
 use Rattle.arrival.specs.declared.Shape.{Shape}
 use Rattle.arrival.specs.declared.Worker.{Worker}
 use Rattle.arrival.specs.declared.Response.{Response}
 use Rattle.arrival.specs.declared.Response.the-variants.{Opened, Begun, On, Stored, Took, Empty, Refused}
 use Rattle.calendar.specs.Layout.{Write}
-use Rattle.calendar.specs.Views.{View, view, updates, itemIn}
+use Rattle.calendar.specs.Views.{view, updates, itemIn}
 use Rattle.calendar.specs.Outcome.{Outcome}
 use Rattle.calendar.specs.DequeueSteps.{linkHolds}
-use Rattle.calendar.specs.SearchSteps.{unlink}
-use Rattle.calendar.specs.Inside.{found-writes, settled-writes, walked-writes}
 use Rattle.calendar.specs.Changes.{Found, put-found, take-ends, Settled, at-end, goes-on, Walked, out, out-last, meets, Change, head-read, mark-seen, passed, stopped, unlinked, again-3, prepared, linked, again-5, stored-6, on-7, stored-7, back-6, current-read, first-read, mark-passed, newer, on-11, marked, back-10, advanced, back-12, emptied, back-13}
 
 -- the record keeps kind and own node, and comes neither into the search of a take nor into a walk from outside

@@ -1,36 +1,30 @@
--- The calls that end: a take's search, a enqueue stored, an empty dequeue. And a update of current. Assumes nothing.
+-- The calls that end: a take's search, an enqueue stored, an empty dequeue. And an update of current. Assumes nothing.
 use mathlib.Core.Path.{_≡_, refl, sym, ap, _∙_, subst}
-use mathlib.Core.Bool.{Bool, true, false, cond}
 use mathlib.Core.Logic.{_≢_, _⊎_, inl, inr}
-use mathlib.Core.Option.{Option, none, some}
-use mathlib.Core.List.{List, [], _∷_, _++_, append-nil, List·Memᴰ as Mem, List·Memᴰ·head as here, List·Memᴰ·tail as there, List·Memᴰ·append-cases as mem-append, Memᴰ·append-left as mem-left, Memᴰ·append-right as mem-right}
-use Prim.Native.Nat.{ℕ, zero, suc, _+_, _*_, _/_, _%_, _≤_, _<_}
+use mathlib.Core.Option.{none, some}
+use mathlib.Core.List.{[], _∷_, _++_, List·Memᴰ as Mem, List·Memᴰ·head as here, List·Memᴰ·tail as there, List·Memᴰ·append-cases as mem-append, Memᴰ·append-left as mem-left, Memᴰ·append-right as mem-right}
+use Prim.Native.Nat.{ℕ, _+_, _/_, _%_, _≤_, _<_}
 use native.Mathlib.Omega.{arith}
-use native.Mathlib.Decide.{ℕ-discrete}
-use lib.Dec.{eqb}
 use Rattle.arrival.specs.declared.Shape.{Shape}
 use Rattle.arrival.specs.declared.Worker.{Worker}
-use Rattle.calendar.specs.Layout.{Place, word, cell, field}
+use Rattle.calendar.specs.Layout.{word}
 use Rattle.arrival.specs.declared.Item.{Item}
-use Rattle.arrival.specs.Keys.{lower, itemBucket}
-use Rattle.calendar.specs.Outcome.{withStage, withOwn}
-use Rattle.calendar.specs.Views.{View, update, itemIn, Lt, upd-same, upd-other}
+use Rattle.arrival.specs.Keys.{itemBucket}
+use Rattle.calendar.specs.Views.{View, update, itemIn, upd-same, upd-cases}
 use Rattle.lists.specs.Chain.{In}
-use Rattle.calendar.specs.Views.{upd-cases}
 use Rattle.lists.specs.Linking.{Chains, home, Safe}
-use Rattle.lists.specs.Table.{Knows, Live, Rest, Inv, with-record}
-use Rattle.order.specs.Entries.{Keys, Element, Entry, enqueue, dequeue, empty, scan, Q, Order, ticket, bucket, run, run-append}
-use Rattle.order.specs.Time.{End, running, ended, Hist, ticket-of, pairs-snoc}
-use Rattle.order.specs.Scans.{Alike, nil, right, alike-append, alike-refl, alike-sym, alike-run, alike-mem, alike-unscan, unscan, running-ended}
+use Rattle.lists.specs.Table.{Inv, with-record}
+use Rattle.order.specs.Entries.{Keys, Element, Entry, enqueue, dequeue, empty, scan, Order, ticket, bucket, run, run-append}
+use Rattle.order.specs.Time.{ended, Hist, ticket-of, pairs-snoc}
+use Rattle.order.specs.Scans.{Alike, alike-sym, alike-run, alike-mem, alike-unscan, unscan}
 use Rattle.order.specs.Orders.{Inv as Orderly, inv-unscan}
-use Rattle.order.specs.Appending.{Ends, Past, inv-end, inv-enqueue, inv-empty, inv-scan, unscan-mem, walked-out}
-use Rattle.order.specs.Calls.{Call, Apart, Distinct, scans, scans-append, scans-unscan}
+use Rattle.order.specs.Appending.{Ends, Past, inv-end, inv-enqueue, inv-empty, unscan-mem, walked-out}
+use Rattle.order.specs.Calls.{Call, Apart, scans, scans-unscan}
 use Rattle.order.specs.Claimed.{alike-distinct, alike-call, scans-in, scans-out}
-use Rattle.interleavings.specs.Keys.{keys, arr, Holds, Meets, Ahead, walk}
-use Rattle.interleavings.specs.Joint.{Ghost, Absent, Logged, Rises, Marked, Clean, Part, walks, Whole, Ord, Leaves, part-left, orderly-shift, parts-close, scans-close}
+use Rattle.interleavings.specs.Keys.{keys, arr, Holds, Ahead}
+use Rattle.interleavings.specs.Joint.{Ghost, Absent, Rises, Marked, Clean, Part, walks, Ord}
 use Rattle.interleavings.specs.Nodes.{one-node, none-some}
-use Rattle.interleavings.specs.Closing.{Tickets, tickets-of, quiet, unscanned, rescanned, over, ends-over, closed, settled}
-
+use Rattle.interleavings.specs.Closing.{Tickets, over, ends-over, closed, settled}
 
 -- ── current is written ──
 pub current-moved : (sh : Shape) (wd : 0 < sh .width) (m : View) (ch : Chains) (T : ℕ → Worker) (g : Ghost (keys sh wd)) (v : ℕ) → Ord sh wd m ch T g
@@ -97,7 +91,7 @@ module _ (sh : Shape) (wd : 0 < sh .width) (m : View) (ch : Chains) (T : ℕ →
       (inv-end ends (O .whole .past) (walks sh wd m ch T) [] (g .order) (O .whole .bound) calls (λ v q j y e. absurd (no-put k q y e)) (O .whole .orderly))
       (O .whole .distinct) (O .whole .from) (λ c n j y e. absurd (not-node k c n j e)) (λ q j. j) (O .whole .current)
 
-  -- ── a enqueue is stored ──
+  -- ── an enqueue is stored ──
   module _ (P : Inv sh m ch T) (a : 6 ≤ (T i) .stage) (b : (T i) .stage ≤ 7)
       (low : m .current / 4294967296 ≤ (T i) .bucket) (seen : (v : ℕ) → Mem (scan v) (g .order) → (T i) .bucket ≤ (T v) .bucket → (T v) .current % 4294967296 < m .current % 4294967296) where
     abbrev y : Element (keys sh wd)
@@ -118,7 +112,7 @@ module _ (sh : Shape) (wd : 0 < sh .width) (m : View) (ch : Chains) (T : ℕ →
     log : g .what (m .ticket ((T i) .own)) ≡ some (itemIn m ((T i) .own))
     log = O .whole .logged ((T i) .own) isNode (λ e. omega (arith, pos))
 
-    -- its late epoch, for a enqueue of its ticket in the order
+    -- its late epoch, for an enqueue of its ticket in the order
     fresh : (v : ℕ) (q : Element K) → Mem (scan v) (g .order) → Mem (enqueue q) (g .order) → ticket q ≡ (T i) .ticket → bucket q ≤ (T v) .bucket
         → (T v) .current % 4294967296 < over (g .hist) ((T i) .ticket) (m .started) (m .current % 4294967296) .late ((T i) .ticket)
     fresh v q j k e h =

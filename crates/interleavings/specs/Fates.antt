@@ -1,39 +1,34 @@
 -- What becomes of an item: one take marks it, and holds or has answered it; until then a put that has ended has it unmarked
 -- in its bucket's list, once. Assumes nothing.
 use mathlib.Core.Path.{_≡_, refl, sym, ap, _∙_, subst}
-use mathlib.Core.Bool.{Bool, true, false, _&&_}
+use mathlib.Core.Bool.{Bool, true, false}
 use mathlib.Core.Logic.{_≢_, _⊎_, inl, inr}
-use mathlib.Core.Option.{Option, none, some}
-use mathlib.Core.List.{List, [], _∷_, List·Memᴰ as Mem}
-use Prim.Native.Nat.{ℕ, zero, suc, _+_, _%_, _≤_, _<_}
+use mathlib.Core.Option.{none, some}
+use mathlib.Core.List.{[], List·Memᴰ as Mem}
+use Prim.Native.Nat.{ℕ, _≤_, _<_}
 use native.Mathlib.Omega.{arith}
-use native.Mathlib.Decide.{ℕ-discrete}
 use lib.Dec.{eqb, leb}
-use borrow.Author.Tests.{eqb-true, eqb-false, eq-eqb, leb-true, leb-false, le-leb}
+use borrow.Author.Tests.{eqb-true, eq-eqb, leb-true, leb-false, le-leb}
 use Rattle.arrival.specs.declared.Shape.{Shape}
 use Rattle.arrival.specs.declared.Item.{Item}
 use Rattle.arrival.specs.declared.Worker.{Worker}
 use Rattle.arrival.specs.Keys.{bucketOf, itemBucket, item-bucket}
 use Rattle.arrival.specs.Tests.{parts}
 use Rattle.arrival.specs.Queue as queue
-use Rattle.calendar.specs.Layout.{itemAt}
 use Rattle.calendar.specs.Views.{View, view, itemIn}
-use Rattle.calendar.specs.Ranges.{worker, between}
+use Rattle.calendar.specs.Ranges.{worker}
 use Rattle.calendar.specs.Operations.{Memory}
 use Rattle.calendar.specs.Ledger.{Ledger, succeeds-11}
 use Rattle.calendar.specs.Lists.{unmarkedOf, hasMarked}
 use Rattle.calendar.specs.Linearizability.{Finished, HeldBy, AnsweredBy}
-use Rattle.lists.specs.Chain.{In}
-use Rattle.lists.specs.Linking.{Chains, chain-distinct}
+use Rattle.lists.specs.Linking.{chain-distinct}
 use Rattle.lists.specs.Walks.{unmarked-none, unmarked-once}
-use Rattle.order.specs.Entries.{Element, Entry, enqueue, dequeue, empty, scan, ticket, bucket, run}
+use Rattle.order.specs.Entries.{Element, Entry, enqueue, dequeue, empty, scan, ticket, run}
 use Rattle.order.specs.Time.{End, running, ended, ticket-of}
 use Rattle.order.specs.Calls.{Call}
 use Rattle.order.specs.Claimed.{taken-gone, taken-enqueued}
 use Rattle.order.specs.Fate.{taken-once, enqueued-or-taken}
-use Rattle.order.specs.Scans.{running-ended}
-use Rattle.interleavings.specs.Keys.{keys, arr, Holds}
-use Rattle.interleavings.specs.Joint.{Ghost, Holder}
+use Rattle.interleavings.specs.Keys.{keys}
 use Rattle.interleavings.specs.Nodes.{one-node}
 use Rattle.interleavings.specs.Agreement.{itemAsked, endedAt, Same}
 use Rattle.interleavings.specs.Linearized.{one-entry, asked-put, end-known}
@@ -167,12 +162,13 @@ module _ (sh : Shape) (wd : 1 ≤ sh .width) (m : Memory) (L : Ledger) (F : Foll
   in-queue-once x k =
       let (n, H) = F .ord .whole .from (elem x) k in
       let I = F .reached .inv in
-      let b = item-bucket sh x in
-      (subst (λ q. unmarkedOf sh (m .store) x (F .chains q) ≡ 1) b
-      (unmarked-once sh (m .store) x n (F .chains (itemBucket sh x)) (chain-distinct sh v (F .chains (itemBucket sh x)) (I .lists .ascends (itemBucket sh x))) (H .inside) (H .clean) (H .key)
-      (λ j i u q. u (one-node sh v (F .chains) T I j n (I .lists .member (itemBucket sh x) j i .isNode) (I .lists .member (itemBucket sh x) n (H .inside) .isNode) (F .ord .whole .ticketed (itemBucket sh x) j i)
-      (ap (λ (y : Item). y .ticket) q ∙ ap (λ (y : Item). y .ticket) (sym (H .key)))))),
-      λ d e. taken-gone [] order (elem x) d (F .ord .whole .orderly .legal) (F .ord .whole .distinct) (λ j. elim j [ ]) (marked-entry d x e) k)
+      let b = item-bucket sh x in (
+        subst (λ q. unmarkedOf sh (m .store) x (F .chains q) ≡ 1) b
+            (unmarked-once sh (m .store) x n (F .chains (itemBucket sh x)) (chain-distinct sh v (F .chains (itemBucket sh x)) (I .lists .ascends (itemBucket sh x))) (H .inside) (H .clean) (H .key)
+            (λ j i u q. u (one-node sh v (F .chains) T I j n (I .lists .member (itemBucket sh x) j i .isNode) (I .lists .member (itemBucket sh x) n (H .inside) .isNode) (F .ord .whole .ticketed (itemBucket sh x) j i)
+            (ap (λ (y : Item). y .ticket) q ∙ ap (λ (y : Item). y .ticket) (sym (H .key)))))),
+        λ d e. taken-gone [] order (elem x) d (F .ord .whole .orderly .legal) (F .ord .whole .distinct) (λ j. elim j [ ]) (marked-entry d x e) k,
+      )
 
   taken-nowhere : (c s : ℕ) (x : Item) (d : ℕ) → x .ticket ≡ c → F .ghost .hist .end c ≡ ended s → Mem (dequeue (elem x) d) order → unmarkedOf sh (m .store) x (F .chains (bucketOf sh (x .time))) ≡ 0
   taken-nowhere c s x d t e k =

@@ -1,29 +1,23 @@
 -- Along every history from an opening the joint invariant holds and agrees with the ledger. Assumes nothing.
-use mathlib.Core.Path.{_≡_, refl, sym, ap, _∙_, subst, subst⁻¹}
-use mathlib.Core.Bool.{Bool, true, false, cond}
-use mathlib.Core.Logic.{_≢_, _⊎_, inl, inr}
-use mathlib.Core.Option.{Option, none, some}
+use mathlib.Core.Path.{_≡_, refl, sym, ap, subst, subst⁻¹}
+use mathlib.Core.Option.{none, some}
 use mathlib.Core.List.{List, [], _∷_}
-use Prim.Native.Nat.{ℕ, zero, suc, _+_, _≤_, _<_}
+use Prim.Native.Nat.{ℕ, _+_, _≤_, _<_}
 use native.Mathlib.Omega.{arith}
-use lib.Dec.{eqb, lit<}
+use lib.Dec.{lit<}
 use lib.ListN.{set}
-use borrow.Author.Tests.{eqb-true, eqb-false, eq-eqb}
 use Rattle.arrival.specs.declared.Shape.{Shape}
 use Rattle.arrival.specs.declared.Arrival.{Arrival}
-use Rattle.arrival.specs.declared.Item.{Item}
 use Rattle.arrival.specs.declared.Worker.{Worker}
 use Rattle.arrival.specs.declared.Action.{Action}
 use Rattle.arrival.specs.declared.Action.the-variants.{Enqueue, Dequeue, Step}
-use Rattle.arrival.specs.declared.Response.{Response}
-use Rattle.arrival.specs.declared.Response.the-variants.{Opened, Begun, Refused}
+use Rattle.arrival.specs.declared.Response.the-variants.{Opened}
 use Rattle.arrival.specs.Responses.{said}
 use Rattle.arrival.specs.Keys.{bucketOf, item-bucket, bucket-below}
 use Rattle.arrival.specs.Queue as queue
 use Rattle.calendar.specs.Layout.{writeAll, started}
-use Rattle.calendar.specs.Views.{View, view, update, updates, itemIn, view-writeAll}
+use Rattle.calendar.specs.Views.{view, updates, view-writeAll, AllInside}
 use Rattle.calendar.specs.Ranges.{blank, worker}
-use Rattle.calendar.specs.RangeFacts.{RecordRanges}
 use Rattle.calendar.specs.Reclaim.{firstFree}
 use Rattle.calendar.specs.FirstFree.{first-free-node, first-free-free}
 use Rattle.calendar.specs.Opening.{openStore, openTable}
@@ -33,19 +27,18 @@ use Rattle.calendar.specs.Starts.{itemOf, begun, enqueueStart, dequeueStart}
 use Rattle.calendar.specs.Accepted.{EnqueueAccepted, DequeueAccepted, StepAccepted, enqueue-accepted, dequeue-accepted, step-accepted}
 use Rattle.calendar.specs.Changes.{Change, step-is}
 use Rattle.calendar.specs.Inside.{enqueue-inside, dequeue-inside, change-inside}
-use Rattle.calendar.specs.Views.{AllInside}
 use Rattle.calendar.specs.Acting.{by-act}
 use Rattle.calendar.specs.Operations.{Memory, perform, open-pool, actor, refusal, outcome, act, run}
 use Rattle.calendar.specs.Ledger.{Ledger, new, begins, hears, sees, notes, reads, ledger}
 use Rattle.lists.specs.Linking.{Chains}
-use Rattle.lists.specs.Filling.{filled, key-same, not-safe}
-use Rattle.lists.specs.Table.{Live, Inv, with-record}
+use Rattle.lists.specs.Filling.{key-same, not-safe}
+use Rattle.lists.specs.Table.{Live, with-record}
 use Rattle.lists.specs.Reached.{Reached, table-set, reached-enqueue, reached-dequeue, reached-step, free-node}
 use Rattle.lists.specs.Reuse.{opened, open-reaches}
 use Rattle.lists.specs.Stepping.{chains-after}
 use Rattle.order.specs.Scans.{running-ended}
 use Rattle.interleavings.specs.Keys.{keys}
-use Rattle.interleavings.specs.Joint.{Ghost, Ord, Joint}
+use Rattle.interleavings.specs.Joint.{Ghost, Ord}
 use Rattle.interleavings.specs.Starting.{logs, joint-enqueue, joint-dequeue, joint-open}
 use Rattle.interleavings.specs.Starting as starting
 use Rattle.interleavings.specs.Stepping.{joint-step}
@@ -120,13 +113,16 @@ module _ (sh : Shape) (wd : 1 ≤ sh .width) where
       let free = free-node sh s (m .table) x (first-free-free sh s (m .table) (K .store .last) (A .node)) in
       let w = begun (T i) 1 0 x (bucketOf sh (a .time)) c in
       let J = joint-enqueue sh wd v (F .chains) T (F .ghost) (record { pool = K .inv; ord = F .ord }) i l (A .idle) w refl x (itemOf a c) isNode free refl
-          (rw item-bucket (bucket-below sh (a .time) wd (A .time))) refl refl (sym (item-bucket sh (itemOf a c))) in
+      (rw item-bucket (bucket-below sh (a .time) wd (A .time))) refl refl (sym (item-bucket sh (itemOf a c))) in
       performed m i (outcome sh m (Enqueue i a)) (F .chains) (logs (F .ghost) c (some (itemOf a c))) (begins i (queue.enqueue (itemOf a (L .started + 1))) L) (F .chains) K l
       (enqueue-inside sh s x a (T i) isNode) (reached-enqueue sh m (F .chains) i a K A) (J .ord)
       (agrees-start sh wd v T (F .ghost) L (F .agrees) i l (updates (outcome sh m (Enqueue i a) .writes) v) w (queue.enqueue (itemOf a (L .started + 1))) (some (itemOf a c)) (ap (λ n. some (itemOf a (n + 1))) (sym (F .agrees .started)))
       (A .idle) refl refl (λ z p q. omega arith)
-      (λ j h b. (K .inv .lists .live (T j .ticket) (j, h, b, refl), λ z p q. key-same sh v (F .chains) (Live (sh .workers) T) (K .inv .lists) x (itemOf a c) free (T j .own)
-      (not-safe sh v (F .chains) (Live (sh .workers) T) (K .inv .lists) x (itemOf a c) free (T j .ticket) (T j .own) (j, h, b, refl) (K .inv .knows j h .search p (omega arith) .dequeueOwn z q .stands .safe)))))
+      (λ j h b. (
+        K .inv .lists .live (T j .ticket) (j, h, b, refl),
+        λ z p q. key-same sh v (F .chains) (Live (sh .workers) T) (K .inv .lists) x (itemOf a c) free (T j .own)
+            (not-safe sh v (F .chains) (Live (sh .workers) T) (K .inv .lists) x (itemOf a c) free (T j .ticket) (T j .own) (j, h, b, refl) (K .inv .knows j h .search p (omega arith) .dequeueOwn z q .stands .safe)),
+      )))
 
   followed-dequeue : (m : Memory) (L : Ledger) (i : ℕ) → Followed sh wd m L → DequeueAccepted sh (m .store) (m .table) i → Followed sh wd (perform sh m i (outcome sh m (Dequeue i)) .memory) (begins i queue.dequeue L)
   unfolding dequeueStart

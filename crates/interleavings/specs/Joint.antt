@@ -1,32 +1,25 @@
 -- The joint invariant of the pool and its order, and what carries it past a change. Assumes nothing.
-use mathlib.Core.Path.{_≡_, refl, sym, ap, _∙_, subst}
-use mathlib.Core.Bool.{Bool, true, false, cond}
+use mathlib.Core.Path.{_≡_, refl, sym, _∙_, subst}
 use mathlib.Core.Logic.{_≢_, _⊎_, inl, inr}
 use mathlib.Core.Option.{Option, none, some}
-use mathlib.Core.List.{List, [], _∷_, _++_, List·Memᴰ as Mem, List·Memᴰ·head as here, List·Memᴰ·tail as there, List·Memᴰ·append-cases as mem-append, Memᴰ·append-left as mem-left, Memᴰ·append-right as mem-right}
-use Prim.Native.Nat.{ℕ, zero, suc, _+_, _*_, _/_, _%_, _≤_, _<_}
-use native.Mathlib.Omega.{arith}
-use native.Mathlib.Decide.{ℕ-discrete}
-use lib.Dec.{eqb}
+use mathlib.Core.List.{[], List·Memᴰ as Mem}
+use Prim.Native.Nat.{ℕ, suc, _+_, _/_, _%_, _≤_, _<_}
 use Rattle.arrival.specs.declared.Shape.{Shape}
 use Rattle.arrival.specs.declared.Worker.{Worker}
 use Rattle.arrival.specs.declared.Item.{Item}
-use Rattle.arrival.specs.Keys.{lower, itemBucket}
-use Rattle.calendar.specs.Views.{View, itemIn, Lt, upd-same, upd-other}
+use Rattle.calendar.specs.Views.{View, itemIn, upd-cases}
 use Rattle.lists.specs.Chain.{In}
-use Rattle.calendar.specs.Views.{upd-cases}
-use Rattle.lists.specs.Linking.{Chains, home}
-use Rattle.lists.specs.Table.{Knows, Live, Inv, with-record}
-use Rattle.lists.specs.Reach.{Reach}
-use Rattle.order.specs.Entries.{Keys, Element, Entry, enqueue, dequeue, empty, scan, Q, Order, ticket, bucket, run}
-use Rattle.order.specs.Time.{End, running, ended, Hist, ticket-of}
+use Rattle.lists.specs.Linking.{Chains}
+use Rattle.lists.specs.Table.{Inv, with-record}
+use Rattle.order.specs.Entries.{Keys, Element, Entry, enqueue, dequeue, empty, scan, Order, ticket, bucket, run}
+use Rattle.order.specs.Time.{running, ended, Hist, ticket-of}
 use Rattle.order.specs.Scans.{Walker as Walk}
 use Rattle.order.specs.Orders.{Inv as Orderly}
-use Rattle.order.specs.Appending.{Ends, inv-shift}
+use Rattle.order.specs.Appending.{inv-shift}
 use Rattle.order.specs.Calls.{Call, Distinct}
-use Rattle.interleavings.specs.Keys.{keys, arr, Holds, Meets, Ahead, walk}
+use Rattle.interleavings.specs.Keys.{keys, arr, Holds, Ahead, walk}
 
--- what the proof carries beside the chains: the ends of the calls, the order, and of each ticket what was enqueue under it (a take: none) and the entry that its answer is
+-- what the proof carries beside the chains: the ends of the calls, the order, and of each ticket what was put under it (a take: none) and the entry that its answer is
 pub record Ghost (K : Keys) : Type 0 where
   pub hist : Hist
   pub order : Order K

@@ -1,19 +1,17 @@
 -- The pool's items as the order's: their keys, and what a walk of the pool is to the order. Assumes nothing.
-use mathlib.Core.Path.{_≡_, refl, sym, ap, _∙_, subst}
+use mathlib.Core.Path.{_≡_, refl, ap}
 use mathlib.Core.Bool.{Bool, true, false}
-use mathlib.Core.Logic.{_≢_, _⊎_, inl, inr}
-use mathlib.Core.List.{List, [], _∷_}
-use Prim.Native.Nat.{ℕ, zero, suc, _+_, _*_, _/_, _%_, _≤_, _<_}
+use mathlib.Core.Logic.{_⊎_}
+use Prim.Native.Nat.{ℕ, _+_, _%_, _≤_, _<_}
 use native.Mathlib.Omega.{arith}
 use native.Mathlib.Decide.{ℕ-discrete}
 use Rattle.arrival.specs.declared.Shape.{Shape}
 use Rattle.arrival.specs.declared.Worker.{Worker}
 use Rattle.arrival.specs.declared.Item.{Item}
-use Rattle.arrival.specs.Keys.{lower, itemBucket}
-use Rattle.arrival.specs.Keys.{lower-trans, lower-irr, lower-weak, bucket-mono}
-use Rattle.calendar.specs.Views.{View, itemIn, Lt}
+use Rattle.arrival.specs.Keys.{lower, itemBucket, lower-trans, lower-irr, lower-weak, bucket-mono}
+use Rattle.calendar.specs.Views.{View, itemIn}
 use Rattle.lists.specs.Chain.{In}
-use Rattle.lists.specs.Linking.{Chains, home}
+use Rattle.lists.specs.Linking.{Chains}
 use Rattle.lists.specs.Reach.{Reach}
 use Rattle.order.specs.Entries.{Keys, Element}
 use Rattle.order.specs.Scans.{Walker as Walk}

@@ -1,28 +1,26 @@
 -- From the joint invariant to the linearization: the order's calls without its scans. Assumes nothing.
 use mathlib.Core.Path.{_≡_, refl, sym, _∙_, ap, subst}
 use mathlib.Core.Bool.{Bool, true, false}
-use mathlib.Core.Logic.{_≢_, _⊎_, inl, inr}
-use mathlib.Core.Option.{Option, none, some}
+use mathlib.Core.Logic.{_⊎_, inl, inr}
+use mathlib.Core.Option.{none, some}
 use mathlib.Core.List.{List, [], _∷_, map, List·Memᴰ as Mem, List·Memᴰ·head as here, List·Memᴰ·tail as there}
-use Prim.Native.Nat.{ℕ, _≤_, _<_}
+use Prim.Native.Nat.{ℕ, _≤_}
 use native.Mathlib.Omega.{arith}
 use native.Mathlib.Decide.{ℕ-discrete}
 use Rattle.arrival.specs.declared.Shape.{Shape}
 use Rattle.arrival.specs.declared.Item.{Item}
-use Rattle.arrival.specs.declared.Response.{Response}
-use Rattle.arrival.specs.declared.Response.the-variants.{Stored, Empty}
 use Rattle.arrival.specs.Keys.{lower, lower-total}
 use Rattle.arrival.specs.Queue as queue
 use Rattle.calendar.specs.Views.{View, view}
 use Rattle.calendar.specs.Ranges.{worker}
 use Rattle.calendar.specs.Operations.{Memory}
 use Rattle.calendar.specs.Ledger.{Ledger}
-use Rattle.calendar.specs.Linearizability.{Finished, EndedBefore, Once, RespectsTime, markTicket, poolReply, Agree, Linearization}
-use Rattle.order.specs.Entries.{Keys, Element, Entry, enqueue, dequeue, empty, scan, Order, _≺_, ticket, run}
+use Rattle.calendar.specs.Linearizability.{Finished, EndedBefore, Once, RespectsTime, markTicket, Agree, Linearization}
+use Rattle.order.specs.Entries.{Keys, Element, Entry, enqueue, dequeue, empty, scan, Order, _≺_, ticket}
 use Rattle.order.specs.Time.{End, running, ended, NotBefore, ticket-of, end-of, Timely}
 use Rattle.order.specs.Calls.{Call, Distinct}
 use Rattle.interleavings.specs.Keys.{keys}
-use Rattle.interleavings.specs.Joint.{Ghost, Logged, Whole}
+use Rattle.interleavings.specs.Joint.{Ghost, Logged}
 use Rattle.interleavings.specs.Agreement.{itemAsked, endedAt, Same, Agrees}
 use Rattle.interleavings.specs.Sequential.{asks, answers, plain}
 use Rattle.interleavings.specs.Following.{Followed}

@@ -1,40 +1,28 @@
 -- Changes of the links with the table as it is: 5, 3 and 4. Assumes nothing.
 use mathlib.Core.Path.{_≡_, refl, sym, ap, _∙_, subst}
-use mathlib.Core.Bool.{Bool, true, false, cond}
+use mathlib.Core.Bool.{cond}
 use mathlib.Core.Logic.{_≢_, _⊎_, inl, inr}
-use mathlib.Core.Option.{Option, none, some}
-use mathlib.Core.List.{List, [], _∷_, _++_, append-nil, List·Memᴰ as Mem, List·Memᴰ·head as here, List·Memᴰ·tail as there, List·Memᴰ·append-cases as mem-append, Memᴰ·append-left as mem-left, Memᴰ·append-right as mem-right}
-use Prim.Native.Nat.{ℕ, zero, suc, _+_, _*_, _/_, _%_, _≤_, _<_}
+use mathlib.Core.List.{[], List·Memᴰ as Mem}
+use Prim.Native.Nat.{ℕ, _+_, _*_, _/_, _%_, _≤_, _<_}
 use native.Mathlib.Omega.{arith}
-use native.Mathlib.Decide.{ℕ-discrete}
 use lib.Dec.{eqb}
 use Rattle.arrival.specs.declared.Shape.{Shape}
 use Rattle.arrival.specs.declared.Worker.{Worker}
-use Rattle.calendar.specs.Layout.{Place, word, cell, field}
-use Rattle.arrival.specs.declared.Item.{Item}
-use Rattle.arrival.specs.Keys.{lower, itemBucket}
-use Rattle.calendar.specs.Outcome.{withStage, withOwn}
-use Rattle.calendar.specs.Views.{View, update, itemIn, Lt, upd-same, upd-other}
+use Rattle.calendar.specs.Layout.{cell, field}
+use Rattle.calendar.specs.Views.{View, update, upd-other, upd-cases}
 use Rattle.lists.specs.Chain.{In, insertAt, removeAt, in-insert, in-remove}
-use Rattle.calendar.specs.Views.{upd-cases}
-use Rattle.lists.specs.Linking.{Chains, setChain, set-cases, home, Safe, Lists, Linking, Unlinking, unlinked, edge, link-in, un-in}
-use Rattle.lists.specs.Table.{Knows, Live, Rest, Inv, with-record}
-use Rattle.order.specs.Entries.{Keys, Element, Entry, enqueue, dequeue, empty, scan, Q, Order, ticket, bucket, run, run-append}
-use Rattle.order.specs.Time.{End, running, ended, Hist, ticket-of, pairs-snoc}
-use Rattle.order.specs.Scans.{Alike, nil, right, alike-append, alike-refl, alike-sym, alike-run, alike-mem, alike-unscan, unscan, running-ended}
-use Rattle.order.specs.Orders.{Inv as Orderly, inv-unscan}
-use Rattle.order.specs.Appending.{Ends, Past, inv-end, inv-enqueue, inv-empty, inv-scan, unscan-mem, walked-out}
-use Rattle.order.specs.Calls.{Call, Apart, Distinct, scans, scans-append, scans-unscan}
-use Rattle.order.specs.Claimed.{alike-distinct, alike-call, scans-in, scans-out}
-use Rattle.interleavings.specs.Keys.{keys, arr, Holds, Meets, Ahead, walk}
-use Rattle.interleavings.specs.Joint.{Ghost, Absent, Logged, Rises, Marked, Clean, Part, walks, Whole, Ord, Leaves, part-left, orderly-shift, parts-close, scans-close}
-use Rattle.interleavings.specs.Nodes.{one-node, none-some}
-use Rattle.interleavings.specs.Closing.{Tickets, tickets-of, quiet, unscanned, rescanned, over, ends-over, closed, settled}
-use Rattle.lists.specs.Knowledge.{Private, Stands}
-use Rattle.lists.specs.Reach.{Reach}
+use Rattle.lists.specs.Linking.{Chains, setChain, set-cases, Lists, Linking, Unlinking, unlinked, edge, link-in, un-in}
+use Rattle.lists.specs.Table.{Live, Inv}
+use Rattle.order.specs.Entries.{Keys, Element, scan, ticket, bucket, run}
+use Rattle.order.specs.Time.{running, ended}
+use Rattle.order.specs.Scans.{right, running-ended}
+use Rattle.order.specs.Orders.{Inv as Orderly}
+use Rattle.order.specs.Calls.{scans}
+use Rattle.interleavings.specs.Keys.{keys, arr, Holds, Ahead}
+use Rattle.interleavings.specs.Joint.{Ghost, Absent, Marked, Clean, walks, Ord, part-left}
+use Rattle.lists.specs.Knowledge.{Private}
 use Rattle.lists.specs.Ahead.{ahead-link, ahead-unlink, ahead-private}
 use Rattle.order.specs.Appending.{inv-shift}
-
 
 module _ (sh : Shape) (wd : 0 < sh .width) (m : View) (ch : Chains) (T : ℕ → Worker) (g : Ghost (keys sh wd)) (P : Inv sh m ch T) (O : Ord sh wd m ch T g) where
   abbrev K : Keys

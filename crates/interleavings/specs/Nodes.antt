@@ -1,20 +1,15 @@
 -- Nodes, their tickets, and what lies behind a node on its links. Assumes nothing.
-use mathlib.Core.Path.{_≡_, refl, sym, ap, _∙_, subst}
-use mathlib.Core.Bool.{Bool, true, false, cond}
-use mathlib.Core.Logic.{_≢_, _⊎_, inl, inr}
-use mathlib.Core.Option.{Option, none, some}
-use mathlib.Core.List.{List, [], _∷_}
-use Prim.Native.Nat.{ℕ, zero, suc, _+_, _*_, _/_, _%_, _≤_, _<_}
+use mathlib.Core.Path.{_≡_, sym, subst}
+use mathlib.Core.Logic.{_⊎_, inl, inr}
+use mathlib.Core.Option.{none, some}
+use Prim.Native.Nat.{ℕ, _+_, _/_, _≤_, _<_}
 use native.Mathlib.Omega.{arith}
 use native.Mathlib.Decide.{ℕ-discrete}
 use Rattle.arrival.specs.declared.Shape.{Shape}
 use Rattle.arrival.specs.declared.Worker.{Worker}
-use Rattle.arrival.specs.declared.Item.{Item}
-use Rattle.arrival.specs.Keys.{lower, itemBucket}
-use Rattle.arrival.specs.Keys.{lower-trans, lower-irr, lower-total}
+use Rattle.arrival.specs.Keys.{lower-trans}
 use Rattle.calendar.specs.Views.{View, itemIn, Lt}
-use Rattle.lists.specs.Chain.{In}
-use Rattle.lists.specs.Linking.{Chains, home, Safe, Follows, Lists, safe-next}
+use Rattle.lists.specs.Linking.{Chains, Safe, Follows, Lists, safe-next}
 use Rattle.lists.specs.Table.{Inv}
 use Rattle.lists.specs.Reach.{Reach}
 

@@ -1,20 +1,20 @@
 -- The sequential queue, fed an order's calls, gives the order's answers. Assumes nothing.
 use mathlib.Core.Path.{_≡_, refl, sym, _∙_, ap, subst}
 use mathlib.Core.Bool.{Bool, true, false, cond}
-use mathlib.Core.Logic.{_≢_, _⊎_, inl, inr}
+use mathlib.Core.Logic.{_⊎_, inl, inr}
 use mathlib.Core.Option.{Option, none, some}
 use mathlib.Core.List.{List, [], _∷_, List·Memᴰ as Mem, List·Memᴰ·head as here, List·Memᴰ·tail as there}
 use Prim.Native.Nat.{ℕ, _≤_}
 use native.Mathlib.Omega.{arith}
 use lib.Dec.{eqb}
-use borrow.Author.Tests.{eqb-true, eqb-false, eq-eqb, ne-eqb}
+use borrow.Author.Tests.{eq-eqb, ne-eqb}
 use Rattle.arrival.specs.declared.Shape.{Shape}
 use Rattle.arrival.specs.declared.Item.{Item}
 use Rattle.arrival.specs.declared.Response.the-variants.{Stored, Empty}
 use Rattle.arrival.specs.Keys.{lower}
 use Rattle.arrival.specs.Queue as queue
 use Rattle.arrival.specs.Queue.{Call, Reply, lowerOf, lowest, remove, taken, replies}
-use Rattle.order.specs.Entries.{Element, Entry, enqueue, dequeue, empty, scan, Q, Order, _≺_, ticket, irrefl, trans, same?, at-most-below, keep, without, without-mem, Below, step, Ok, Legal}
+use Rattle.order.specs.Entries.{Element, enqueue, dequeue, empty, scan, Q, Order, _≺_, ticket, irrefl, trans, same?, at-most-below, keep, without, without-mem, Below, Legal}
 use Rattle.interleavings.specs.Keys.{keys}
 
 module _ (sh : Shape) (wd : 1 ≤ sh .width) where

@@ -1,42 +1,31 @@
 -- Starts and the opening. Assumes nothing.
 use mathlib.Core.Path.{_≡_, refl, sym, ap, _∙_, subst}
-use mathlib.Core.Bool.{Bool, true, false, cond}
+use mathlib.Core.Bool.{cond}
 use mathlib.Core.Logic.{_≢_, _⊎_, inl, inr}
 use mathlib.Core.Option.{Option, none, some}
-use mathlib.Core.List.{List, [], _∷_, _++_, append-nil, List·Memᴰ as Mem, List·Memᴰ·head as here, List·Memᴰ·tail as there, List·Memᴰ·append-cases as mem-append, Memᴰ·append-left as mem-left, Memᴰ·append-right as mem-right}
-use Prim.Native.Nat.{ℕ, zero, suc, _+_, _*_, _/_, _%_, _≤_, _<_}
+use mathlib.Core.List.{[], List·Memᴰ as Mem}
+use Prim.Native.Nat.{ℕ, _+_, _*_, _≤_, _<_}
 use native.Mathlib.Omega.{arith}
 use native.Mathlib.Decide.{ℕ-discrete}
 use lib.Dec.{eqb}
 use Rattle.arrival.specs.declared.Shape.{Shape}
 use Rattle.arrival.specs.declared.Worker.{Worker}
-use Rattle.calendar.specs.Layout.{Place, word, cell, field}
+use Rattle.calendar.specs.Layout.{word}
 use Rattle.arrival.specs.declared.Item.{Item}
-use Rattle.arrival.specs.Keys.{lower, itemBucket}
-use Rattle.calendar.specs.Outcome.{withStage, withOwn}
-use Rattle.calendar.specs.Views.{View, update, itemIn, Lt, upd-same, upd-other}
-use Rattle.lists.specs.Chain.{In, insertAt, removeAt, in-insert, in-remove}
-use Rattle.calendar.specs.Views.{upd-cases}
-use Rattle.lists.specs.Linking.{Chains, setChain, set-cases, home, Safe, Lists, Linking, Unlinking, unlinked, edge, link-in, un-in}
-use Rattle.lists.specs.Table.{Knows, Live, Rest, Inv, with-record}
-use Rattle.order.specs.Entries.{Keys, Element, Entry, enqueue, dequeue, empty, scan, Q, Order, ticket, bucket, run, run-append}
-use Rattle.order.specs.Time.{End, running, ended, Hist, ticket-of, pairs-snoc}
-use Rattle.order.specs.Scans.{Alike, nil, right, alike-append, alike-refl, alike-sym, alike-run, alike-mem, alike-unscan, unscan, running-ended}
-use Rattle.order.specs.Orders.{Inv as Orderly, inv-unscan}
-use Rattle.order.specs.Appending.{Ends, Past}
-use Rattle.order.specs.Calls.{Call, Apart, Distinct, scans, scans-append, scans-unscan}
-use Rattle.order.specs.Claimed.{alike-distinct, alike-call, scans-in, scans-out}
-use Rattle.interleavings.specs.Keys.{keys, arr, Holds, Meets, Ahead, walk}
-use Rattle.interleavings.specs.Joint.{Holder, held-close, Ghost, Absent, Logged, Rises, Marked, Clean, Part, walks, Whole, Ord, Leaves, part-left, orderly-shift, parts-close, scans-close}
-use Rattle.interleavings.specs.Nodes.{one-node, none-some}
-use Rattle.interleavings.specs.Closing.{Tickets, tickets-of, quiet, unscanned, rescanned, over, ends-over, closed, settled}
-use Rattle.lists.specs.Knowledge.{Private, Stands}
-use Rattle.lists.specs.Reach.{Reach}
-use Rattle.lists.specs.Filling.{filled, Free, key-same, not-in, not-safe, not-used}
-use Rattle.lists.specs.Starting.{inv-dequeue, inv-enqueue, inv-open, begun, here-key}
-use Rattle.order.specs.Appending.{inv-shift}
-use Rattle.interleavings.specs.Joint.{Joint}
-
+use Rattle.arrival.specs.Keys.{itemBucket}
+use Rattle.calendar.specs.Outcome.{withStage}
+use Rattle.calendar.specs.Views.{View, update, itemIn, upd-same, upd-other}
+use Rattle.lists.specs.Chain.{In}
+use Rattle.lists.specs.Linking.{Chains, unlinked}
+use Rattle.lists.specs.Table.{Live, with-record}
+use Rattle.order.specs.Entries.{Keys, Element, Entry, enqueue, dequeue, empty, scan, ticket, bucket, run}
+use Rattle.order.specs.Time.{running}
+use Rattle.order.specs.Scans.{running-ended}
+use Rattle.order.specs.Calls.{scans}
+use Rattle.interleavings.specs.Keys.{keys, Holds}
+use Rattle.interleavings.specs.Joint.{held-close, Ghost, Absent, Logged, part-left, orderly-shift, parts-close, scans-close, Joint}
+use Rattle.lists.specs.Filling.{filled, Free, key-same, not-in, not-safe}
+use Rattle.lists.specs.Starting.{inv-dequeue, inv-enqueue, inv-open, here-key}
 
 abbrev pub logs : {K : Keys} → Ghost K → ℕ → Option (K .X) → Ghost K
 logs g c d = record { hist = g .hist; order = g .order; what = λ n. cond (eqb c n) d (g .what n); said = g .said }
@@ -115,7 +104,7 @@ module _ (sh : Shape) (wd : 0 < sh .width) (m : View) (ch : Chains) (T : ℕ →
     };
   }
 
-  -- ── a enqueue on the free node x ──
+  -- ── an enqueue on the free node x ──
   module _ (x : ℕ) (a : Item) (isNode : x < sh .nodes) (free : Free m (Live (sh .workers) T) x) (ticket-a : a .ticket ≡ m .started + 1) (inB : itemBucket sh a < sh .buckets) where
     abbrev LiveT : ℕ → Type 0
     LiveT = Live (sh .workers) T

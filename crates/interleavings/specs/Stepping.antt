@@ -1,12 +1,12 @@
 -- Every turn keeps the joint invariant, and what it answers is what the order says: one match over the changes. Assumes nothing.
 use mathlib.Core.Path.{_≡_, refl, sym, ap, _∙_, subst}
-use mathlib.Core.Bool.{Bool, true, false, cond}
+use mathlib.Core.Bool.{true, false, cond}
 use mathlib.Core.Logic.{_≢_, _⊎_, inl, inr}
 use mathlib.Core.List.{List, [], _∷_, _++_, List·Memᴰ as Mem, List·Memᴰ·head as here, List·Memᴰ·append-cases as mem-append, Memᴰ·append-right as mem-right}
 use Prim.Native.Nat.{ℕ, zero, suc, _+_, _*_, _/_, _%_, _≤_, _<_}
 use native.Mathlib.Omega.{arith}
 use lib.Dec.{eqb}
-use borrow.Author.Tests.{eqb-true, eqb-false, eq-eqb, ltb-true, ltb-false}
+use borrow.Author.Tests.{eqb-true, eq-eqb, ltb-true, ltb-false}
 use Rattle.arrival.specs.declared.Shape.{Shape}
 use Rattle.arrival.specs.declared.Worker.{Worker}
 use Rattle.arrival.specs.declared.Item.{Item}
@@ -14,27 +14,27 @@ use Rattle.arrival.specs.declared.Response.{Response}
 use Rattle.arrival.specs.declared.Response.the-variants.{Opened, Begun, On, Stored, Took, Empty, Refused}
 use Rattle.arrival.specs.Tests.{by-test, never}
 use Rattle.arrival.specs.Queue.{taken}
-use Rattle.calendar.specs.Layout.{Write, _≔_, word, cell, field, head, link, linkCell, current, itemAt}
+use Rattle.calendar.specs.Layout.{Write, _≔_, word, head, link, linkCell, current, itemAt}
 use Rattle.calendar.specs.Views.{View, view, update, updates, itemIn, upd-same}
-use Rattle.calendar.specs.Outcome.{Outcome, withStage, withOwn, withBucket, withRight, withSeen, withCurrent}
+use Rattle.calendar.specs.Outcome.{Outcome, withStage, withOwn, withBucket, withRight, withCurrent}
 use Rattle.calendar.specs.SearchSteps.{leftHolds, unlink}
-use Rattle.calendar.specs.EnqueueSteps.{ownEpoch, prepare, linkOwn, currentHolds, renewed, renewCurrent}
+use Rattle.calendar.specs.EnqueueSteps.{ownEpoch, prepare, linkOwn, renewed, renewCurrent}
 use Rattle.calendar.specs.DequeueSteps.{nodeIsMarked, linkHolds, markNode, nextCurrent, thisCurrent}
 use Rattle.calendar.specs.Refusals.{noEpoch}
 use Rattle.calendar.specs.Inside.{found-writes, settled-writes, walked-writes}
 use Rattle.calendar.specs.Changes.{Found, put-found, take-ends, Settled, at-end, goes-on, Walked, out, out-last, meets, Change, head-read, mark-seen, passed, stopped, unlinked, again-3, prepared, linked, again-5, stored-6, on-7, stored-7, back-6, current-read, first-read, mark-passed, newer, on-11, marked, back-10, advanced, back-12, emptied, back-13}
-use Rattle.lists.specs.Linking.{Chains, Lists}
+use Rattle.lists.specs.Linking.{Chains}
 use Rattle.lists.specs.Knowledge.{Private}
-use Rattle.lists.specs.Table.{Knows, Live, Rest, Inv, with-record, rest}
+use Rattle.lists.specs.Table.{Knows, Live, Inv, with-record, rest}
 use Rattle.lists.specs.Reach.{Reach}
 use Rattle.lists.specs.Ahead.{ahead-pass, ahead-head}
 use Rattle.lists.specs.Stepping.{R, rest-3, unlinking, linking-5, chains-3, chains-5, chains-after, inv-step, enqueues, dequeues}
 use Rattle.order.specs.Entries.{Keys, Element, Entry, enqueue, dequeue, empty, scan, run}
-use Rattle.order.specs.Time.{End, ended}
+use Rattle.order.specs.Time.{ended}
 use Rattle.order.specs.Scans.{alike-sym, alike-unscan, unscan}
 use Rattle.order.specs.Calls.{Call}
 use Rattle.order.specs.Claimed.{alike-call}
-use Rattle.interleavings.specs.Keys.{keys, arr, Holds, Ahead}
+use Rattle.interleavings.specs.Keys.{keys, Holds, Ahead}
 use Rattle.interleavings.specs.Joint.{Ghost, Rises, Part, Ord, Joint}
 use Rattle.interleavings.specs.Closing.{Tickets, tickets-of, quiet, unscanned, rescanned}
 use Rattle.interleavings.specs.Ends.{current-moved, search-ended, stored-marked, stored-clean, out-of}
@@ -78,20 +78,24 @@ module _ (sh : Shape) (wd : 1 ≤ sh .width) (s : List ℕ) (T : ℕ → Worker)
 
     searching : (ws : List Write) (k left right seen : ℕ) → 1 ≤ k → k ≤ 4 → ((T i) .kind ≡ 1 → k ≤ 3) → Share m ch (record { writes = ws; worker = at-search k left right seen; response = On })
     searching ws k left right seen c d t =
-        let part = O .parts i l in
-        (_, quiet sh wd m ch T g O i (at-search k left right seen) (λ z n h. record { isDequeue = h .isDequeue; lo = c; hi = t (h .isDequeue); bears = h .bears; key = h .key }) (λ j. absurd (omega (arith, O .whole .scans i j .1))) (record {
-          runs = λ u. part .runs busy;
-          dequeuer = λ u. part .dequeuer busy;
-          unlinked = λ u v z. part .unlinked a (omega arith) z;
-          walking = λ u. absurd (omega arith);
-          linked = λ u v. absurd (omega arith);
-          marked-own = λ u v z. part .marked-own a b z;
-          five = λ e. absurd (omega arith);
-          scanned = λ u. absurd (omega arith);
-          rises = λ u. absurd (omega arith);
-          seven = λ e. absurd (omega arith);
-          last = λ e. absurd (omega arith);
-        }), (refl, refl, refl), e₀)
+        let part = O .parts i l in (
+          _,
+          quiet sh wd m ch T g O i (at-search k left right seen) (λ z n h. record { isDequeue = h .isDequeue; lo = c; hi = t (h .isDequeue); bears = h .bears; key = h .key }) (λ j. absurd (omega (arith, O .whole .scans i j .1))) (record {
+            runs = λ u. part .runs busy;
+            dequeuer = λ u. part .dequeuer busy;
+            unlinked = λ u v z. part .unlinked a (omega arith) z;
+            walking = λ u. absurd (omega arith);
+            linked = λ u v. absurd (omega arith);
+            marked-own = λ u v z. part .marked-own a b z;
+            five = λ e. absurd (omega arith);
+            scanned = λ u. absurd (omega arith);
+            rises = λ u. absurd (omega arith);
+            seven = λ e. absurd (omega arith);
+            last = λ e. absurd (omega arith);
+          }),
+          (refl, refl, refl),
+          e₀,
+        )
 
     module _ (kinds : ((T i) .kind ≡ 0) ⊎ ((T i) .kind ≡ 1)) where
       found-share : {ws : List Write} {o : Outcome} (k left right seen : ℕ) → Found sh s ws (at-search k left right seen) o → Share m ch o
@@ -151,20 +155,24 @@ module _ (sh : Shape) (wd : 1 ≤ sh .width) (s : List ℕ) (T : ℕ → Worker)
 
     walking-on : 9 ≤ (T i) .stage → (k right seen : ℕ) → 9 ≤ k → (k ≡ 13 → sh .buckets ≤ suc ((T i) .bucket))
         → ((q : Element (keys sh wd)) → Mem q (run [] (g .order)) → Ahead sh wd (view sh s) ch (T i) q → Ahead sh wd (view sh s) ch (at-walk k right seen) q) → Share (view sh s) ch (record { writes = []; worker = at-walk k right seen; response = On })
-    walking-on a k right seen b last ahead =
-        (_, quiet sh wd m₀ ch T g O i (at-walk k right seen) (λ z c h. absurd (omega (arith, h .hi))) (λ j. (b, refl, refl, refl, ahead)) (record {
-          runs = λ u. me .runs busy;
-          dequeuer = λ u. me .dequeuer busy;
-          unlinked = λ u v z. absurd (omega arith);
-          walking = λ u. me .walking (omega arith);
-          linked = λ u v. absurd (omega arith);
-          marked-own = λ u v z. absurd (omega arith);
-          five = λ e. absurd (omega arith);
-          scanned = λ u. me .scanned a;
-          rises = λ u. me .rises a;
-          seven = λ e. absurd (omega arith);
-          last = last;
-        }), (refl, refl, refl), refl)
+    walking-on a k right seen b last ahead = (
+      _,
+      quiet sh wd m₀ ch T g O i (at-walk k right seen) (λ z c h. absurd (omega (arith, h .hi))) (λ j. (b, refl, refl, refl, ahead)) (record {
+        runs = λ u. me .runs busy;
+        dequeuer = λ u. me .dequeuer busy;
+        unlinked = λ u v z. absurd (omega arith);
+        walking = λ u. me .walking (omega arith);
+        linked = λ u v. absurd (omega arith);
+        marked-own = λ u v z. absurd (omega arith);
+        five = λ e. absurd (omega arith);
+        scanned = λ u. me .scanned a;
+        rises = λ u. me .rises a;
+        seven = λ e. absurd (omega arith);
+        last = last;
+      }),
+      (refl, refl, refl),
+      refl,
+    )
 
     -- right has been set to a place from which all that is ahead is met
     walked-share : {o : Outcome} → 9 ≤ (T i) .stage → (k right seen : ℕ)
@@ -184,20 +192,24 @@ module _ (sh : Shape) (wd : 1 ≤ sh .width) (s : List ℕ) (T : ℕ → Worker)
 
     -- the scan goes
     walk-over : 9 ≤ (T i) .stage → (right seen : ℕ) → Share (view sh s) ch (record { writes = []; worker = at-walk 8 right seen; response = On })
-    walk-over a right seen =
-        (_, unscanned sh wd m₀ ch T g O i (at-walk 8 right seen) (λ z c h. absurd (omega (arith, h .hi))) (record {
-          runs = λ u. me .runs busy;
-          dequeuer = λ u. me .dequeuer busy;
-          unlinked = λ u v z. absurd (omega arith);
-          walking = λ u f j c. me .walking (omega arith) f (alike-call (alike-sym (alike-unscan (g .order) i)) f c j) c;
-          linked = λ u v. absurd (omega arith);
-          marked-own = λ u v z. absurd (omega arith);
-          five = λ f. absurd (omega arith);
-          scanned = λ u. absurd (omega arith);
-          rises = λ u. absurd (omega arith);
-          seven = λ f. absurd (omega arith);
-          last = λ f. absurd (omega arith);
-        }), (refl, refl, refl), refl)
+    walk-over a right seen = (
+      _,
+      unscanned sh wd m₀ ch T g O i (at-walk 8 right seen) (λ z c h. absurd (omega (arith, h .hi))) (record {
+        runs = λ u. me .runs busy;
+        dequeuer = λ u. me .dequeuer busy;
+        unlinked = λ u v z. absurd (omega arith);
+        walking = λ u f j c. me .walking (omega arith) f (alike-call (alike-sym (alike-unscan (g .order) i)) f c j) c;
+        linked = λ u v. absurd (omega arith);
+        marked-own = λ u v z. absurd (omega arith);
+        five = λ f. absurd (omega arith);
+        scanned = λ u. absurd (omega arith);
+        rises = λ u. absurd (omega arith);
+        seven = λ f. absurd (omega arith);
+        last = λ f. absurd (omega arith);
+      }),
+      (refl, refl, refl),
+      refl,
+    )
 
     -- what is ahead stays ahead at 10 and 11
     stay : {q : Element (keys sh wd)} → 10 ≤ (T i) .stage → (T i) .stage ≤ 11 → (k seen : ℕ) → 10 ≤ k → k ≤ 11 → Ahead sh wd (view sh s) ch (T i) q → Ahead sh wd (view sh s) ch (at-walk k ((T i) .right) seen) q
@@ -241,7 +253,7 @@ module _ (sh : Shape) (wd : 1 ≤ sh .width) (s : List ℕ) (T : ℕ → Worker)
         let d₀ : current sh s / 4294967296 ≡ (T i) .bucket = omega arith in
         let r₀ : current sh s % 4294967296 ≡ (T i) .current % 4294967296 = omega arith in
         let O′ : Ord sh wd m′ ch T g = current-moved sh wd m₀ ch T g x O
-            (λ q j. omega (arith, out-of sh wd m₀ ch T g O tickets i l busy (withStage 0 (T i)) refl (omega arith) r₀ q j)) (omega arith) (λ z h. up z x d r d₀ r₀ h) in
+        (λ q j. omega (arith, out-of sh wd m₀ ch T g O tickets i l busy (withStage 0 (T i)) refl (omega arith) r₀ q j)) (omega arith) (λ z h. up z x d r d₀ r₀ h) in
         let w′ : Worker = withStage 9 (withBucket ((T i) .bucket + 1) (withCurrent x (T i))) in
         (_, rescanned sh wd m′ ch T g O′ i w′ (λ z c h. absurd (omega (arith, h .hi))) l refl (sym d) (scanning x w′ refl refl (take (omega arith)) refl (omega arith)), (refl, refl, refl), refl)
       where
@@ -255,20 +267,24 @@ module _ (sh : Shape) (wd : 1 ≤ sh .width) (s : List ℕ) (T : ℕ → Worker)
     -- ── a put after its search ──
     -- back to the search's start
     again : 1 ≤ (T i) .stage → (T i) .stage ≤ 5 → ((T i) .kind ≡ 1 → (T i) .stage ≤ 3) → Share (view sh s) ch (record { writes = []; worker = withStage 1 (T i); response = On })
-    again a b c =
-        (_, quiet sh wd m₀ ch T g O i (withStage 1 (T i)) (λ z n h. record { isDequeue = h .isDequeue; lo = omega arith; hi = omega arith; bears = h .bears; key = h .key }) (λ j. absurd (omega (arith, O .whole .scans i j .1))) (record {
-          runs = λ u. me .runs busy;
-          dequeuer = λ u. me .dequeuer busy;
-          unlinked = λ u v z. me .unlinked a b z;
-          walking = λ u. absurd (omega arith);
-          linked = λ u v. absurd (omega arith);
-          marked-own = λ u v z. me .marked-own a (c z) z;
-          five = λ f. absurd (omega arith);
-          scanned = λ u. absurd (omega arith);
-          rises = λ u. absurd (omega arith);
-          seven = λ f. absurd (omega arith);
-          last = λ f. absurd (omega arith);
-        }), (refl, refl, refl), refl)
+    again a b c = (
+      _,
+      quiet sh wd m₀ ch T g O i (withStage 1 (T i)) (λ z n h. record { isDequeue = h .isDequeue; lo = omega arith; hi = omega arith; bears = h .bears; key = h .key }) (λ j. absurd (omega (arith, O .whole .scans i j .1))) (record {
+        runs = λ u. me .runs busy;
+        dequeuer = λ u. me .dequeuer busy;
+        unlinked = λ u v z. me .unlinked a b z;
+        walking = λ u. absurd (omega arith);
+        linked = λ u v. absurd (omega arith);
+        marked-own = λ u v z. me .marked-own a (c z) z;
+        five = λ f. absurd (omega arith);
+        scanned = λ u. absurd (omega arith);
+        rises = λ u. absurd (omega arith);
+        seven = λ f. absurd (omega arith);
+        last = λ f. absurd (omega arith);
+      }),
+      (refl, refl, refl),
+      refl,
+    )
 
     -- the record after 4, and after 5
     unlinked-part : (m : View) → (T i) .stage ≡ 4 → ((c t : ℕ) → g .hist .end c ≡ ended t → t < (T i) .ticket → g .hist .late c ≤ m .epoch ((T i) .own)) → (v : ℕ) → Part sh wd m g i (withStage 5 (withCurrent v (T i)))
@@ -289,48 +305,60 @@ module _ (sh : Shape) (wd : 1 ≤ sh .width) (s : List ℕ) (T : ℕ → Worker)
     share-4 : (T i) .stage ≡ 4 → Share (updates (prepare sh s (T i)) (view sh s)) ch (record { writes = prepare sh s (T i); worker = withStage 5 (withCurrent (current sh s) (T i)); response = On })
     share-4 a =
         let p : Private sh m₀ ch ((T i) .ticket) ((T i) .own) = knows .search (omega arith) (omega arith) .enqueueOwn (put (omega arith) (omega arith)) (omega arith) in
-        let m′ : View = updates (prepare sh s (T i)) m₀ in
-        (_, quiet sh wd m′ ch T g (own-written sh wd m₀ ch T g P O i l a p (2 * (T i) .right) (ownEpoch sh s)) i (withStage 5 (withCurrent (current sh s) (T i))) (λ z c h. absurd (omega (arith, h .hi))) (λ j. absurd (omega (arith, O .whole .scans i j .1)))
-        (unlinked-part m′ a (λ c t e h. rw (upd-same ((T i) .own) ((T i) .own) (ownEpoch sh s) (m₀ .epoch ((T i) .own)) refl) (O .whole .lates c t e)) (current sh s)), (refl, refl, refl), refl)
+        let m′ : View = updates (prepare sh s (T i)) m₀ in (
+          _,
+          quiet sh wd m′ ch T g (own-written sh wd m₀ ch T g P O i l a p (2 * (T i) .right) (ownEpoch sh s)) i (withStage 5 (withCurrent (current sh s) (T i))) (λ z c h. absurd (omega (arith, h .hi))) (λ j. absurd (omega (arith, O .whole .scans i j .1)))
+              (unlinked-part m′ a (λ c t e h. rw (upd-same ((T i) .own) ((T i) .own) (ownEpoch sh s) (m₀ .epoch ((T i) .own)) refl) (O .whole .lates c t e)) (current sh s)),
+          (refl, refl, refl),
+          refl,
+        )
 
     share-5 : (a : (T i) .stage ≡ 5) (t : leftHolds sh s (T i) ≡ true) → Share (updates (linkOwn (T i)) (view sh s)) (chains-5 sh s T i l busy ch P a t) (record { writes = linkOwn (T i); worker = withStage 6 (T i); response = On })
     share-5 a t =
         let k = linking-5 sh s T i l busy ch P a t in
         let m′ : View = updates (linkOwn (T i)) m₀ in
-        let ch′ : Chains = chains-5 sh s T i l busy ch P a t in
-        (_, quiet sh wd m′ ch′ T g (linked-in sh wd m₀ ch T g P O i l a (put (omega arith) (omega arith)) k) i (withStage 6 (T i)) (λ z c h. absurd (omega (arith, h .hi))) (λ j. absurd (omega (arith, O .whole .scans i j .1))) (record {
-          runs = λ u. me .runs busy;
-          dequeuer = λ u. me .dequeuer busy;
-          unlinked = λ u v z. absurd (omega arith);
-          walking = λ u. absurd (omega arith);
-          linked = λ u v h. absurd (clean-own (k .was) (k .link) h);
-          marked-own = λ u v z. absurd (omega arith);
-          five = λ f. absurd (omega arith);
-          scanned = λ u. absurd (omega arith);
-          rises = λ u. absurd (omega arith);
-          seven = λ f. absurd (omega arith);
-          last = λ f. absurd (omega arith);
-        }), (refl, refl, refl), refl)
+        let ch′ : Chains = chains-5 sh s T i l busy ch P a t in (
+          _,
+          quiet sh wd m′ ch′ T g (linked-in sh wd m₀ ch T g P O i l a (put (omega arith) (omega arith)) k) i (withStage 6 (T i)) (λ z c h. absurd (omega (arith, h .hi))) (λ j. absurd (omega (arith, O .whole .scans i j .1))) (record {
+            runs = λ u. me .runs busy;
+            dequeuer = λ u. me .dequeuer busy;
+            unlinked = λ u v z. absurd (omega arith);
+            walking = λ u. absurd (omega arith);
+            linked = λ u v h. absurd (clean-own (k .was) (k .link) h);
+            marked-own = λ u v z. absurd (omega arith);
+            five = λ f. absurd (omega arith);
+            scanned = λ u. absurd (omega arith);
+            rises = λ u. absurd (omega arith);
+            seven = λ f. absurd (omega arith);
+            last = λ f. absurd (omega arith);
+          }),
+          (refl, refl, refl),
+          refl,
+        )
       where
         clean-own : view sh s .cells ((T i) .left) ≡ 2 * (T i) .right → view sh s .cells (sh .buckets + (T i) .own) ≡ 2 * (T i) .right → cond (eqb ((T i) .left) (sh .buckets + (T i) .own)) (2 * (T i) .own) (view sh s .cells (sh .buckets + (T i) .own)) % 2 ≡ 1 → ⊥
         clean-own was link = by-test (λ (x : ℕ). x % 2 ≡ 1 → ⊥) (eqb ((T i) .left) (sh .buckets + (T i) .own)) (λ e h. omega arith) (λ e h. omega arith)
 
     linked-on : (a : 6 ≤ (T i) .stage) (b : (T i) .stage ≤ 7) (w′ : Worker) → 6 ≤ w′ .stage → w′ .stage ≤ 7 → w′ .own ≡ (T i) .own → w′ .ticket ≡ (T i) .ticket → w′ .kind ≡ 0 → (w′ .stage ≡ 7 → w′ .bucket ≤ w′ .current / 4294967296)
         → Share (view sh s) ch (record { writes = []; worker = w′; response = On })
-    linked-on a b w′ c d ow st kd sv =
-        (_, quiet sh wd m₀ ch T g O i w′ (λ z c h. absurd (omega (arith, h .hi))) (λ j. absurd (omega (arith, O .whole .scans i j .1))) (record {
-          runs = λ u. rw st (me .runs busy);
-          dequeuer = λ u z. absurd (omega arith);
-          unlinked = λ u v z. absurd (omega arith);
-          walking = λ u. absurd (omega arith);
-          linked = λ u v. rw ow (me .linked a b);
-          marked-own = λ u v z. absurd (omega arith);
-          five = λ f. absurd (omega arith);
-          scanned = λ u. absurd (omega arith);
-          rises = λ u. absurd (omega arith);
-          seven = sv;
-          last = λ f. absurd (omega arith);
-        }), (refl, refl, refl), refl)
+    linked-on a b w′ c d ow st kd sv = (
+      _,
+      quiet sh wd m₀ ch T g O i w′ (λ z c h. absurd (omega (arith, h .hi))) (λ j. absurd (omega (arith, O .whole .scans i j .1))) (record {
+        runs = λ u. rw st (me .runs busy);
+        dequeuer = λ u z. absurd (omega arith);
+        unlinked = λ u v z. absurd (omega arith);
+        walking = λ u. absurd (omega arith);
+        linked = λ u v. rw ow (me .linked a b);
+        marked-own = λ u v z. absurd (omega arith);
+        five = λ f. absurd (omega arith);
+        scanned = λ u. absurd (omega arith);
+        rises = λ u. absurd (omega arith);
+        seven = sv;
+        last = λ f. absurd (omega arith);
+      }),
+      (refl, refl, refl),
+      refl,
+    )
 
     -- 6: every scan of a bucket as high saw an earlier epoch
     seen-6 : current sh s / 4294967296 < (T i) .bucket → (v : ℕ) → Mem (scan v) (g .order) → (T i) .bucket ≤ (T v) .bucket → (T v) .current % 4294967296 < current sh s % 4294967296

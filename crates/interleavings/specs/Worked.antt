@@ -1,14 +1,10 @@
 -- A history run through the theorem: a take that is set into the past, and an empty answer. Take 2 has seen 7 and pauses; 3 is
--- stored; take 2 then takes 7, so it stands before put 3, which had ended before it. Assumes nothing.
+-- stored; take 2 then takes 7, so it stands before put 3, though put 3 ended first. Assumes nothing.
 use mathlib.Core.Path.{_≡_, refl}
-use mathlib.Core.List.{List, [], _∷_, _++_, List·Memᴰ}
-use mathlib.Core.Option.{Option, some}
-use Prim.Native.Nat.{ℕ, zero, suc, _+_}
-use lib.ListN.{replicate}
+use mathlib.Core.List.{List, _++_, List·Memᴰ}
+use mathlib.Core.Option.{some}
 use Rattle.arrival.specs.declared.Shape.{Shape}
 use Rattle.arrival.specs.declared.Action.{Action}
-use Rattle.arrival.specs.declared.Action.the-variants.{Enqueue, Dequeue, Step}
-use Rattle.arrival.specs.declared.Response.{Response}
 use Rattle.arrival.specs.declared.Response.the-variants.{Stored, Took, Empty}
 use Rattle.arrival.specs.Keys.{lower, bucketOf}
 use Rattle.arrival.specs.Energy.{energyOf}
@@ -25,7 +21,7 @@ use Rattle.calendar.specs.Steps.{no-step, step}
 use Rattle.calendar.specs.Refusals.{openRefusal, enqueueRefusal, dequeueRefusal, stepRefusal}
 use Rattle.calendar.specs.Operations.{Memory, open-pool, act, run}
 use Rattle.calendar.specs.Ledger.{Ledger, new, ledger}
-use Rattle.calendar.specs.Linearizability.{Correct, Linearization, Demand3}
+use Rattle.calendar.specs.Linearizability.{Correct, Demand3}
 use Rattle.calendar.specs.Starred.{arrival, turns, put, take, lent}
 use Rattle.interleavings.specs.Demand3.{demand-3}
 

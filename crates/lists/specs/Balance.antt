@@ -1,39 +1,34 @@
 -- The sum of document 01 over every history: stored and puts at 6 and 7, arrivals answered, takes at 1 to 3, unmarked nodes.
 -- One match over the changes. Assumes nothing.
-use mathlib.Core.Path.{_≡_, refl, sym, ap, _∙_, subst, subst⁻¹}
+use mathlib.Core.Path.{_≡_, refl, sym, ap, _∙_, subst}
 use mathlib.Core.Bool.{Bool, true, false, cond, _&&_}
 use mathlib.Core.Logic.{_≢_, _⊎_, inl, inr}
-use mathlib.Core.List.{List, [], _∷_}
-use Prim.Native.Nat.{ℕ, zero, suc, _+_, _*_, _-_, _/_, _%_, _≤_, _<_}
+use mathlib.Core.List.{List, []}
+use Prim.Native.Nat.{ℕ, _+_, _*_, _/_, _%_, _≤_, _<_}
 use native.Mathlib.Omega.{arith}
-use lib.Dec.{eqb, leb}
+use lib.Dec.{eqb}
 use lib.ListN.{set}
-use borrow.Author.Tests.{eqb-true, eqb-false, eq-eqb, ne-eqb, le-leb, lt-leb}
+use borrow.Author.Tests.{eqb-true, eq-eqb, ne-eqb, le-leb, lt-leb}
 use Rattle.arrival.specs.declared.Shape.{Shape}
 use Rattle.arrival.specs.declared.Worker.{Worker}
-use Rattle.arrival.specs.declared.Action.{Action}
-use Rattle.arrival.specs.declared.Action.the-variants.{Enqueue, Dequeue, Step}
 use Rattle.arrival.specs.declared.Response.{Response}
 use Rattle.arrival.specs.declared.Response.the-variants.{Opened, Begun, On, Stored, Took, Empty, Refused}
-use Rattle.calendar.specs.Layout.{Write, link, isMarked}
-use Rattle.calendar.specs.Views.{View, view, update, updates, upd-same, upd-other, upd-cases}
-use Rattle.calendar.specs.Every.{count}
-use Rattle.calendar.specs.Ranges.{worker, between}
+use Rattle.calendar.specs.Layout.{Write, link}
+use Rattle.calendar.specs.Views.{View, view, updates, upd-same, upd-other, upd-cases}
+use Rattle.calendar.specs.Ranges.{worker}
 use Rattle.calendar.specs.RangeFacts.{RecordRanges}
 use Rattle.calendar.specs.Outcome.{Outcome, withStage, withOwn, withBucket, withSeen, withCurrent}
 use Rattle.calendar.specs.SearchSteps.{leftHolds, unlink}
 use Rattle.calendar.specs.EnqueueSteps.{linkOwn, prepare}
 use Rattle.calendar.specs.DequeueSteps.{linkHolds, markNode, nextCurrent}
-use Rattle.calendar.specs.Operations.{Memory}
-use Rattle.calendar.specs.Ledger.{Ledger, marks, hears, sees, succeeds-11}
-use Rattle.calendar.specs.Lists.{hasLinked, hasMarked, workersWith, unmarkedIn, unmarkedTo}
+use Rattle.calendar.specs.Lists.{hasLinked, hasMarked}
 use Rattle.calendar.specs.Inside.{found-writes, settled-writes, walked-writes}
 use Rattle.calendar.specs.Changes.{Found, put-found, take-ends, Settled, at-end, goes-on, Walked, out, out-last, meets, Change, head-read, mark-seen, passed, stopped, unlinked, again-3, prepared, linked, again-5, stored-6, on-7, stored-7, back-6, current-read, first-read, mark-passed, newer, on-11, marked, back-10, advanced, back-12, emptied, back-13}
 use Rattle.lists.specs.Chain.{In, insertAt, removeAt}
 use Rattle.lists.specs.Linking.{Chains, home, chain-distinct, edge}
-use Rattle.lists.specs.Table.{Live, Inv, with-record}
+use Rattle.lists.specs.Table.{Live, Inv}
 use Rattle.lists.specs.Stepping.{R, unlinking, linking-5, chains-3, chains-5, chains-after, in-chain-11}
-use Rattle.lists.specs.Counting.{tally, tally-with, total, total-frame, total-set, total-mark, count-insert, count-remove}
+use Rattle.lists.specs.Counting.{total, total-frame, total-set, total-mark, count-insert, count-remove}
 use Rattle.lists.specs.Counting as counting
 
 -- ── a record's share ──

@@ -1,15 +1,13 @@
 -- Counting calls of a sort, and the unmarked nodes of the chains. Assumes nothing.
 use mathlib.Core.Path.{_≡_, refl, sym, ap, _∙_, subst}
 use mathlib.Core.List.{List, [], _∷_, List·Memᴰ·head, List·Memᴰ·tail}
-use mathlib.Core.Bool.{Bool, true, false, cond}
-use mathlib.Core.Logic.{_≢_, _⊎_, inl, inr}
-use Prim.Native.Nat.{ℕ, zero, suc, _+_, _*_, _-_, _/_, _%_, _≤_, _<_}
+use mathlib.Core.Logic.{_≢_}
+use Prim.Native.Nat.{ℕ, zero, suc, _+_, _-_, _%_, _≤_, _<_}
 use native.Mathlib.Omega.{arith}
 use native.Mathlib.Decide.{ℕ-discrete}
-use lib.Dec.{eqb}
 use Rattle.arrival.specs.declared.Shape.{Shape}
 use Rattle.arrival.specs.declared.Worker.{Worker}
-use Rattle.calendar.specs.Views.{upd-same, upd-other, upd-cases}
+use Rattle.calendar.specs.Views.{upd-same, upd-other}
 use Rattle.lists.specs.Chain.{In, Distinct, Spot, Edge, insertAt, removeAt}
 use Rattle.lists.specs.Linking.{Chains, setChain}
 use Rattle.lists.specs.Table.{with-record}

@@ -1,19 +1,16 @@
 -- A put's start fills in a free node, and the lists keep. Assumes nothing.
-use mathlib.Core.Path.{_≡_, refl, sym, ap, _∙_, subst}
-use mathlib.Core.List.{List, [], _∷_, Memᴰ·cast}
-use mathlib.Core.Bool.{Bool, true, false, cond}
+use mathlib.Core.Path.{_≡_, refl, sym, ap, _∙_}
 use mathlib.Core.Logic.{_≢_, _⊎_, inl, inr}
-use Prim.Native.Nat.{ℕ, zero, suc, _+_, _*_, _-_, _/_, _%_, _≤_, _<_}
+use Prim.Native.Nat.{ℕ, _+_, _/_, _%_, _≤_, _<_}
 use native.Mathlib.Omega.{arith}
-use lib.Dec.{eqb}
 use Rattle.arrival.specs.declared.Shape.{Shape}
-use Rattle.calendar.specs.Layout.{Place, word, cell, field}
+use Rattle.calendar.specs.Layout.{field}
 use Rattle.arrival.specs.declared.Item.{Item}
-use Rattle.arrival.specs.Keys.{lower, itemBucket}
+use Rattle.arrival.specs.Keys.{itemBucket}
 use Rattle.calendar.specs.Views.{View, update, itemIn, Lt, upd-same, upd-other, upd-cases}
-use Rattle.lists.specs.Chain.{In, Runs, Ascends, ascends-map}
-use Rattle.lists.specs.Knowledge.{Private, Stable}
-use Rattle.lists.specs.Linking.{Chains, home, Member, Safe, Follows, Lists}
+use Rattle.lists.specs.Chain.{In, ascends-map}
+use Rattle.lists.specs.Knowledge.{Stable}
+use Rattle.lists.specs.Linking.{Chains, home, Safe, Follows, Lists}
 
 abbrev pub filled : ℕ → Item → View → View
 filled x a m = update (field 7 x) 1 (update (field 5 x) (a .distance) (update (field 4 x) (a .order) (update (field 3 x) (a .path) (update (field 2 x) (a .ticket) (update (field 1 x) (a .time) m)))))

@@ -1,18 +1,15 @@
 -- What a call's record knows of the lists while it searches, that it is kept by any change that is `Stable` for the call,
 -- and that linking and unlinking by another call are. Assumes nothing.
-use mathlib.Core.Path.{_≡_, refl, sym, ap, _∙_, subst}
-use mathlib.Core.List.{List, [], _∷_, List·Memᴰ·head, List·Memᴰ·tail, Memᴰ·cast}
-use mathlib.Core.Bool.{Bool, true, false, cond}
+use mathlib.Core.Path.{_≡_, refl, sym, ap, _∙_}
+use mathlib.Core.List.{Memᴰ·cast}
 use mathlib.Core.Logic.{_≢_, _⊎_, inl, inr}
-use Prim.Native.Nat.{ℕ, zero, suc, _+_, _*_, _-_, _/_, _%_, _≤_, _<_}
+use Prim.Native.Nat.{ℕ, _+_, _*_, _/_, _%_, _≤_, _<_}
 use native.Mathlib.Omega.{arith}
-use lib.Dec.{eqb}
 use Rattle.arrival.specs.declared.Shape.{Shape}
 use Rattle.arrival.specs.declared.Worker.{Worker}
-use Rattle.calendar.specs.Layout.{Place, word, cell, field}
-use Rattle.arrival.specs.declared.Item.{Item}
-use Rattle.arrival.specs.Keys.{lower, itemBucket}
-use Rattle.calendar.specs.Views.{View, update, itemIn, Lt, upd-same, upd-other}
+use Rattle.calendar.specs.Layout.{cell, field}
+use Rattle.arrival.specs.Keys.{itemBucket}
+use Rattle.calendar.specs.Views.{View, update, itemIn, Lt, upd-other}
 use Rattle.lists.specs.Chain.{In, Spot, here, spot-of, insertAt, removeAt, in-insert, in-remove, edge-in}
 use Rattle.lists.specs.Linking.{Chains, setChain, set-cases, home, Safe, Lists, Linking, Unlinking, unlinked, edge, link-safe, un-safe, un-standing, out-not-left, marked-cell}
 

@@ -1,19 +1,17 @@
 -- The invariants of the lists, over views, and that linking a node in and taking one out keep them. Assumes nothing.
-use mathlib.Core.Path.{_≡_, refl, sym, ap, _∙_, subst}
-use mathlib.Core.List.{List, [], _∷_, List·Memᴰ·head, List·Memᴰ·tail, Memᴰ·cast}
+use mathlib.Core.Path.{_≡_, refl, sym, ap, _∙_}
+use mathlib.Core.List.{List, Memᴰ·cast}
 use mathlib.Core.Bool.{Bool, true, false, cond}
 use mathlib.Core.Logic.{_≢_, _⊎_, inl, inr}
-use Prim.Native.Nat.{ℕ, zero, suc, _+_, _*_, _-_, _/_, _%_, _≤_, _<_}
+use Prim.Native.Nat.{ℕ, _+_, _*_, _/_, _%_, _≤_, _<_}
 use native.Mathlib.Omega.{arith}
 use lib.Dec.{eqb}
 use borrow.Author.Tests.{eqb-true, eqb-false}
 use Rattle.arrival.specs.declared.Shape.{Shape}
-use Rattle.calendar.specs.Layout.{Place, word, cell, field}
-use Rattle.arrival.specs.declared.Item.{Item}
-use Rattle.arrival.specs.Keys.{lower, itemBucket}
-use Rattle.arrival.specs.Keys.{lower-trans, lower-irr}
+use Rattle.calendar.specs.Layout.{word, cell, field}
+use Rattle.arrival.specs.Keys.{itemBucket, lower-trans, lower-irr}
 use Rattle.calendar.specs.Views.{View, update, itemIn, Lt, upd-same, upd-other, upd-cases}
-use Rattle.lists.specs.Chain.{In, Distinct, Runs, Spot, Edge, Apart, spot-of, insertAt, removeAt, runs-frame, spot-not, insert-runs, edge-of, edge-spot, edge-in, remove-runs, in-insert, insert-own, insert-in, in-remove, remove-in, removed-ne, in-next, Ascends, distinct, insert-ascends, remove-ascends}
+use Rattle.lists.specs.Chain.{In, Distinct, Runs, Spot, Edge, Apart, insertAt, removeAt, runs-frame, spot-not, insert-runs, edge-of, edge-in, remove-runs, in-insert, insert-in, in-remove, remove-in, removed-ne, in-next, Ascends, distinct, insert-ascends, remove-ascends}
 
 -- The chains, as the proof carries them.
 abbrev pub Chains : Type 0
@@ -28,7 +26,7 @@ set-cases P f b x h k q = upd-cases P f b x h k q
 abbrev pub home : Shape → View → ℕ → ℕ
 home sh m n = itemBucket sh (itemIn m n)
 
--- Types of records without a name, so that a update to a view that they do not read leaves them the same type by computation.
+-- Types of records without a name, so that an update to a view that they do not read leaves them the same type by computation.
 abbrev pub Member : Shape → View → ℕ → ℕ → Type 0
 Member sh m b n = record { inRange : b < sh .buckets; isNode : n < sh .nodes; used : m .standing n ≡ 1; at-home : home sh m n ≡ b }
 
@@ -50,7 +48,7 @@ Lists sh m ch Live = record {
       → (m .cells (sh .buckets + n) / 2 ≡ sh .nodes) ⊎ Follows sh m ch c n (m .cells (sh .buckets + n) / 2);
 }
 
--- A update to current, or to a node's epoch, leaves all this as it is, by computation.
+-- An update to current, or to a node's epoch, leaves all this as it is, by computation.
 pub current-keeps : (sh : Shape) (m : View) (ch : Chains) (Live : ℕ → Type 0) (v : ℕ) → Lists sh m ch Live → Lists sh (update (word 0) v m) ch Live
 current-keeps sh m ch Live v I = I
 

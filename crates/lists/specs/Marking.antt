@@ -1,18 +1,14 @@
 -- The other changes keep the lists: a mark (11), a private node's link (4), starts, and a call's end. Assumes nothing.
-use mathlib.Core.Path.{_≡_, refl, sym, ap, _∙_, subst}
-use mathlib.Core.List.{List, [], _∷_, Memᴰ·cast}
-use mathlib.Core.Bool.{Bool, true, false, cond}
+use mathlib.Core.Path.{_≡_, refl, sym, ap, subst}
+use mathlib.Core.List.{Memᴰ·cast}
 use mathlib.Core.Logic.{_≢_, _⊎_, inl, inr}
-use Prim.Native.Nat.{ℕ, zero, suc, _+_, _*_, _-_, _/_, _%_, _≤_, _<_}
+use Prim.Native.Nat.{ℕ, _+_, _*_, _/_, _%_, _≤_, _<_}
 use native.Mathlib.Omega.{arith}
-use lib.Dec.{eqb}
 use Rattle.arrival.specs.declared.Shape.{Shape}
-use Rattle.calendar.specs.Layout.{Place, word, cell, field}
-use Rattle.arrival.specs.declared.Item.{Item}
-use Rattle.arrival.specs.Keys.{itemBucket}
-use Rattle.calendar.specs.Views.{View, update, itemIn, Lt, upd-same, upd-other, upd-cases}
-use Rattle.lists.specs.Chain.{In, Runs, Ascends, runs-half, runs-frame, ascends-map}
-use Rattle.lists.specs.Linking.{Chains, home, Member, Safe, Follows, Lists}
+use Rattle.calendar.specs.Layout.{word, cell}
+use Rattle.calendar.specs.Views.{View, update, upd-other, upd-cases}
+use Rattle.lists.specs.Chain.{In, runs-half, runs-frame}
+use Rattle.lists.specs.Linking.{Chains, Follows, Lists}
 
 -- MARK
 module _ (sh : Shape) (m : View) (ch : Chains) (Live : ℕ → Type 0) (I : Lists sh m ch Live) (x seen : ℕ) (was : m .cells (sh .buckets + x) ≡ seen) where

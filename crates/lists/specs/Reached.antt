@@ -1,9 +1,9 @@
 -- What every history from an opening reaches: lengths, ranges, and the invariant of lists and records. Assumes nothing.
-use mathlib.Core.Path.{_≡_, refl, sym, ap, _∙_, subst, subst⁻¹}
-use mathlib.Core.List.{List, [], _∷_}
+use mathlib.Core.Path.{_≡_, refl, sym, ap, subst⁻¹}
+use mathlib.Core.List.{List, []}
 use mathlib.Core.Bool.{Bool, true, false, cond, not, _&&_, _||_}
 use mathlib.Core.Logic.{_≢_, _⊎_, inl, inr}
-use Prim.Native.Nat.{ℕ, zero, suc, _+_, _*_, _-_, _/_, _%_, _≤_, _<_}
+use Prim.Native.Nat.{ℕ, _+_, _-_, _≤_, _<_}
 use native.Mathlib.Omega.{arith}
 use lib.Dec.{eqb, leb, lit<}
 use lib.ListN.{length, getD, set, length-set}
@@ -12,34 +12,32 @@ use borrow.Author.Tests.{eqb-true, eqb-false, leb-true, leb-false, ne-eqb}
 use Rattle.arrival.specs.declared.Shape.{Shape}
 use Rattle.arrival.specs.declared.Arrival.{Arrival}
 use Rattle.arrival.specs.declared.Worker.{Worker}
-use Rattle.arrival.specs.declared.Action.{Action}
 use Rattle.arrival.specs.declared.Action.the-variants.{Enqueue, Dequeue, Step}
-use Rattle.arrival.specs.Keys.{bucketOf, itemBucket, item-bucket, bucket-below}
+use Rattle.arrival.specs.Keys.{bucketOf, item-bucket, bucket-below}
 use Rattle.arrival.specs.Tests.{never, parts}
-use Rattle.calendar.specs.Layout.{Write, read, word, cell, field, layout, started, lastNode, standing, writeAll}
-use Rattle.calendar.specs.Views.{View, view, update, updates, view-writeAll, AllInside, upd-cases}
+use Rattle.calendar.specs.Layout.{started, standing, writeAll}
+use Rattle.calendar.specs.Views.{view, updates, view-writeAll, AllInside, upd-cases}
 use Rattle.calendar.specs.Every.{every, every-at}
 use Rattle.calendar.specs.Ranges.{blank, worker}
 use Rattle.calendar.specs.RangeFacts.{StoreRanges, RecordRanges}
-use Rattle.calendar.specs.Reclaim.{inProgress, startedBy, isFree, firstFree}
+use Rattle.calendar.specs.Reclaim.{startedBy, isFree, firstFree}
 use Rattle.calendar.specs.FirstFree.{first-free-node, first-free-free}
 use Rattle.calendar.specs.Opening.{openStore, openTable}
 use Rattle.calendar.specs.Opened.{open-head, open-field, open-worker, open-store-ranged, open-table-ranged}
-use Rattle.calendar.specs.Outcome.{Outcome, withStage}
+use Rattle.calendar.specs.Outcome.{Outcome}
 use Rattle.calendar.specs.Starts.{itemOf, begun, enqueueStart, dequeueStart}
-use Rattle.calendar.specs.Refusals.{openRefusal}
-use Rattle.calendar.specs.Accepted.{Lent, Usable, EnqueueAccepted, DequeueAccepted, StepAccepted, open-accepted, enqueue-accepted, dequeue-accepted, step-accepted}
+use Rattle.calendar.specs.Accepted.{Lent, EnqueueAccepted, DequeueAccepted, StepAccepted}
 use Rattle.calendar.specs.SearchSteps.{leftHolds}
-use Rattle.calendar.specs.Changes.{Change, step-is}
+use Rattle.calendar.specs.Changes.{Change}
 use Rattle.calendar.specs.Inside.{enqueue-inside, dequeue-inside, change-inside, length-writeAll}
 use Rattle.calendar.specs.RangesKept.{leaks, enqueue-ranged, dequeue-ranged, step-ranged}
-use Rattle.calendar.specs.Operations.{Memory, Result, perform, actor, refusal, outcome, act, run}
-use Rattle.lists.specs.Chain.{In, edge-in}
-use Rattle.lists.specs.Linking.{Chains, Lists, edge}
+use Rattle.calendar.specs.Operations.{Memory, perform, outcome}
+use Rattle.lists.specs.Chain.{edge-in}
+use Rattle.lists.specs.Linking.{Chains, edge}
 use Rattle.lists.specs.Filling.{Free}
 use Rattle.lists.specs.Table.{Live, Inv, with-record}
 use Rattle.lists.specs.Starting.{inv-dequeue, inv-enqueue, inv-open}
-use Rattle.lists.specs.Stepping.{R, unlinking, chains-after, inv-step}
+use Rattle.lists.specs.Stepping.{unlinking, chains-after, inv-step}
 
 abbrev pub Reached : Shape → Memory → Chains → Type 0
 Reached sh m ch = record {

@@ -2,14 +2,14 @@
 -- call in progress stands on. Assumes nothing.
 use mathlib.Core.Path.{_≡_, refl, sym, ap, _∙_, subst}
 use mathlib.Core.List.{List, [], _∷_}
-use mathlib.Core.Bool.{Bool, true, false, cond, not, _&&_, _||_}
+use mathlib.Core.Bool.{Bool, true, false, cond, _&&_, _||_}
 use mathlib.Core.Logic.{_≢_, _⊎_, inl, inr}
-use Prim.Native.Nat.{ℕ, zero, suc, _+_, _≤_, _<_}
+use Prim.Native.Nat.{ℕ, _+_, _≤_, _<_}
 use native.Mathlib.Omega.{arith}
-use lib.Dec.{eqb, leb, ltb}
-use lib.ListN.{length, set}
+use lib.Dec.{eqb, leb}
+use lib.ListN.{length}
 use lib.Seq.{getD-set-same}
-use borrow.Author.Tests.{eqb-true, eqb-false, leb-true, leb-false, le-leb, le-ltb}
+use borrow.Author.Tests.{eqb-true, leb-true, leb-false, le-leb, le-ltb}
 use Rattle.arrival.specs.declared.Shape.{Shape}
 use Rattle.arrival.specs.declared.Arrival.{Arrival}
 use Rattle.arrival.specs.declared.Worker.{Worker}
@@ -18,25 +18,24 @@ use Rattle.arrival.specs.declared.Action.the-variants.{Enqueue, Dequeue, Step}
 use Rattle.arrival.specs.declared.Response.{Response}
 use Rattle.arrival.specs.declared.Response.the-variants.{Opened, Begun, Refused}
 use Rattle.arrival.specs.Responses.{said}
-use Rattle.arrival.specs.Tests.{never, parts}
+use Rattle.arrival.specs.Tests.{parts}
 use Rattle.calendar.specs.Layout.{layout, linkCell}
 use Rattle.calendar.specs.Views.{View, view, itemIn}
-use Rattle.calendar.specs.Ranges.{blank, worker, between, shapeInRange, storeInRange, tableInRange}
-use Rattle.calendar.specs.RangeFacts.{StoreRanges, RecordRanges, store-tests, table-tests}
+use Rattle.calendar.specs.Ranges.{blank, worker, between, storeInRange, tableInRange}
+use Rattle.calendar.specs.RangeFacts.{store-tests, table-tests}
 use Rattle.calendar.specs.Reclaim.{firstFree}
 use Rattle.calendar.specs.FirstFree.{first-free-node, first-free-free}
 use Rattle.calendar.specs.Opening.{openStore, openTable}
-use Rattle.calendar.specs.Starts.{enqueueStart, dequeueStart}
+use Rattle.calendar.specs.Starts.{enqueueStart}
 use Rattle.calendar.specs.Refusals.{badShape, tooShort, outOfRange, noWorker, badArrival, tooLate, busy, idle, noTicket, noEpoch, noNode, openRefusal, enqueueRefusal, dequeueRefusal, stepRefusal}
-use Rattle.calendar.specs.Accepted.{Lent, EnqueueAccepted, open-accepted, enqueue-accepted, dequeue-accepted, step-accepted}
+use Rattle.calendar.specs.Accepted.{Lent, open-accepted, enqueue-accepted, dequeue-accepted, step-accepted}
 use Rattle.calendar.specs.Changes.{step-is}
-use Rattle.calendar.specs.Inside.{change-said}
 use Rattle.calendar.specs.Lists.{holds}
 use Rattle.calendar.specs.Untouched.{open-same-size, outcome-said}
 use Rattle.calendar.specs.Ledger.{new}
 use Rattle.calendar.specs.Acting.{by-act}
-use Rattle.calendar.specs.Operations.{Memory, Result, unless, perform, open-pool, actor, refusal, outcome, act, run}
-use Rattle.lists.specs.Linking.{Chains, Safe}
+use Rattle.calendar.specs.Operations.{Memory, Result, perform, open-pool, actor, refusal, outcome, act, run}
+use Rattle.lists.specs.Linking.{Chains}
 use Rattle.lists.specs.Filling.{Free, not-used, not-safe}
 use Rattle.lists.specs.Knowledge.{Private, Stands}
 use Rattle.lists.specs.Table.{Knows, Live, Inv}

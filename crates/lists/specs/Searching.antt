@@ -1,23 +1,15 @@
 -- What a call's record knows at each stage of its search, put together from its parts. Assumes nothing.
-use mathlib.Core.Path.{_≡_, refl, sym, ap, _∙_, subst}
-use mathlib.Core.List.{List, [], _∷_, Memᴰ·cast}
-use mathlib.Core.Bool.{Bool, true, false, cond}
-use mathlib.Core.Logic.{_≢_, _⊎_, inl, inr}
-use Prim.Native.Nat.{ℕ, zero, suc, _+_, _*_, _-_, _/_, _%_, _≤_, _<_}
+use mathlib.Core.Path.{_≡_}
+use mathlib.Core.Logic.{_≢_, _⊎_}
+use Prim.Native.Nat.{ℕ, _+_, _*_, _%_, _≤_, _<_}
 use native.Mathlib.Omega.{arith}
-use lib.Dec.{eqb}
-use borrow.Author.Tests.{eqb-true, eqb-false}
 use Rattle.arrival.specs.declared.Shape.{Shape}
 use Rattle.arrival.specs.declared.Worker.{Worker}
-use Rattle.calendar.specs.Layout.{Place, word, cell, field}
-use Rattle.arrival.specs.declared.Item.{Item}
-use Rattle.arrival.specs.Keys.{lower}
-use Rattle.calendar.specs.Outcome.{withStage, withSeen, withLeft, withRight}
-use Rattle.arrival.specs.Keys.{lower-total}
-use Rattle.calendar.specs.Views.{View, view, itemIn, Lt}
-use Rattle.lists.specs.Linking.{Chains, home, Safe, Follows, Lists, safe-next}
-use Rattle.lists.specs.Knowledge.{Private, Stands, Searches}
-use Rattle.lists.specs.Table.{Knows, Live, Inv}
+use Rattle.calendar.specs.Outcome.{withStage}
+use Rattle.calendar.specs.Views.{View, Lt}
+use Rattle.lists.specs.Linking.{Chains, home}
+use Rattle.lists.specs.Knowledge.{Private, Stands}
+use Rattle.lists.specs.Table.{Knows}
 
 abbrev pub Left : Shape → View → Chains → Worker → Type 0
 Left sh m ch w = (w .left ≡ w .bucket) ⊎ ((k : ℕ) × (w .left ≡ sh .buckets + k) × Stands sh m ch (w .ticket) (w .bucket) k × Lt m k (w .own))

@@ -1,28 +1,24 @@
 -- Starts keep the invariant of lists and records. Assumes nothing.
-use mathlib.Core.Path.{_≡_, refl, sym, ap, _∙_, subst}
-use mathlib.Core.List.{List, [], _∷_, Memᴰ·cast}
-use mathlib.Core.Bool.{Bool, true, false, cond}
+use mathlib.Core.Path.{_≡_, refl, sym, ap, _∙_}
+use mathlib.Core.List.{[]}
 use mathlib.Core.Logic.{_≢_, _⊎_, inl, inr}
-use Prim.Native.Nat.{ℕ, zero, suc, _+_, _*_, _-_, _/_, _%_, _≤_, _<_}
+use Prim.Native.Nat.{ℕ, _+_, _*_, _≤_, _<_}
 use native.Mathlib.Omega.{arith}
-use lib.Dec.{eqb}
 use Rattle.arrival.specs.declared.Shape.{Shape}
 use Rattle.arrival.specs.declared.Worker.{Worker}
-use Rattle.calendar.specs.Layout.{Place, word, cell, field}
+use Rattle.calendar.specs.Layout.{word}
 use Rattle.arrival.specs.declared.Item.{Item}
 use Rattle.arrival.specs.Keys.{itemBucket}
 use Rattle.calendar.specs.Outcome.{withStage}
-use Rattle.calendar.specs.Views.{View, update, itemIn, Lt, upd-same, upd-other, upd-cases}
-use Rattle.lists.specs.Chain.{In}
-use Rattle.lists.specs.Linking.{Chains, home, Lists}
+use Rattle.calendar.specs.Views.{View, update, itemIn, upd-same, upd-cases}
+use Rattle.lists.specs.Linking.{Chains}
 use Rattle.lists.specs.Marking.{fewer-keeps, more-keeps}
-use Rattle.lists.specs.Knowledge.{Private, Stable}
 use Rattle.lists.specs.Table.{Knows, Live, Inv, with-record, knows-stable}
 use Rattle.lists.specs.Searching.{at-stage}
 use Rattle.lists.specs.Filling.{filled, Free, begin-keeps, begin-stable, not-in}
 
 module _ (sh : Shape) (m : View) (ch : Chains) (T : ℕ → Worker) (I : Inv sh m ch T) (i : ℕ) (l : i < sh .workers) (w : Worker) (new : w .ticket ≡ m .started + 1) where
-  -- the live stamps: the old ones and the new one
+  -- the live tickets: the old ones and the new one
   grown : (c : ℕ) → Live (sh .workers) (with-record T i w) c → Live (sh .workers) T c ⊎ (c ≡ m .started + 1)
   grown c (j, jl, js, jc) =
       upd-cases (λ j v. j < sh .workers → v .stage ≢ 0 → v .ticket ≡ c → Live (sh .workers) T c ⊎ (c ≡ m .started + 1)) T i w (λ a b q. inr (sym q ∙ new)) (λ j h a b q. inl (j, a, b, q)) j jl js jc

@@ -1,22 +1,22 @@
 -- Every turn keeps the invariant of lists and records: one match over the changes. Assumes nothing.
 use mathlib.Core.Path.{_≡_, refl, sym, ap, _∙_, subst}
 use mathlib.Core.List.{List, [], _∷_, List·Memᴰ·head, Memᴰ·cast}
-use mathlib.Core.Bool.{Bool, true, false, cond}
+use mathlib.Core.Bool.{true}
 use mathlib.Core.Logic.{_≢_, _⊎_, inl, inr}
-use Prim.Native.Nat.{ℕ, zero, suc, _+_, _*_, _-_, _/_, _%_, _≤_, _<_}
+use Prim.Native.Nat.{ℕ, suc, _+_, _*_, _/_, _%_, _≤_, _<_}
 use native.Mathlib.Omega.{arith}
 use borrow.Author.Tests.{eqb-true, eqb-false, ltb-true, ltb-false}
 use Rattle.arrival.specs.declared.Shape.{Shape}
 use Rattle.arrival.specs.declared.Worker.{Worker}
 use Rattle.arrival.specs.Keys.{lower-total}
-use Rattle.calendar.specs.Layout.{Write, cell, field, word, read, linkCell, link, current, itemAt}
-use Rattle.calendar.specs.Outcome.{Outcome, withStage, withOwn, withBucket, withLeft, withRight, withSeen, withCurrent}
-use Rattle.calendar.specs.SearchSteps.{rightIsMarked, leftHolds, unlink}
+use Rattle.calendar.specs.Layout.{Write, field, word, linkCell, link, current, itemAt}
+use Rattle.calendar.specs.Outcome.{Outcome, withStage, withOwn, withBucket, withRight, withSeen, withCurrent}
+use Rattle.calendar.specs.SearchSteps.{leftHolds, unlink}
 use Rattle.calendar.specs.EnqueueSteps.{ownEpoch, prepare, linkOwn, renewCurrent}
-use Rattle.calendar.specs.DequeueSteps.{linkHolds, markNode, nodeIsMarked, nodeIsNewer, nextCurrent}
+use Rattle.calendar.specs.DequeueSteps.{linkHolds, markNode, nextCurrent}
 use Rattle.calendar.specs.Inside.{found-writes, settled-writes, walked-writes}
 use Rattle.calendar.specs.Changes.{Found, put-found, take-ends, Settled, at-end, goes-on, Walked, out, out-last, meets, Change, head-read, mark-seen, passed, stopped, unlinked, again-3, prepared, linked, again-5, stored-6, on-7, stored-7, back-6, current-read, first-read, mark-passed, newer, on-11, marked, back-10, advanced, back-12, emptied, back-13}
-use Rattle.calendar.specs.Views.{View, view, update, updates, itemIn, Lt, upd-same, upd-other}
+use Rattle.calendar.specs.Views.{View, view, update, updates, Lt, upd-same}
 use Rattle.lists.specs.Chain.{In, Runs, insertAt, removeAt, insert-own}
 use Rattle.lists.specs.Linking.{Chains, setChain, home, Safe, Follows, Lists, Linking, Unlinking, edge, link-keeps, unlink-keeps, safe-next}
 use Rattle.lists.specs.Marking.{mark-keeps, private-keeps}

@@ -1,16 +1,12 @@
 -- The sum of document 01 holds after every history from an opening. Assumes nothing.
-use mathlib.Core.Path.{_≡_, refl, sym, ap, _∙_, subst, subst⁻¹}
+use mathlib.Core.Path.{_≡_, refl, sym, ap, _∙_, subst⁻¹}
 use mathlib.Core.Bool.{Bool, true, false, cond}
-use mathlib.Core.Logic.{_≢_}
-use mathlib.Core.Option.{Option, some}
+use mathlib.Core.Option.{some}
 use mathlib.Core.List.{List, [], _∷_}
 use Prim.Native.Nat.{ℕ, zero, suc, _+_, _-_, _%_, _≤_, _<_}
 use native.Mathlib.Omega.{arith}
-use lib.Dec.{eqb}
-use lib.ListN.{set}
 use borrow.Author.Tests.{eqb-true, eqb-false}
 use Rattle.arrival.specs.declared.Shape.{Shape}
-use Rattle.arrival.specs.declared.Arrival.{Arrival}
 use Rattle.arrival.specs.declared.Worker.{Worker}
 use Rattle.arrival.specs.declared.Action.{Action}
 use Rattle.arrival.specs.declared.Action.the-variants.{Enqueue, Dequeue, Step}
@@ -34,7 +30,7 @@ use Rattle.calendar.specs.Ledger.{Ledger, new, marks, hears, sees, succeeds-11,
 use Rattle.calendar.specs.Acting.{by-act}
 use Rattle.calendar.specs.Lists.{bucketList, unmarkedIn, unmarkedTo, hasLinked, hasMarked, workersWith}
 use Rattle.lists.specs.Linking.{Chains}
-use Rattle.lists.specs.Table.{Inv, with-record}
+use Rattle.lists.specs.Table.{with-record}
 use Rattle.lists.specs.Stepping.{chains-after}
 use Rattle.lists.specs.Reached.{Reached, table-set, reached-enqueue, reached-dequeue, reached-step}
 use Rattle.lists.specs.Reuse.{opened, open-reaches}
@@ -160,8 +156,12 @@ module _ (sh : Shape) where
         chains = λ b. [];
         reached = open-reaches sh m e;
         balanced = subst⁻¹ (λ (n : Memory). Balanced sh (view sh (n .store)) (λ b. []) (worker (n .table)) new) q
-            (omega (arith, tally-none linkedBit (worker (openTable sh (m .table))) (sh .workers) (λ j h. linked-low (worker (openTable sh (m .table)) j) (idle j h .0)),
-            tally-none markedBit (worker (openTable sh (m .table))) (sh .workers) (λ j h. marked-idle (worker (openTable sh (m .table)) j) (idle j h .1)), total-none (view sh (openStore sh (m .store)) .cells) (sh .buckets)));
+            (omega (
+              arith,
+              tally-none linkedBit (worker (openTable sh (m .table))) (sh .workers) (λ j h. linked-low (worker (openTable sh (m .table)) j) (idle j h .0)),
+              tally-none markedBit (worker (openTable sh (m .table))) (sh .workers) (λ j h. marked-idle (worker (openTable sh (m .table)) j) (idle j h .1)),
+              total-none (view sh (openStore sh (m .store)) .cells) (sh .buckets),
+            ));
       }
     where
       idle : (j : ℕ) → j < sh .workers → (worker (openTable sh (m .table)) j .stage ≤ 5) × (worker (openTable sh (m .table)) j .stage ≡ 0)
@@ -200,8 +200,13 @@ module _ (sh : Shape) where
   sum-balances m e h lists listed =
       let S = summed m e h in
       let n = run sh (open-pool sh m .memory) h in
-      omega (arith, S .balanced, workers-are (n .table) hasLinked (sh .workers), workers-are (n .table) hasMarked (sh .workers),
-      unmarked-are (n .store) lists (S .chains) (sh .buckets) (λ b l. one-list (sym (listed b l) ∙ walk-meets sh (n .store) (S .chains) _ (S .reached .inv .lists) b l)))
+      omega (
+        arith,
+        S .balanced,
+        workers-are (n .table) hasLinked (sh .workers),
+        workers-are (n .table) hasMarked (sh .workers),
+        unmarked-are (n .store) lists (S .chains) (sh .buckets) (λ b l. one-list (sym (listed b l) ∙ walk-meets sh (n .store) (S .chains) _ (S .reached .inv .lists) b l)),
+      )
     where
       one-list : {a b : List ℕ} → some a ≡ some b → a ≡ b
       one-list {a} {b} q = let z : a ≡ b = cc in z

@@ -1,21 +1,16 @@
 -- All calls together: the invariant of lists and records, and that a put's link (stage 5) keeps it whole. Assumes nothing.
-use mathlib.Core.Path.{_≡_, refl, sym, ap, _∙_, subst}
-use mathlib.Core.List.{List, [], _∷_}
-use mathlib.Core.Bool.{Bool, true, false, cond}
-use mathlib.Core.Logic.{_≢_, _⊎_, inl, inr}
-use Prim.Native.Nat.{ℕ, zero, suc, _+_, _*_, _-_, _/_, _%_, _≤_, _<_}
+use mathlib.Core.Path.{_≡_, refl, sym, ap, _∙_}
+use mathlib.Core.Bool.{cond}
+use mathlib.Core.Logic.{_≢_, _⊎_}
+use Prim.Native.Nat.{ℕ, suc, _/_, _%_, _≤_, _<_}
 use native.Mathlib.Omega.{arith}
 use lib.Dec.{eqb}
 use Rattle.arrival.specs.declared.Shape.{Shape}
 use Rattle.arrival.specs.declared.Worker.{Worker}
-use Rattle.calendar.specs.Layout.{Place, word, cell, field}
 use Rattle.arrival.specs.declared.Item.{Item}
-use Rattle.arrival.specs.Keys.{itemBucket}
-use Rattle.calendar.specs.Outcome.{withStage}
-use Rattle.calendar.specs.Views.{View, update, itemIn, Lt, upd-same, upd-other, upd-cases}
-use Rattle.lists.specs.Chain.{In, insertAt, insert-own}
-use Rattle.lists.specs.Linking.{Chains, setChain, set-cases, home, Safe, Lists, Linking, link-keeps}
-use Rattle.lists.specs.Knowledge.{Private, Stands, Searches, Stable, stands, searches-stable}
+use Rattle.calendar.specs.Views.{View, upd-cases}
+use Rattle.lists.specs.Linking.{Chains, Lists}
+use Rattle.lists.specs.Knowledge.{Stands, Searches, Stable, stands, searches-stable}
 use Rattle.lists.specs.Marking.{fewer-keeps}
 
 abbrev pub Knows : Shape → View → Chains → Worker → Type 0

@@ -1,8 +1,8 @@
 -- The walk from a bucket's head meets its chain and comes to the end; what a chain holds unmarked. Assumes nothing.
 use mathlib.Core.Path.{_≡_, refl, sym, ap, _∙_, subst}
-use mathlib.Core.Bool.{Bool, true, false, cond, not, _&&_}
-use mathlib.Core.Logic.{_≢_, _⊎_, inl, inr}
-use mathlib.Core.Option.{Option, none, some}
+use mathlib.Core.Bool.{Bool, true, false, not, _&&_}
+use mathlib.Core.Logic.{_≢_}
+use mathlib.Core.Option.{some}
 use mathlib.Core.List.{List, [], _∷_, List·Memᴰ·head, List·Memᴰ·tail}
 use Prim.Native.Nat.{ℕ, zero, suc, _+_, _/_, _%_, _≤_, _<_}
 use native.Mathlib.Omega.{arith}
@@ -12,11 +12,10 @@ use lib.ListN.{length}
 use borrow.Author.Tests.{eqb-true, eqb-false, eq-eqb, ne-eqb}
 use Rattle.arrival.specs.declared.Shape.{Shape}
 use Rattle.arrival.specs.declared.Item.{Item}
-use Rattle.arrival.specs.declared.Worker.{Worker}
-use Rattle.arrival.specs.Tests.{parts, never}
+use Rattle.arrival.specs.Tests.{parts}
 use Rattle.calendar.specs.Layout.{link, itemAt, isMarked}
-use Rattle.calendar.specs.Views.{View, view}
-use Rattle.calendar.specs.Lists.{onto, nodesFrom, bucketList, unmarkedIn, sameItem, unmarkedOf}
+use Rattle.calendar.specs.Views.{view}
+use Rattle.calendar.specs.Lists.{onto, nodesFrom, bucketList, sameItem, unmarkedOf}
 use Rattle.lists.specs.Chain.{In, Distinct, Runs}
 use Rattle.lists.specs.Linking.{Chains, chain-distinct, Lists}
 

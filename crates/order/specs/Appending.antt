@@ -1,13 +1,13 @@
 -- The other changes of the order: a call ends, an entry is appended, a scan is set to the end, a walk goes on. Assumes nothing.
 use mathlib.Core.Path.{_≡_, refl, sym, _∙_, ap, subst}
 use mathlib.Core.Logic.{_⊎_, inl, inr}
-use mathlib.Core.List.{List, [], _∷_, _++_, append-assoc, append-nil, List·Memᴰ as Mem, List·Memᴰ·head as here, List·Memᴰ·tail as there, List·Memᴰ·cases-cons as mem-cons, List·Memᴰ·append-cases as mem-append, Memᴰ·append-left as mem-left, Memᴰ·append-right as mem-right}
+use mathlib.Core.List.{List, [], _∷_, _++_, List·Memᴰ as Mem, List·Memᴰ·head as here, List·Memᴰ·tail as there, List·Memᴰ·append-cases as mem-append, Memᴰ·append-right as mem-right}
 use Prim.Native.Nat.{ℕ, _≤_, _<_}
 use native.Mathlib.Omega.{arith}
 use native.Mathlib.Decide.{ℕ-discrete}
-use Rattle.order.specs.Entries.{Keys, Element, Entry, enqueue, dequeue, empty, scan, Q, Order, keep, ticket, bucket, without, step, run, Walk, Ok, Legal, run-append, walk-append}
-use Rattle.order.specs.Time.{End, running, ended, Hist, NotBefore, Settled, end-of, ticket-of, InTime, Timely, pairs-snoc, Elder, AgeAt, Aged, Done}
-use Rattle.order.specs.Scans.{Walker, Sight, At, Marks, marks-find, Alike, nil, both, left, right, alike-run, alike-unscan, sight-alike, unscan, running-ended}
+use Rattle.order.specs.Entries.{Keys, Element, Entry, enqueue, dequeue, empty, scan, Q, Order, keep, ticket, bucket, without, step, run, Walk, Ok, run-append, walk-append}
+use Rattle.order.specs.Time.{End, running, ended, Hist, NotBefore, Settled, end-of, ticket-of, InTime, Timely, pairs-snoc, Elder, AgeAt}
+use Rattle.order.specs.Scans.{Walker, Sight, Marks, marks-find, Alike, nil, both, right, alike-run, alike-unscan, sight-alike, unscan, running-ended}
 use Rattle.order.specs.Orders.{Inv, came, inv-alike, inv-unscan}
 
 -- the call c, which ran in H, is over in H′, at s

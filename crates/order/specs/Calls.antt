@@ -1,14 +1,14 @@
 -- CALLS: each call has at most one entry; what inserting a dequeue at the last place does to the entries, and to the scans' number. Assumes nothing.
 use mathlib.Core.Path.{_≡_, refl, sym, _∙_, ap, subst}
 use mathlib.Core.Logic.{_⊎_, inl, inr}
-use mathlib.Core.List.{List, [], _∷_, _++_, append-assoc, append-nil, List·Memᴰ as Mem, List·Memᴰ·head as here, List·Memᴰ·tail as there, List·Memᴰ·cases-cons as mem-cons, List·Memᴰ·append-cases as mem-append, Memᴰ·append-left as mem-left, Memᴰ·append-right as mem-right}
-use Prim.Native.Nat.{ℕ, _+_, _≤_, _<_}
+use mathlib.Core.List.{[], _∷_, _++_, List·Memᴰ as Mem, List·Memᴰ·head as here, List·Memᴰ·tail as there, List·Memᴰ·cases-cons as mem-cons, Memᴰ·append-left as mem-left, Memᴰ·append-right as mem-right}
+use Prim.Native.Nat.{ℕ, _+_}
 use native.Mathlib.Omega.{arith}
 use native.Mathlib.Decide.{ℕ-discrete}
-use Rattle.order.specs.Entries.{Keys, Element, Entry, enqueue, dequeue, empty, scan, Q, Order, keep, ticket, same?, without, mem-without, without-mem, mem?, step, run}
+use Rattle.order.specs.Entries.{Keys, Element, Entry, enqueue, dequeue, empty, scan, Q, Order, keep, ticket, same?, without, mem-without, mem?, step, run}
 use Rattle.order.specs.Place.{Place, Own, own?, strip}
 use Rattle.order.specs.Insertion.{with-dequeue, with-enqueue}
-use Rattle.order.specs.Time.{ticket-of, Pairs, pairs-right, pairs-cross, pairs-insert, pairs-strip, strip-mem}
+use Rattle.order.specs.Time.{ticket-of, Pairs, pairs-right, pairs-insert, pairs-strip, strip-mem}
 use Rattle.order.specs.Scans.{staying, moving, only, unscan}
 
 abbrev pub one-if : {P : Type 0} → Dec P → ℕ
@@ -51,7 +51,7 @@ module _ {K : Keys} where
       go (no l) (inl g) ih = here g
       go (no l) (inr k) ih = there (ih k)
 
-  -- what was enqueue and not taken is there
+  -- what was enqueued and not taken is there
   pub there-yet : (S : Q K) (A : Order K) (x : Element K) → ((c : ℕ) → ¬ Mem (dequeue x c) A) → Mem x S ⊎ Mem (enqueue x) A → Mem x (run S A)
   there-yet S [] x n (inl m) = m
   there-yet S [] x n (inr m) = elim m [ ]

@@ -1,15 +1,15 @@
 -- The order after step 11's success, entry by entry. Assumes nothing.
-use mathlib.Core.Path.{_≡_, refl, sym, _∙_, ap, subst}
+use mathlib.Core.Path.{_≡_, refl, sym, ap, subst}
 use mathlib.Core.Logic.{_⊎_, inl, inr}
-use mathlib.Core.List.{List, [], _∷_, _++_, List·Memᴰ as Mem, List·Memᴰ·head as here, List·Memᴰ·tail as there, List·Memᴰ·cases-cons as mem-cons, List·Memᴰ·append-cases as mem-append, Memᴰ·append-left as mem-left, Memᴰ·append-right as mem-right}
-use Prim.Native.Nat.{ℕ, _+_, _≤_, _<_}
+use mathlib.Core.List.{[], _∷_, _++_, List·Memᴰ as Mem, List·Memᴰ·head as here, List·Memᴰ·tail as there, List·Memᴰ·append-cases as mem-append, Memᴰ·append-left as mem-left, Memᴰ·append-right as mem-right}
+use Prim.Native.Nat.{ℕ, _+_, _<_}
 use native.Mathlib.Omega.{arith}
 use native.Mathlib.Decide.{ℕ-discrete}
-use Rattle.order.specs.Entries.{Keys, Element, Entry, enqueue, dequeue, empty, scan, Q, Order, keep, _≺_, ticket, same?, without, mem-without, without-mem, mem?, step, run, Walk, Ok, Legal, run-append}
+use Rattle.order.specs.Entries.{Keys, Element, Entry, enqueue, dequeue, empty, scan, Q, Order, ticket, without, without-mem, mem?, step, run, Ok, Legal, run-append}
 use Rattle.order.specs.Place.{Place, Own, own?, strip}
 use Rattle.order.specs.Insertion.{with-dequeue, with-enqueue}
-use Rattle.order.specs.Time.{End, running, ended, Hist, ticket-of, Pairs, strip-mem}
-use Rattle.order.specs.Scans.{Walker, Alike, alike-mem, alike-sym, alike-append, alike-unscan, alike-pairs, staying, moving, unscan}
+use Rattle.order.specs.Time.{running, Hist, ticket-of, strip-mem}
+use Rattle.order.specs.Scans.{Walker, Alike, alike-mem, alike-sym, alike-unscan, alike-pairs, staying, moving, unscan}
 use Rattle.order.specs.Orders.{Inv, Taking, Where, came, place, after-a, after-b, alike-a, alike-b, inv-a, inv-b, queue-a, queue-b}
 use Rattle.order.specs.Appending.{unscan-mem}
 use Rattle.order.specs.Calls.{one-if, Call, Apart, Distinct, mem-strip, distinct-a, distinct-b, scans, scans-append, scans-strip, scans-staying, scans-unscan, scans-a}
@@ -57,7 +57,7 @@ scans-b {K} S x L p c v w n =
     let B : Order K = strip (p .back) x in
     omega (arith, scans-unscan v w (A ++ enqueue x ∷ dequeue x c ∷ (M ++ B)) n, scans-append v A (enqueue x ∷ dequeue x c ∷ (M ++ B)), scans-append v M B, scans-staying v S x (p .front), scans-strip v (p .back) x, scans-append v (p .front) (p .back), ap (scans v) (p .split))
 
--- ── what was enqueue once and taken is gone ──
+-- ── what was enqueued once and taken is gone ──
 pub taken-gone : {K : Keys} (S : Q K) (L : Order K) (x : Element K) (d : ℕ) → Legal S L → Distinct L → (Mem x S → ¬ Mem (enqueue x) L) → Mem (dequeue x d) L → ¬ Mem x (run S L)
 taken-gone {K} S (e ∷ L) x d l D once (here g) k = go (subst (λ f. Mem x (run (step S f) L)) (sym g) k) (subst (λ f. Ok S f) (sym g) (l .0) .0)
   where
@@ -76,7 +76,7 @@ taken-gone {K} S (e ∷ L) x d l D once (there m) k = taken-gone (step S e) L x 
     fresh (empty c) a o i j = o i (there j)
     fresh (scan w) a o i j = o i (there j)
 
--- what is taken was there or was enqueue
+-- what is taken was there or was enqueued
 pub taken-enqueued : {K : Keys} (S : Q K) (L : Order K) (x : Element K) (d : ℕ) → Legal S L → Mem (dequeue x d) L → Mem x S ⊎ Mem (enqueue x) L
 taken-enqueued {K} S (e ∷ L) x d l (here g) = inl (subst (λ f. Ok S f) (sym g) (l .0) .0)
 taken-enqueued {K} S (e ∷ L) x d l (there m) = go e (taken-enqueued (step S e) L x d (l .1) m)

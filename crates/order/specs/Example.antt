@@ -1,12 +1,12 @@
 -- The laws can be met: an instance on numbers, a legal order, an illegal one, and a taking whose facts all hold. Assumes nothing.
-use mathlib.Core.Path.{_≡_, refl, sym, _∙_, ap, subst}
+use mathlib.Core.Path.{_≡_, refl, ap}
 use mathlib.Core.Logic.{_⊎_, inl, inr, ite, if-pos, if-neg}
-use mathlib.Core.List.{List, [], _∷_, _++_, List·Memᴰ as Mem, List·Memᴰ·head as here, List·Memᴰ·tail as there}
-use Prim.Native.Nat.{ℕ, _+_, _≤_, _<_}
+use mathlib.Core.List.{[], _∷_, List·Memᴰ as Mem, List·Memᴰ·head as here, List·Memᴰ·tail as there}
+use Prim.Native.Nat.{ℕ, _≤_, _<_}
 use native.Mathlib.Omega.{arith}
 use native.Mathlib.Decide.{ℕ-discrete, decLt}
-use Rattle.order.specs.Entries.{Keys, Element, Entry, enqueue, dequeue, empty, scan, Q, Order, _≺_, ticket, without, mem-without, without-mem, step, run, Legal}
-use Rattle.order.specs.Time.{End, running, ended, Hist, Settled, NotBefore, end-of}
+use Rattle.order.specs.Entries.{Keys, Element, Entry, enqueue, dequeue, scan, Order, _≺_, ticket, without, mem-without, without-mem, run, Legal}
+use Rattle.order.specs.Time.{running, ended, Hist, Settled, NotBefore, end-of}
 use Rattle.order.specs.Scans.{Walker, Sight}
 use Rattle.order.specs.Orders.{Inv, Taking, taken}
 

@@ -1,7 +1,7 @@
 -- The fate of an element of an order: it is taken once, or is in the queue at the end. Assumes nothing.
 use mathlib.Core.Path.{_≡_, refl, sym, ap, _∙_, subst}
 use mathlib.Core.Logic.{_⊎_, inl, inr}
-use mathlib.Core.List.{List, [], _∷_, List·Memᴰ as Mem, List·Memᴰ·head as here, List·Memᴰ·tail as there}
+use mathlib.Core.List.{[], _∷_, List·Memᴰ as Mem, List·Memᴰ·head as here, List·Memᴰ·tail as there}
 use Prim.Native.Nat.{ℕ}
 use native.Mathlib.Omega.{arith}
 use Rattle.order.specs.Entries.{Ok, Legal, same?, without, mem-without, without-mem, step, Keys, Element, Entry, enqueue, dequeue, empty, scan, Q, Order, ticket, run}

@@ -1,11 +1,10 @@
 -- What inserting a dequeue at the last place keeps: LEGAL, the queue, REAL TIME, AGE. Assumes nothing.
 use mathlib.Core.Path.{_≡_, refl, sym, _∙_, ap, subst}
 use mathlib.Core.Logic.{_⊎_, inl, inr}
-use mathlib.Core.List.{List, [], _∷_, _++_, append-assoc, List·Memᴰ as Mem, List·Memᴰ·head as here, List·Memᴰ·tail as there, List·Memᴰ·cases-cons as mem-cons}
-use Prim.Native.Nat.{ℕ, _≤_, _<_}
-use native.Mathlib.Omega.{arith}
-use Rattle.order.specs.Entries.{Keys, Element, Entry, enqueue, dequeue, empty, scan, Q, Order, keep, _≺_, ticket, bucket, bucket-up, irrefl, trans, same?, at-most-below, without, without-yes, without-no, without-comm, mem-without, without-mem, Below, any-below?, mem?, step, run, Walk, Ok, Legal, Busy, run-append, walk-append, walk-left, walk-right}
-use Rattle.order.specs.Place.{Place, Own, own?, Calm, calm, step-own, step-less, ok-less, strip, legal-less, run-less}
+use mathlib.Core.List.{[], _∷_, _++_, List·Memᴰ as Mem, List·Memᴰ·head as here, List·Memᴰ·tail as there, List·Memᴰ·cases-cons as mem-cons}
+use Prim.Native.Nat.{ℕ}
+use Rattle.order.specs.Entries.{Keys, Element, Entry, enqueue, dequeue, empty, scan, Q, Order, keep, _≺_, irrefl, without, without-yes, mem-without, Below, step, run, Ok, Legal, Busy, run-append, walk-append, walk-left, walk-right}
+use Rattle.order.specs.Place.{Place, Own, own?, Calm, calm, strip, legal-less, run-less}
 
 module _ {K : Keys} where
   pub strip-none : (B : Order K) (x : Element K) → ((e : Entry K) → Mem e B → ¬ Own e x) → strip B x ≡ B

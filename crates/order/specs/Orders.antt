@@ -1,14 +1,14 @@
 -- Step 11's success on x by the walker w: the order after it, and that it keeps LEGAL, AGE, REAL TIME and SCAN. Assumes nothing.
 use mathlib.Core.Path.{_≡_, refl, sym, _∙_, ap, subst}
 use mathlib.Core.Logic.{_⊎_, inl, inr}
-use mathlib.Core.List.{List, [], _∷_, _++_, append-assoc, append-nil, List·Memᴰ as Mem, List·Memᴰ·head as here, List·Memᴰ·tail as there, List·Memᴰ·cases-cons as mem-cons, List·Memᴰ·append-cases as mem-append, Memᴰ·append-left as mem-left, Memᴰ·append-right as mem-right}
+use mathlib.Core.List.{[], _∷_, _++_, List·Memᴰ as Mem, List·Memᴰ·head as here, List·Memᴰ·tail as there, Memᴰ·append-right as mem-right}
 use Prim.Native.Nat.{ℕ, _≤_, _<_}
 use native.Mathlib.Omega.{arith}
-use Rattle.order.specs.Entries.{Keys, Element, Entry, enqueue, dequeue, empty, scan, Q, Order, keep, _≺_, ticket, bucket, bucket-up, irrefl, trans, same?, without, without-yes, mem-without, without-mem, Below, mem?, step, run, Walk, Ok, Legal, Busy, run-append, walk-append, walk-left, walk-right}
-use Rattle.order.specs.Place.{Place, place-behind, Own, own?, Calm, strip, run-less}
+use Rattle.order.specs.Entries.{Keys, Element, Entry, enqueue, dequeue, empty, scan, Q, Order, _≺_, ticket, bucket, bucket-up, without, without-yes, without-mem, Below, mem?, step, run, Ok, Legal, run-append, walk-right}
+use Rattle.order.specs.Place.{Place, place-behind, Calm, strip, run-less}
 use Rattle.order.specs.Insertion.{calm-all, with-dequeue, with-enqueue, legal-a, legal-b, run-a, run-b}
-use Rattle.order.specs.Time.{End, running, ended, Hist, NotBefore, Settled, end-of, ticket-of, Timely, strip-mem, Elder, AgeAt, Aged, Done, after-ticket, aged-a, aged-b, timely-a, timely-b}
-use Rattle.order.specs.Scans.{Walker, Sight, Marks, Alike, both, From, alike-run, alike-walk, alike-timely, alike-append, alike-staying, alike-moving, alike-mem, alike-unscan, scan-from, staying, moving, unscan, marks-find, marks-right, marks-back, marks-staying, marks-moving, marks-unscan, sight-moved}
+use Rattle.order.specs.Time.{End, running, ended, Hist, NotBefore, end-of, Timely, strip-mem, AgeAt, Aged, Done, after-ticket, aged-a, aged-b, timely-a, timely-b}
+use Rattle.order.specs.Scans.{Walker, Sight, Marks, Alike, both, From, alike-run, alike-walk, alike-timely, alike-append, alike-staying, alike-moving, alike-mem, alike-unscan, staying, moving, unscan, marks-find, marks-right, marks-back, marks-staying, marks-moving, marks-unscan, sight-moved}
 
 pub record Inv {K : Keys} (H : Hist) (W : ℕ → Walker K) (S : Q K) (L : Order K) : Type 0 where
   pub legal : Legal S L
@@ -17,7 +17,7 @@ pub record Inv {K : Keys} (H : Hist) (W : ℕ → Walker K) (S : Q K) (L : Order
   pub timely : Timely H L
   pub marks : Marks H W S L
 
--- what is in the queue was there before, or was enqueue since
+-- what is in the queue was there before, or was enqueued since
 pub came : {K : Keys} (S : Q K) (B : Order K) (x : Element K) → Mem x (run S B) → Mem x S ⊎ Mem (enqueue x) B
 came S [] x m = inl m
 came {K} S (b ∷ B) x m = go b (came (step S b) B x m)

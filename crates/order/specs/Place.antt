@@ -1,9 +1,8 @@
 -- The last place of x in an order, and what stands behind it. Assumes nothing.
-use mathlib.Core.Path.{_≡_, refl, sym, _∙_, ap, subst}
+use mathlib.Core.Path.{_≡_, refl, _∙_, ap, subst}
 use mathlib.Core.Logic.{_⊎_, inl, inr}
-use mathlib.Core.List.{List, [], _∷_, _++_, append-assoc, List·Memᴰ as Mem, List·Memᴰ·head as here, List·Memᴰ·tail as there, List·Memᴰ·cases-cons as mem-cons, Memᴰ·append-right as mem-right}
-use Prim.Native.Nat.{ℕ, _≤_, _<_}
-use Rattle.order.specs.Entries.{Keys, Element, Entry, enqueue, dequeue, empty, scan, Q, Order, keep, _≺_, ticket, bucket, bucket-up, irrefl, trans, same?, at-most-below, without, without-yes, without-no, without-comm, mem-without, without-mem, Below, any-below?, mem?, step, run, Walk, Ok, Legal, Busy, run-append, walk-append, walk-left, walk-right}
+use mathlib.Core.List.{[], _∷_, _++_, append-assoc, List·Memᴰ as Mem, Memᴰ·append-right as mem-right}
+use Rattle.order.specs.Entries.{Keys, Element, Entry, enqueue, dequeue, empty, scan, Q, Order, keep, _≺_, irrefl, same?, at-most-below, without, without-yes, without-no, without-comm, mem-without, without-mem, Below, any-below?, step, run, Ok, Legal, Busy, run-append}
 
 module _ {K : Keys} where
   -- L falls into A, behind which nothing is below x, and B, behind each of whose entries something is

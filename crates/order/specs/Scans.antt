@@ -1,14 +1,14 @@
 -- Scans: places of the order that are no entries. Orders that differ in scans only; SCAN's invariant and what keeps it. Assumes nothing.
 use mathlib.Core.Path.{_≡_, refl, sym, _∙_, ap, subst}
 use mathlib.Core.Logic.{_⊎_, inl, inr}
-use mathlib.Core.List.{List, [], _∷_, _++_, append-assoc, append-nil, List·Memᴰ as Mem, List·Memᴰ·head as here, List·Memᴰ·tail as there, List·Memᴰ·cases-cons as mem-cons, List·Memᴰ·append-cases as mem-append, Memᴰ·append-left as mem-left, Memᴰ·append-right as mem-right}
+use mathlib.Core.List.{[], _∷_, _++_, List·Memᴰ as Mem, List·Memᴰ·head as here, List·Memᴰ·tail as there, List·Memᴰ·append-cases as mem-append, Memᴰ·append-left as mem-left, Memᴰ·append-right as mem-right}
 use Prim.Native.Nat.{ℕ, _≤_, _<_}
 use native.Mathlib.Omega.{arith}
 use native.Mathlib.Decide.{ℕ-discrete}
-use Rattle.order.specs.Entries.{Keys, Element, Entry, enqueue, dequeue, empty, scan, Q, Order, keep, _≺_, ticket, bucket, bucket-up, irrefl, trans, same?, at-most-below, without, without-yes, without-no, without-comm, mem-without, without-mem, Below, any-below?, mem?, step, run, Walk, Ok, Legal, Busy, run-append, walk-append, walk-left, walk-right}
-use Rattle.order.specs.Place.{Place, Own, own?, Calm, calm, step-own, step-less, ok-less, strip, legal-less, run-less}
-use Rattle.order.specs.Insertion.{calm-all, stays-step, stays, with-dequeue, with-enqueue}
-use Rattle.order.specs.Time.{End, running, ended, Hist, NotBefore, Settled, end-of, ticket-of, InTime, Timely, Pairs, strip-mem, Elder, AgeAt, Aged, Done}
+use Rattle.order.specs.Entries.{Keys, Element, Entry, enqueue, dequeue, empty, scan, Q, Order, keep, _≺_, ticket, bucket, bucket-up, without, mem-without, without-mem, Below, mem?, step, run, Walk, run-append}
+use Rattle.order.specs.Place.{Own, own?, Calm, step-own, step-less, strip, run-less}
+use Rattle.order.specs.Insertion.{stays}
+use Rattle.order.specs.Time.{End, running, ended, Hist, NotBefore, end-of, InTime, Timely, Pairs, strip-mem}
 
 pub never-early : (d : End) → NotBefore 0 d
 never-early running = tt

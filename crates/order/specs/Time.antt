@@ -1,12 +1,12 @@
 -- REAL TIME and AGE of an order, and what inserting a dequeue at the last place keeps of them. Assumes nothing.
 use mathlib.Core.Path.{_≡_, refl, sym, _∙_, ap, subst}
 use mathlib.Core.Logic.{_⊎_, inl, inr}
-use mathlib.Core.List.{List, [], _∷_, _++_, append-assoc, List·Memᴰ as Mem, List·Memᴰ·head as here, List·Memᴰ·tail as there, List·Memᴰ·cases-cons as mem-cons, List·Memᴰ·append-cases as mem-append, Memᴰ·append-left as mem-left, Memᴰ·append-right as mem-right}
-use Prim.Native.Nat.{ℕ, _≤_, _<_}
+use mathlib.Core.List.{[], _∷_, _++_, List·Memᴰ as Mem, List·Memᴰ·head as here, List·Memᴰ·tail as there, List·Memᴰ·cases-cons as mem-cons, List·Memᴰ·append-cases as mem-append, Memᴰ·append-left as mem-left, Memᴰ·append-right as mem-right}
+use Prim.Native.Nat.{ℕ, _≤_}
 use native.Mathlib.Omega.{arith}
-use Rattle.order.specs.Entries.{Keys, Element, Entry, enqueue, dequeue, empty, scan, Q, Order, keep, _≺_, ticket, bucket, bucket-up, irrefl, trans, same?, at-most-below, without, without-yes, without-no, without-comm, mem-without, without-mem, Below, any-below?, mem?, step, run, Walk, Ok, Legal, Busy, run-append, walk-append, walk-left, walk-right}
-use Rattle.order.specs.Place.{Place, Own, own?, Calm, calm, step-own, step-less, ok-less, strip, legal-less, run-less}
-use Rattle.order.specs.Insertion.{calm-all, stays-step, stays, with-dequeue, with-enqueue}
+use Rattle.order.specs.Entries.{Keys, Element, Entry, enqueue, dequeue, empty, scan, Q, Order, keep, _≺_, ticket, without, without-yes, without-mem, Below, step, run, Walk, Ok, Legal, Busy, run-append, walk-append, walk-left, walk-right}
+use Rattle.order.specs.Place.{Place, Own, own?, Calm, step-own, step-less, strip}
+use Rattle.order.specs.Insertion.{calm-all, stays-step, with-dequeue, with-enqueue}
 
 -- when a call ended: it is running, or it was answered when `started` was s
 pub data End : Type 0 where
@@ -174,7 +174,7 @@ module _ {K : Keys} (H : Hist) where
       go (inl g) ih = let (q, k, l) = w .0 in rw g (one b q (i′ q k l) (a .0 q k))
       go (inr k) ih = ih k
 
-  -- what is not below x and in the queue at the place is elder than a enqueue behind the place
+  -- what is not below x and in the queue at the place is elder than an enqueue behind the place
   pub elder-behind : (S : Q K) (x : Element K) (B : Order K) (q r : Element K) → ((e : Entry K) → Mem e B → Calm e x) → ¬ (q ≺ x) → Aged S B → Mem q S → Mem (enqueue r) B → Elder q (enqueue r)
   elder-behind S x (b ∷ B) q r c n a m k = go (mem-cons k) (λ j. elder-behind (step S b) x B q r (λ e i. c e (there i)) n (a .1) m′ j)
     where
