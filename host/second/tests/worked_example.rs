@@ -12,6 +12,12 @@ const INPUT: &[u8] = b"OP\x01\x04\x00\x02\x00\x0A\x00\
 const OUTPUT: &str = "open\nbegun 1\non\non\non\non\nstored 1\n\
     begun 2\non\non\non\non\non\non\ntook 5 7 1 1864135\n";
 
+/// The file that the README runs.
+#[test]
+fn the_stored_file() {
+    assert_eq!(include_bytes!("../../../examples/worked_example.turns"), INPUT);
+}
+
 #[test]
 fn through_the_library() {
     let mut output = Vec::new();
