@@ -4,7 +4,7 @@ use mathlib.Core.Logic.{_⊎_, inl, inr}
 use mathlib.Core.List.{List, [], _∷_, _++_, List·Memᴰ as Mem, List·Memᴰ·head as here, List·Memᴰ·tail as there, List·Memᴰ·cases-cons as mem-cons}
 use Prim.Native.Nat.{ℕ, _≤_}
 
--- elements with a strict total order and a bucket that rises with it
+-- elements with a strict weak order, total on different tickets, and a bucket that rises with it
 pub record Keys : Type 1 where
   infix 50 _<ₖ_
   pub X : Type 0
