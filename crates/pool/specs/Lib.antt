@@ -1,0 +1,4 @@
+pub mod Survey
+pub mod Gate
+pub mod Results
+pub mod Cleared

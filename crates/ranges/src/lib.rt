@@ -1,0 +1,124 @@
+// Document 01's ranges as tests: of the shape, of the lent store, of one worker's record.
+ghost use mathlib.Core.Path.{_≡_};
+ghost use Prim.Native.Nat.{_+_, _<_, _≤_};
+ghost use Rattle.calendar.specs.Every.{every};
+ghost use Rattle.calendar.specs.Ranges.{shapeInRange, headInRange, nodeInRange, storeInRange, recordInRange};
+ghost use Rattle.words.specs.Laid.{Laid};
+use arrival::Shape;
+use arrival::Worker;
+use words::get_cell;
+use words::get_field;
+use words::get_word;
+
+// What refusal 1 tests.
+pub fn shape_in_range(shape: Shape) -> bool
+    ensures { λ r. ⌜ r ≡ shapeInRange shape ⌝ }
+{
+    (1 <= shape.workers)
+        & (shape.workers <= 64)
+        & (1 <= shape.nodes)
+        & (shape.nodes <= 4096)
+        & (1 <= shape.buckets)
+        & (shape.buckets <= 256)
+        & (1 <= shape.width)
+        & (shape.width <= 65535)
+}
+
+// The head of bucket b: unmarked, its successor a node or the end.
+pub fn head_in_range(shape: Shape, b: u64, store: &[u64]) -> bool
+    requires { ⌜ Laid shape (now store) ⌝ }
+    requires { ⌜ b < shape .buckets ⌝ }
+    ensures { λ r. ⌜ r ≡ headInRange shape (now (store .entry)) b ⌝ }
+{
+    let head = get_cell(shape, b, store);
+    (head % 2 == 0) & (head / 2 <= shape.nodes)
+}
+
+// The eight words of node n, tested together: no exit at the first that is out of range.
+pub fn node_in_range(shape: Shape, n: u64, store: &[u64]) -> bool
+    requires { ⌜ Laid shape (now store) ⌝ }
+    requires { ⌜ n < shape .nodes ⌝ }
+    ensures { λ r. ⌜ r ≡ nodeInRange shape (now (store .entry)) n ⌝ }
+{
+    let link = get_cell(shape, shape.buckets + n, store);
+    let time = get_field(shape, 1, n, store);
+    let ticket = get_field(shape, 2, n, store);
+    let path = get_field(shape, 3, n, store);
+    let order = get_field(shape, 4, n, store);
+    let distance = get_field(shape, 5, n, store);
+    let epoch = get_field(shape, 6, n, store);
+    let standing = get_field(shape, 7, n, store);
+    (link / 2 <= shape.nodes)
+        & (time < 4294967296)
+        & (ticket < 4294967296)
+        & (path <= 65535)
+        & (order <= 63)
+        & ((1 <= distance) | (standing == 0))
+        & (distance <= 1024)
+        & (epoch < 4294967296)
+        & (standing < 4294967298)
+}
+
+fn heads_in_range(shape: Shape, store: &[u64]) -> bool
+    requires { ⌜ Laid shape (now store) ⌝ }
+    ensures { λ r. ⌜ r ≡ every (shape .buckets) (λ b. headInRange shape (now (store .entry)) b) ⌝ }
+{
+    let buckets = shape.buckets;
+    let mut ok = true;
+    let mut b = 0;
+    while b < buckets {
+        ok = ok & head_in_range(shape, b, store);
+        b += 1;
+    }
+    ok
+}
+
+fn nodes_in_range(shape: Shape, store: &[u64]) -> bool
+    requires { ⌜ Laid shape (now store) ⌝ }
+    ensures { λ r. ⌜ r ≡ every (shape .nodes) (λ n. nodeInRange shape (now (store .entry)) n) ⌝ }
+{
+    let nodes = shape.nodes;
+    let mut ok = true;
+    let mut n = 0;
+    while n < nodes {
+        ok = ok & node_in_range(shape, n, store);
+        n += 1;
+    }
+    ok
+}
+
+// The store's share of refusal 3: three words, the heads, the nodes, in one pass each.
+pub fn store_in_range(shape: Shape, store: &[u64]) -> bool
+    requires { ⌜ Laid shape (now store) ⌝ }
+    ensures { λ r. ⌜ r ≡ storeInRange shape (now (store .entry)) ⌝ }
+{
+    let current = get_word(shape, 0, store);
+    let started = get_word(shape, 1, store);
+    let last = get_word(shape, 2, store);
+    let words = (current / 4294967296 < shape.buckets)
+        & (started < 4294967296)
+        & (last < shape.nodes);
+    words & heads_in_range(shape, store) & nodes_in_range(shape, store)
+}
+
+// A record's share of refusal 3.
+pub fn record_in_range(shape: Shape, w: Worker) -> bool
+    requires { ⌜ 1 ≤ shape .buckets ⌝ }
+    requires { ⌜ shape .buckets + shape .nodes < 65536 ⌝ }
+    ensures { λ r. ⌜ r ≡ recordInRange shape w ⌝ }
+{
+    let k = w.stage;
+    (k <= 13)
+        & (w.kind <= 1)
+        & (!((4 <= k) & (k <= 7)) | (w.kind == 0))
+        & (!((8 <= k) & (k <= 13)) | (w.kind == 1))
+        & (w.own < shape.nodes)
+        & (w.bucket < shape.buckets)
+        & (!(k == 12) | !(w.bucket == shape.buckets - 1))
+        & (w.left < shape.buckets + shape.nodes)
+        & (w.right <= shape.nodes)
+        & (!((2 <= k) & (k <= 3) | (10 <= k) & (k <= 11)) | !(w.right == shape.nodes))
+        & (w.seen / 2 <= shape.nodes)
+        & (w.current / 4294967296 < shape.buckets)
+        & (w.ticket < 4294967296)
+}

@@ -1,0 +1,4 @@
+pub mod Ready
+pub mod Gives
+pub mod Local
+pub mod Unlinking

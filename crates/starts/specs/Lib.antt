@@ -1,0 +1,4 @@
+pub mod Least
+pub mod Free
+pub mod Opening
+pub mod Local

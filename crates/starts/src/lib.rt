@@ -1,0 +1,162 @@
+// The by-value starts: one worker's record and the lent store, after refusals 1 to 4.
+ghost use mathlib.Core.Path.{_≡_};
+ghost use Prim.Native.Nat.{_<_, _≤_};
+ghost use Rattle.calendar.specs.Layout.{writeAll, started, lastNode};
+ghost use Rattle.calendar.specs.Starts.{fill, enqueueStart, dequeueStart};
+ghost use Rattle.words.specs.Done.{done};
+ghost use Rattle.words.specs.Laid.{Laid};
+ghost use Rattle.starts.specs.Local.{gives, refuses, earlyRefusal, localEnqueue, localDequeue};
+use arrival::Arrival;
+use arrival::Item;
+use arrival::Response;
+use arrival::Shape;
+use arrival::Worker;
+use arrival::bucket_of;
+use free::first_free;
+use words::get_word;
+use words::put_field;
+use words::put_word;
+
+pub mod free;
+pub mod opening;
+
+// A worker's record after its start, and the response.
+pub struct Started {
+    pub worker: Worker,
+    pub response: Response,
+}
+
+fn refuse(w: Worker, k: u64) -> Started
+    ensures { λ r. ⌜ r ≡ refuses w k ⌝ }
+{
+    Started {
+        worker: w,
+        response: Response::Refused(k),
+    }
+}
+
+// Node n gets the arrival and its ticket, and is in use.
+fn fill_node(shape: Shape, n: u64, x: Item, store: &mut [u64])
+    requires { ⌜ Laid shape (now store) ⌝ }
+    requires { ⌜ n < shape .nodes ⌝ }
+    ensures { λ r. ⌜ now (store .exit) ≡ writeAll shape (now (store .entry)) (fill n x) ⌝ }
+{
+    put_field(shape, 1, n, x.time, store);
+    put_field(shape, 2, n, x.ticket, store);
+    put_field(shape, 3, n, x.path, store);
+    put_field(shape, 4, n, x.order, store);
+    put_field(shape, 5, n, x.distance, store);
+    put_field(shape, 7, n, 1, store);
+}
+
+// A put start on node n.
+pub fn begin_enqueue(
+    shape: Shape,
+    n: u64,
+    arrival: Arrival,
+    mut w: Worker,
+    store: &mut [u64],
+) -> Started
+    requires { ⌜ Laid shape (now store) ⌝ }
+    requires { ⌜ (started shape (now store) < 4294967296) × (n < shape .nodes) × (1 ≤ shape .width) ⌝ }
+    ensures { λ r. ⌜ gives (now (store .exit)) r ≡ done shape (now (store .entry)) (enqueueStart shape (now (store .entry)) n arrival w) ⌝ }
+{
+    let time = arrival.time as u64;
+    let ticket = get_word(shape, 1, store) + 1;
+    let x = Item {
+        time,
+        path: arrival.path as u64,
+        order: arrival.order as u64,
+        distance: arrival.distance as u64,
+        ticket,
+    };
+    put_word(shape, 1, ticket, store);
+    put_word(shape, 2, n, store);
+    fill_node(shape, n, x, store);
+    w.stage = 1;
+    w.kind = 0;
+    w.own = n;
+    w.bucket = bucket_of(shape, time);
+    w.ticket = ticket;
+    Started {
+        worker: w,
+        response: Response::Begun(ticket),
+    }
+}
+
+// A take start.
+pub fn begin_dequeue(shape: Shape, mut w: Worker, store: &mut [u64]) -> Started
+    requires { ⌜ Laid shape (now store) ⌝ }
+    requires { ⌜ started shape (now store) < 4294967296 ⌝ }
+    ensures { λ r. ⌜ gives (now (store .exit)) r ≡ done shape (now (store .entry)) (dequeueStart shape (now (store .entry)) w) ⌝ }
+{
+    let ticket = get_word(shape, 1, store) + 1;
+    put_word(shape, 1, ticket, store);
+    w.stage = 8;
+    w.kind = 1;
+    w.ticket = ticket;
+    Started {
+        worker: w,
+        response: Response::Begun(ticket),
+    }
+}
+
+// The refusals of a put by its arrival, its worker's stage and word 1: 5, 6, 9 or 11, or 0.
+fn enqueue_refusal(shape: Shape, arrival: Arrival, w: Worker, started: u64) -> u64
+    requires { ⌜ (shape .width ≤ 65535) × (shape .buckets ≤ 256) ⌝ }
+    ensures { λ r. ⌜ r ≡ earlyRefusal shape arrival w started ⌝ }
+{
+    let far = (1 <= arrival.distance) & (arrival.distance <= 1024);
+    if !((arrival.path <= 65535) & (arrival.order <= 63) & far) {
+        return 5;
+    }
+    if shape.buckets * shape.width <= arrival.time as u64 {
+        return 6;
+    }
+    if w.stage != 0 {
+        return 9;
+    }
+    if started == 4294967295 {
+        return 11;
+    }
+    0
+}
+
+// A put start with its refusals; low: the least ticket in progress.
+pub fn start_enqueue(
+    shape: Shape,
+    low: u64,
+    arrival: Arrival,
+    w: Worker,
+    store: &mut [u64],
+) -> Started
+    requires { ⌜ Laid shape (now store) ⌝ }
+    requires { ⌜ (started shape (now store) < 4294967296) × (lastNode shape (now store) < shape .nodes) × (low ≤ 4294967296) × (1 ≤ shape .width) × (shape .width ≤ 65535) ⌝ }
+    ensures { λ r. ⌜ gives (now (store .exit)) r ≡ localEnqueue shape low (now (store .entry)) arrival w ⌝ }
+{
+    let started = get_word(shape, 1, store);
+    let k = enqueue_refusal(shape, arrival, w, started);
+    if k != 0 {
+        return refuse(w, k);
+    }
+    let n = first_free(shape, low, store);
+    if n == shape.nodes {
+        return refuse(w, 12);
+    }
+    begin_enqueue(shape, n, arrival, w, store)
+}
+
+// A take start with its refusals.
+pub fn start_dequeue(shape: Shape, w: Worker, store: &mut [u64]) -> Started
+    requires { ⌜ Laid shape (now store) ⌝ }
+    requires { ⌜ started shape (now store) < 4294967296 ⌝ }
+    ensures { λ r. ⌜ gives (now (store .exit)) r ≡ localDequeue shape (now (store .entry)) w ⌝ }
+{
+    if w.stage != 0 {
+        return refuse(w, 9);
+    }
+    if get_word(shape, 1, store) == 4294967295 {
+        return refuse(w, 11);
+    }
+    begin_dequeue(shape, w, store)
+}

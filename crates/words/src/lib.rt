@@ -1,0 +1,90 @@
+// The lent store by place: reading and writing one word. Only these functions know addresses.
+ghost use mathlib.Core.Path.{_≡_};
+ghost use Prim.Native.Nat.{_+_, _-_, _*_, _<_, _≤_};
+ghost use Rattle.calendar.specs.Layout.{word, cell, field, read, write, itemAt};
+ghost use Rattle.words.specs.Laid.{Laid};
+use arrival::Item;
+use arrival::Shape;
+
+// A cell's address: the heads follow three words, and a node's link is the first of its eight words.
+fn cell_address(buckets: u64, p: u64) -> usize
+    requires { ⌜ (p < 65536) × (buckets ≤ 256) ⌝ }
+    ensures { λ r. ⌜ r ≡ 3 + p + 7 * (p - buckets) ⌝ }
+{
+    if p < buckets {
+        (3 + p) as usize
+    } else {
+        (3 + buckets + 8 * (p - buckets)) as usize
+    }
+}
+
+// One of the first three words.
+pub fn get_word(shape: Shape, k: usize, store: &[u64]) -> u64
+    requires { ⌜ Laid shape (now store) ⌝ }
+    requires { ⌜ k < 3 ⌝ }
+    ensures { λ r. ⌜ r ≡ read shape (now (store .entry)) (word k) ⌝ }
+{
+    store[k]
+}
+
+// A head or a node's link.
+pub fn get_cell(shape: Shape, p: u64, store: &[u64]) -> u64
+    requires { ⌜ Laid shape (now store) ⌝ }
+    requires { ⌜ p < shape .buckets + shape .nodes ⌝ }
+    ensures { λ r. ⌜ r ≡ read shape (now (store .entry)) (cell p) ⌝ }
+{
+    store[cell_address(shape.buckets, p)]
+}
+
+// Field f of node n.
+pub fn get_field(shape: Shape, f: u64, n: u64, store: &[u64]) -> u64
+    requires { ⌜ Laid shape (now store) ⌝ }
+    requires { ⌜ (f < 8) × (n < shape .nodes) ⌝ }
+    ensures { λ r. ⌜ r ≡ read shape (now (store .entry)) (field f n) ⌝ }
+{
+    store[(3 + shape.buckets + 8 * n + f) as usize]
+}
+
+pub fn put_word(shape: Shape, k: usize, v: u64, store: &mut [u64])
+    requires { ⌜ Laid shape (now store) ⌝ }
+    requires { ⌜ k < 3 ⌝ }
+    ensures { λ r. ⌜ now (store .exit) ≡ write shape (now (store .entry)) (word k) v ⌝ }
+{
+    store[k] = v;
+}
+
+pub fn put_cell(shape: Shape, p: u64, v: u64, store: &mut [u64])
+    requires { ⌜ Laid shape (now store) ⌝ }
+    requires { ⌜ p < shape .buckets + shape .nodes ⌝ }
+    ensures { λ r. ⌜ now (store .exit) ≡ write shape (now (store .entry)) (cell p) v ⌝ }
+{
+    store[cell_address(shape.buckets, p)] = v;
+}
+
+pub fn put_field(shape: Shape, f: u64, n: u64, v: u64, store: &mut [u64])
+    requires { ⌜ Laid shape (now store) ⌝ }
+    requires { ⌜ (f < 8) × (n < shape .nodes) ⌝ }
+    ensures { λ r. ⌜ now (store .exit) ≡ write shape (now (store .entry)) (field f n) v ⌝ }
+{
+    store[(3 + shape.buckets + 8 * n + f) as usize] = v;
+}
+
+// The arrival in node n, with its ticket.
+pub fn item_at(shape: Shape, n: u64, store: &[u64]) -> Item
+    requires { ⌜ Laid shape (now store) ⌝ }
+    requires { ⌜ n < shape .nodes ⌝ }
+    ensures { λ r. ⌜ r ≡ itemAt shape (now (store .entry)) n ⌝ }
+{
+    let time = get_field(shape, 1, n, store);
+    let ticket = get_field(shape, 2, n, store);
+    let path = get_field(shape, 3, n, store);
+    let order = get_field(shape, 4, n, store);
+    let distance = get_field(shape, 5, n, store);
+    Item {
+        time,
+        path,
+        order,
+        distance,
+        ticket,
+    }
+}
