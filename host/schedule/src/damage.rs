@@ -40,7 +40,7 @@ impl Damage {
             Wound::Noise,
             Wound::None,
         ]);
-        let at = random.next() % records.max(1);
+        let at = random.draw() % records.max(1);
         Self { wound, at }
     }
 
@@ -83,12 +83,12 @@ impl Damage {
             }
             Wound::ByteInserted => {
                 let at = random.below(bytes.len() as u32 + 1) as usize;
-                bytes.insert(at, random.next() as u8);
+                bytes.insert(at, random.draw() as u8);
                 true
             }
             Wound::Noise => {
                 let length = random.length(7);
-                bytes.extend((0..length).map(|_| random.next() as u8));
+                bytes.extend((0..length).map(|_| random.draw() as u8));
                 false
             }
             Wound::None => true,

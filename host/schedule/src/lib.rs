@@ -1,5 +1,9 @@
-//! Seeded random turn files for the arrival pool.
+//! Turn files for the arrival pool: seeded random ones, and those written by hand.
 #![forbid(unsafe_code)]
+
+pub mod by_hand;
+pub mod orders;
+pub mod script;
 
 mod damage;
 mod generator;
@@ -11,6 +15,8 @@ use std::io::{self, Write};
 
 use damage::Damage;
 pub use generator::{Generator, Options};
+pub use random::Random;
+pub use script::Script;
 
 /// Writes the turn file of a seed.
 pub fn write(seed: u64, records: u64, options: Options, mut output: impl Write) -> io::Result<()> {

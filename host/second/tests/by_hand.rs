@@ -3,97 +3,67 @@
 mod common;
 
 use common::*;
-use second::{energy, field, word, Arrival, Reclamation, Response};
+use schedule::by_hand::{self, ENERGIES};
+use schedule::Script;
+use second::{energy, field, word, Arrival, Reclamation};
 
 fn fresh() -> Lent {
     Lent::open(shape(2, 4, 2, 10))
 }
 
 #[test]
+fn every_case_prints_its_lines() {
+    for (name, script) in by_hand::cases() {
+        println!("{name}");
+        Lent::play(&script);
+        let mut output = Vec::new();
+        second::run(&script.bytes()[..], &mut output).unwrap();
+        assert_eq!(String::from_utf8(output).unwrap(), script.output());
+    }
+}
+
+#[test]
 fn fresh_take_then_put_at_5() {
     let mut lent = fresh();
-    assert_eq!(lent.take(0), begun(1));
-    assert_eq!(lent.finish(0), (5, EMPTY));
+    assert_eq!(lent.take_whole(0), EMPTY);
     assert_eq!(lent.current(), (1, 0));
-
-    assert_eq!(lent.put(0, 5), begun(2));
-    assert_eq!(lent.finish(0), (5, stored(2)));
+    let lent = Lent::play(&by_hand::fresh_take_then_put_at_5());
     assert_eq!(lent.current(), (0, 1));
 }
 
 #[test]
 fn fresh_put_at_15() {
-    let mut lent = fresh();
-    assert_eq!(lent.put(0, 15), begun(1));
-    assert_eq!(lent.finish(0), (4, stored(1)));
+    let lent = Lent::play(&by_hand::fresh_put_at_15());
     assert_eq!(lent.current(), (0, 0));
 }
 
 #[test]
 fn fresh_put_at_5_then_take() {
-    let mut lent = fresh();
-    assert_eq!(lent.put(0, 5), begun(1));
-    assert_eq!(lent.finish(0), (5, stored(1)));
+    let lent = Lent::with_stored(shape(2, 4, 2, 10), &[5]);
     assert_eq!(lent.current(), (0, 1));
-
-    assert_eq!(lent.take(0), begun(2));
-    assert_eq!(lent.finish(0), (7, took(5)));
+    let lent = Lent::play(&by_hand::fresh_put_at_5_then_take());
     assert_eq!(lent.current(), (0, 1));
 }
 
 #[test]
 fn last_time_begins_and_the_next_is_6() {
-    assert_eq!(fresh().put(0, 19), begun(1));
-    assert_eq!(fresh().put(0, 20), refused(6));
-    assert_eq!(fresh().put(0, u32::MAX), refused(6));
+    Lent::play(&by_hand::last_time());
+    Lent::play(&by_hand::time_past_the_last());
 }
 
 #[test]
 fn four_puts_a_busy_worker_and_no_free_node() {
-    let mut lent = Lent::open(shape(4, 4, 2, 10));
+    let lent = Lent::play(&by_hand::four_puts());
     for worker in 0..4 {
-        assert_eq!(lent.put(worker, 5), begun(worker as u64 + 1));
         assert_eq!(lent.workers[worker].own, worker as u64);
-    }
-    for worker in 0..4 {
-        assert_eq!(lent.put(worker, 5), refused(9));
-        assert_eq!(lent.take(worker), refused(9));
-    }
-    for worker in 0..4 {
-        assert_eq!(lent.finish(worker).1, stored(worker as u64 + 1));
-    }
-    for worker in 0..4 {
-        assert_eq!(lent.put(worker, 5), refused(12));
-    }
-    assert_eq!(lent.take(0), begun(5));
-}
-
-/// The energy of one arrival put and taken at this distance.
-fn energy_taken(distance: u32) -> u32 {
-    let mut lent = fresh();
-    let arrival = Arrival {
-        distance,
-        ..arrival(5)
-    };
-    lent.put_arrival(0, arrival).unwrap();
-    lent.finish(0).1.unwrap();
-    match lent.take_whole(1) {
-        Ok(Response::Took {
-            energy,
-            distance: taken,
-            ..
-        }) => {
-            assert_eq!(taken, u64::from(distance));
-            energy
-        }
-        other => panic!("{other:?}"),
     }
 }
 
 #[test]
 fn energies() {
-    for (distance, expected) in [(1, 16_777_216), (3, 1_864_135), (5, 671_088), (1_024, 16)] {
-        assert_eq!(energy_taken(distance), expected);
+    for (distance, expected) in ENERGIES {
+        let mut lent = Lent::play(&by_hand::energy_at(distance, expected));
+        assert_eq!(*lent.node_word(0, field::DISTANCE), u64::from(distance));
     }
     for distance in 1..=1_024u64 {
         let energy = u64::from(energy(distance));
@@ -105,29 +75,27 @@ fn energies() {
 
 #[test]
 fn distances_0_and_1025_are_5() {
-    for distance in [0, 1_025, u32::MAX] {
-        let arrival = Arrival {
-            distance,
-            ..arrival(5)
-        };
-        assert_eq!(fresh().put_arrival(0, arrival), refused(5));
-    }
+    Lent::play(&by_hand::distances_out_of_range());
+    // More than a turn file can hold.
+    let arrival = Arrival {
+        distance: u32::MAX,
+        ..arrival(5)
+    };
+    assert_eq!(fresh().put_arrival(0, arrival), refused(5));
 }
 
 /// Two takers, both at stage 11 on node 0.
-fn two_takers(times: &[u32]) -> Lent {
-    let mut lent = Lent::with_stored(shape(2, 4, 2, 10), times);
+fn two_takers(script: &Script) -> Lent {
+    let lent = Lent::play(script);
     for worker in [0, 1] {
-        lent.take(worker).unwrap();
-        lent.turns_to(worker, 11);
-        assert_eq!(lent.workers[worker].right, 0);
+        assert_eq!((lent.stage(worker), lent.workers[worker].right), (11, 0));
     }
     lent
 }
 
 #[test]
 fn the_losing_taker_walks_on() {
-    let mut lent = two_takers(&[5, 7]);
+    let mut lent = two_takers(&by_hand::two_takers_before_7());
     let seen = lent.store[0];
     assert_eq!(lent.turn(0), ON);
     assert_eq!(lent.stage(0), 1);
@@ -157,7 +125,7 @@ fn the_losing_taker_walks_on() {
 
 #[test]
 fn the_losing_taker_may_find_nothing_more() {
-    let mut lent = two_takers(&[5]);
+    let mut lent = two_takers(&by_hand::two_takers_before_the_end());
     assert_eq!(lent.turn(0), ON);
     lent.turns(1, 1);
     assert_eq!((lent.stage(1), lent.workers[1].right), (10, 0));

@@ -7,7 +7,8 @@ mod common;
 
 use common::sequential::{has_order, Call, Op};
 use common::*;
-use second::{field, word, Answer, Response};
+use schedule::{orders, Script};
+use second::{field, word, Answer, Record, Response};
 
 /// A pool that writes down its finished calls.
 struct Noted {
@@ -18,12 +19,27 @@ struct Noted {
 }
 
 impl Noted {
-    fn open(workers: u32, nodes: u32, buckets: u32, width: u32) -> Self {
-        Self {
-            lent: Lent::open(shape(workers, nodes, buckets, width)),
+    /// Opened and led by a script, which must print its lines.
+    fn play(script: &Script) -> Self {
+        let shape = opening(script);
+        let mut noted = Self {
+            lent: Lent::open(shape),
             now: 0,
-            starts: vec![(0, None); workers as usize],
+            starts: vec![(0, None); shape.workers as usize],
             calls: Vec::new(),
+        };
+        for (record, line) in steps(script) {
+            assert_eq!(printed(noted.apply(record)), line);
+        }
+        noted
+    }
+
+    fn apply(&mut self, record: Record) -> Answer {
+        match record {
+            Record::Open(_) => panic!("one opening only"),
+            Record::EnqueueStart { worker, arrival } => self.put(worker.into(), arrival.time),
+            Record::DequeueStart { worker } => self.take(worker.into()),
+            Record::Step { worker } => self.turn(worker.into()),
         }
     }
 
@@ -36,9 +52,12 @@ impl Noted {
         answer
     }
 
-    fn take(&mut self, worker: usize) {
-        self.lent.take(worker).unwrap();
-        self.starts[worker] = (self.tick(), None);
+    fn take(&mut self, worker: usize) -> Answer {
+        let answer = self.lent.take(worker);
+        if answer.is_ok() {
+            self.starts[worker] = (self.tick(), None);
+        }
+        answer
     }
 
     fn turn(&mut self, worker: usize) -> Answer {
@@ -47,10 +66,6 @@ impl Noted {
             self.note(worker, answer);
         }
         answer
-    }
-
-    fn turns_to(&mut self, worker: usize, stage: u64) {
-        self.lent.turns_to(worker, stage);
     }
 
     fn finish(&mut self, worker: usize) -> Answer {
@@ -68,7 +83,7 @@ impl Noted {
     }
 
     fn take_whole(&mut self, worker: usize) -> Answer {
-        self.take(worker);
+        self.take(worker).unwrap();
         self.finish(worker)
     }
 
@@ -101,21 +116,11 @@ impl Noted {
     }
 }
 
-/// One bucket with 10 and 20; worker 0 reads current and pauses; 12 and then 15
-/// are stored; worker 1 takes 10 and 12.
 fn paused_before_15() -> Noted {
-    let mut pool = Noted::open(2, 4, 1, 100);
-    pool.store(0, 10);
-    pool.store(0, 20);
-    pool.take(0);
-    pool.turns_to(0, 9);
+    let mut pool = Noted::play(&orders::paused_before_15());
+    assert_eq!(pool.lent.stage(0), 10);
     assert_eq!(pool.lent.workers[0].current_seen, word::current(0, 2));
-    pool.store(1, 12);
-    pool.store(1, 15);
-    assert_eq!(pool.take_whole(1), took(10));
-    assert_eq!(pool.take_whole(1), took(12));
     assert_eq!(pool.lent.times(0), [15, 20]);
-    pool.turns_to(0, 10);
     pool
 }
 
@@ -126,10 +131,7 @@ fn a_node_of_a_higher_epoch_sends_the_taker_back() {
     assert_eq!(pool.lent.stage(0), 8);
     assert_eq!(pool.turn(0), ON);
     assert_eq!(pool.lent.workers[0].current_seen, word::current(0, 4));
-    assert_eq!(pool.finish(0), took(15));
-    assert_eq!(pool.take_whole(1), took(20));
-    assert_eq!(pool.take_whole(1), EMPTY);
-    assert!(pool.is_a_queue());
+    assert!(Noted::play(&orders::sent_back()).is_a_queue());
 }
 
 /// The mistake: walk past 15 to its successor. 20 comes out before 15 and 15
@@ -146,15 +148,10 @@ fn passing_over_a_node_of_a_higher_epoch() {
     assert!(!pool.is_a_queue());
 }
 
-/// Two nodes. 10 is stored in node 0; the put of 20 stands on node 0 as its left
-/// and is about to link; worker 2 takes 10 to the end.
 fn stood_on_by_a_put() -> Noted {
-    let mut pool = Noted::open(3, 2, 1, 100);
-    pool.store(0, 10);
-    pool.put(1, 20).unwrap();
-    pool.turns_to(1, 5);
+    let pool = Noted::play(&orders::stood_on_by_a_put());
+    assert_eq!(pool.lent.stage(1), 5);
     assert_eq!(pool.lent.workers[1].left, 1); // One head, then node 0's link.
-    assert_eq!(pool.take_whole(2), took(10));
     pool
 }
 
@@ -164,11 +161,8 @@ fn a_node_stood_on_rests() {
     assert_eq!(pool.put(2, 30), refused(12));
     assert_eq!(pool.turn(1), ON);
     assert_eq!(pool.lent.stage(1), 1); // The link is marked: search again.
-    assert_eq!(pool.finish(1), stored(2));
-    pool.store(2, 30);
+    let pool = Noted::play(&orders::stood_on_rests());
     assert_eq!(pool.lent.workers[2].own, 0);
-    assert_eq!(pool.take_whole(0), took(20));
-    assert_eq!(pool.take_whole(0), took(30));
     assert!(pool.is_a_queue());
 }
 
@@ -187,24 +181,16 @@ fn freeing_a_node_when_its_taker_ends() {
     assert!(!pool.is_a_queue());
 }
 
-/// One node, holding 10, marked by worker 0, which pauses before its search.
 fn marked_and_paused() -> Noted {
-    let mut pool = Noted::open(2, 1, 1, 100);
-    pool.store(0, 10);
-    pool.take(0);
-    pool.turns_to(0, 1);
+    let pool = Noted::play(&orders::marked_and_paused());
+    assert_eq!(pool.lent.stage(0), 1);
     assert_eq!(pool.lent.store[4] % 2, 1);
     pool
 }
 
 #[test]
 fn a_marked_node_stays_in_use() {
-    let mut pool = marked_and_paused();
-    assert_eq!(pool.put(1, 30), refused(12));
-    assert_eq!(pool.finish(0), took(10));
-    pool.store(1, 30);
-    assert_eq!(pool.take_whole(0), took(30));
-    assert!(pool.is_a_queue());
+    assert!(Noted::play(&orders::marked_stays_in_use()).is_a_queue());
 }
 
 /// The mistake: node 0 is free once it is marked. 30 overwrites 10 before the
@@ -219,26 +205,17 @@ fn freeing_a_node_when_it_is_marked() {
     assert!(!pool.is_a_queue());
 }
 
-/// Current has gone to bucket 1; the put of 5 has linked its node in bucket 0.
 fn linked_below_current() -> Noted {
-    let mut pool = Noted::open(2, 4, 2, 10);
-    assert_eq!(pool.take_whole(0), EMPTY);
-    pool.put(1, 5).unwrap();
-    pool.turns_to(1, 5);
-    assert_eq!(pool.turn(1), ON);
+    let mut pool = Noted::play(&orders::linked_below_current());
+    assert_eq!(pool.lent.stage(1), 6);
     assert_eq!(pool.lent.times(0), [5]);
     pool
 }
 
 #[test]
 fn stored_is_answered_after_current_is_lowered() {
-    let mut pool = linked_below_current();
-    assert_eq!(pool.lent.stage(1), 6);
-    assert_eq!(pool.take_whole(0), EMPTY); // The put has not ended yet.
-    assert_eq!(pool.turn(1), ON);
-    assert_eq!(pool.turn(1), stored(2));
+    let pool = Noted::play(&orders::stored_after_lowering());
     assert_eq!(pool.lent.current(), (0, 1));
-    assert_eq!(pool.take_whole(0), took(5));
     assert!(pool.is_a_queue());
 }
 
@@ -254,15 +231,9 @@ fn answering_stored_at_the_link() {
     assert!(!pool.is_a_queue());
 }
 
-/// Worker 0 saw bucket 0 empty in (0, 0) and pauses before advancing; worker 1
-/// walks to the last bucket; worker 2 stores 5, lowering current.
 fn stale_advance() -> Noted {
-    let mut pool = Noted::open(3, 4, 2, 10);
-    pool.take(0);
-    pool.turns_to(0, 12);
-    assert_eq!(pool.take_whole(1), EMPTY);
-    assert_eq!(pool.lent.current(), (1, 0));
-    pool.store(2, 5);
+    let pool = Noted::play(&orders::stale_advance());
+    assert_eq!(pool.lent.stage(0), 12);
     assert_eq!(pool.lent.current(), (0, 1));
     pool
 }
@@ -273,9 +244,7 @@ fn a_stale_advance_fails() {
     assert_eq!(pool.turn(0), ON);
     assert_eq!(pool.lent.stage(0), 8);
     assert_eq!(pool.lent.current(), (0, 1));
-    assert_eq!(pool.finish(0), took(5));
-    assert_eq!(pool.take_whole(1), EMPTY);
-    assert!(pool.is_a_queue());
+    assert!(Noted::play(&orders::stale_advance_fails()).is_a_queue());
 }
 
 /// The mistake: current goes back to bucket 0 in the old epoch. The stale swap

@@ -3,19 +3,18 @@
 use std::io::Write;
 use std::process::{Command, Stdio};
 
-const INPUT: &[u8] = b"OP\x01\x04\x00\x02\x00\x0A\x00\
-    PU\x00\x05\x00\x00\x00\x07\x00\x01\x03\x00\
-    TU\x00TU\x00TU\x00TU\x00TU\x00\
-    TA\x00\
-    TU\x00TU\x00TU\x00TU\x00TU\x00TU\x00TU\x00";
+use schedule::by_hand::WORKED_EXAMPLE;
 
-const OUTPUT: &str = "open\nbegun 1\non\non\non\non\nstored 1\n\
-    begun 2\non\non\non\non\non\non\ntook 5 7 1 1864135\n";
+const INPUT: &[u8] = WORKED_EXAMPLE.0;
+const OUTPUT: &str = WORKED_EXAMPLE.1;
 
 /// The file that the README runs.
 #[test]
 fn the_stored_file() {
-    assert_eq!(include_bytes!("../../../examples/worked_example.turns"), INPUT);
+    assert_eq!(
+        include_bytes!("../../../examples/worked_example.turns"),
+        INPUT
+    );
 }
 
 #[test]

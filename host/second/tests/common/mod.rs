@@ -4,7 +4,12 @@
 
 pub mod sequential;
 
-use second::{field, stage, word, Answer, Arrival, Refusal, Response, Shape, Worker};
+pub use schedule::script::arrival;
+
+use schedule::Script;
+use second::{
+    field, stage, word, Answer, Arrival, Lines, Record, Refusal, Response, Shape, Worker,
+};
 
 pub const SPARE_WORDS: usize = 5;
 pub const SPARE_RECORDS: usize = 3;
@@ -32,15 +37,6 @@ pub fn shape(workers: u32, nodes: u32, buckets: u32, width: u32) -> Shape {
         nodes,
         buckets,
         width,
-    }
-}
-
-pub fn arrival(time: u32) -> Arrival {
-    Arrival {
-        time,
-        path: 7,
-        order: 1,
-        distance: 3,
     }
 }
 
@@ -117,6 +113,25 @@ impl Lent {
             lent.store_whole(0, time);
         }
         lent
+    }
+
+    /// Opened and led by a script, which must print its lines.
+    pub fn play(script: &Script) -> Self {
+        let mut lent = Self::open(opening(script));
+        for (record, line) in steps(script) {
+            assert_eq!(printed(lent.apply(record)), line);
+        }
+        lent
+    }
+
+    /// One record but an opening.
+    fn apply(&mut self, record: Record) -> Answer {
+        match record {
+            Record::Open(_) => panic!("one opening only"),
+            Record::EnqueueStart { worker, arrival } => self.put_arrival(worker.into(), arrival),
+            Record::DequeueStart { worker } => self.take(worker.into()),
+            Record::Step { worker } => self.turn(worker.into()),
+        }
     }
 
     pub fn reopen(&mut self) -> Answer {
@@ -239,4 +254,28 @@ pub fn record_at(stage: u64) -> Worker {
         kind: u64::from(stage >= stage::DEQUEUE_CURRENT),
         ..Worker::default()
     }
+}
+
+/// The shape that a script opens with.
+pub fn opening(script: &Script) -> Shape {
+    match script.records()[0] {
+        Record::Open(shape) => shape,
+        other => panic!("{other:?}"),
+    }
+}
+
+/// The records of a script after its opening, with their lines.
+pub fn steps(script: &Script) -> impl Iterator<Item = (Record, &str)> {
+    let lines = script.lines().iter().map(String::as_str);
+    script.records().iter().copied().zip(lines).skip(1)
+}
+
+/// The line of an answer.
+pub fn printed(answer: Answer) -> String {
+    let mut bytes = Vec::new();
+    let mut lines = Lines::new(&mut bytes);
+    lines.write(&answer).unwrap();
+    lines.finish().unwrap();
+    let line = String::from_utf8(bytes).unwrap();
+    line.trim_end_matches('\n').to_string()
 }

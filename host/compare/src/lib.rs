@@ -1,0 +1,22 @@
+//! Compares an engine, a program that reads a turn file and prints one line a
+//! record, with the second program; and looks for an order of a plain queue in
+//! what it prints.
+#![forbid(unsafe_code)]
+
+mod history;
+mod line;
+mod order;
+mod record;
+mod set;
+
+pub mod arguments;
+pub mod difference;
+pub mod engine;
+pub mod inputs;
+pub mod linearizability;
+pub mod seeded;
+pub mod suite;
+
+pub use history::{Call, End, Fault, History, Kind, Run};
+pub use line::{Line, Taken};
+pub use order::find_order;

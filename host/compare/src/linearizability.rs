@@ -1,0 +1,117 @@
+//! Whether what an engine printed has an order of a plain queue.
+
+use std::fmt::{self, Write};
+
+use crate::history::{Call, Fault, History, Kind, Run};
+use crate::order::find_order;
+
+/// What has been checked.
+#[derive(Clone, Copy, Debug, Default, PartialEq, Eq)]
+pub struct Checked {
+    pub histories: usize,
+    pub calls: usize,
+}
+
+#[derive(Clone, Debug)]
+pub enum Violation {
+    /// A line that cannot be, whatever the order.
+    Fault(Fault),
+    /// A history without an order, cut after the first record at which it has
+    /// none; and a text to read.
+    NoOrder {
+        opening: usize,
+        last: usize,
+        text: String,
+    },
+}
+
+impl fmt::Display for Violation {
+    fn fmt(&self, f: &mut fmt::Formatter<'_>) -> fmt::Result {
+        match self {
+            Self::Fault(fault) => writeln!(f, "{fault}"),
+            Self::NoOrder { text, .. } => f.write_str(text),
+        }
+    }
+}
+
+/// Checks every history of a turn file and its lines.
+pub fn check(input: &[u8], output: &str) -> Result<Checked, Violation> {
+    let run = Run::read(input, output);
+    let mut checked = Checked::default();
+    for history in run.histories().map_err(Violation::Fault)? {
+        checked.histories += 1;
+        checked.calls += history.calls.len();
+        if find_order(&history.calls).is_none() {
+            return Err(no_order(&run, &history));
+        }
+    }
+    Ok(checked)
+}
+
+fn no_order(run: &Run<'_>, history: &History) -> Violation {
+    let last = first_without_order(&history.calls);
+    Violation::NoOrder {
+        opening: history.opening,
+        last,
+        text: describe(run, history, last),
+    }
+}
+
+/// The first end of a call after which there is no order. Before it there is
+/// one, and after it there never is one again.
+fn first_without_order(calls: &[Call]) -> usize {
+    let ends = calls.iter().filter_map(|call| call.end);
+    let mut ends: Vec<usize> = ends.map(|end| end.at).collect();
+    ends.sort_unstable();
+    let first = ends.partition_point(|&place| find_order(&known_after(calls, place)).is_some());
+    ends[first]
+}
+
+fn known_after(calls: &[Call], place: usize) -> Vec<Call> {
+    let calls = calls.iter();
+    calls.filter_map(|call| call.known_after(place)).collect()
+}
+
+/// The calls and then the records of a history up to a place.
+fn describe(run: &Run<'_>, history: &History, last: usize) -> String {
+    let mut text = format!(
+        "no order of a plain queue gives the answers of records {} to {}\n\
+         (without the last of them there is one)\ncalls:\n",
+        history.opening + 1,
+        last + 1
+    );
+    for call in known_after(&history.calls, last) {
+        push_call(&mut text, run, &call);
+    }
+    text.push_str("records:\n");
+    let mut place = history.opening;
+    while place <= last {
+        let shown = (run.record(place), run.line(place));
+        let same = (place..=last).take_while(|&at| (run.record(at), run.line(at)) == shown);
+        let count = same.count();
+        let numbers = match count {
+            1 => format!("{}", place + 1),
+            _ => format!("{} to {}", place + 1, place + count),
+        };
+        let _ = writeln!(text, "  {numbers:<14}{:<26}{}", shown.0, shown.1);
+        place += count;
+    }
+    text
+}
+
+fn push_call(text: &mut String, run: &Run<'_>, call: &Call) {
+    let Call { ticket, worker, .. } = call;
+    let kind = match call.kind {
+        Kind::Put(arrival) => format!("put at {}", arrival.time),
+        Kind::Take => "take".to_string(),
+    };
+    let (end, answer) = match call.end {
+        Some(end) => ((end.at + 1).to_string(), run.line(end.at)),
+        None => ("...".to_string(), "unfinished"),
+    };
+    let records = format!("{} to {end}", call.start + 1);
+    let _ = writeln!(
+        text,
+        "  {ticket:<5}worker {worker:<4}{kind:<18}records {records:<14}{answer}"
+    );
+}

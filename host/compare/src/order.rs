@@ -1,0 +1,248 @@
+//! A search through the orders of some calls, for one in which a plain queue
+//! gives their answers.
+//!
+//! Depth first, after Wing and Gong: the next call of an order is any call that
+//! started before every call still to come had ended. No state is entered twice;
+//! a state is the set of calls in the order so far, with what is in the queue.
+//!
+//! In every order a put can be moved behind its neighbour, unless that is the
+//! take of its arrival, or began after the put had ended: the answers stay the
+//! same. So puts come as late as they can, and orders with other puts are not
+//! tried.
+
+use std::collections::HashSet;
+use std::vec::IntoIter;
+
+use crate::history::{Call, Kind};
+use crate::line::{Line, Taken};
+use crate::set::Set;
+
+/// An order, by places in the list: all finished calls and some of the others,
+/// calls that do not overlap in the order of time, and each finished call with
+/// the answer of a plain queue. The calls are listed by their start.
+pub fn find_order(calls: &[Call]) -> Option<Vec<usize>> {
+    if calls.iter().any(is_put_with_another_answer) {
+        return None;
+    }
+    Search::new(calls).run()
+}
+
+/// Such a put stands in no order.
+fn is_put_with_another_answer(call: &Call) -> bool {
+    let stored = Line::Stored(call.ticket);
+    matches!(call.kind, Kind::Put(_)) && call.end.is_some_and(|end| end.answer != stored)
+}
+
+#[derive(Clone, PartialEq, Eq, Hash)]
+struct State {
+    /// Calls in the order so far.
+    ordered: Set,
+    /// Puts in the queue, by rank.
+    queue: Set,
+}
+
+/// The next call of an order; before a take perhaps the put of its arrival.
+#[derive(Clone, Copy, Default)]
+struct Step {
+    put: Option<usize>,
+    call: Option<usize>,
+}
+
+impl Step {
+    fn calls(self) -> impl Iterator<Item = usize> {
+        self.put.into_iter().chain(self.call)
+    }
+}
+
+/// A state on the way, how it was reached, and what is not yet tried in it.
+struct Visit {
+    reached_by: Step,
+    state: State,
+    untried: IntoIter<Step>,
+}
+
+struct Search<'a> {
+    calls: &'a [Call],
+    /// The puts from the lowest key to the highest: place and what is taken.
+    puts: Vec<(usize, Taken)>,
+    /// The rank of each call among the puts; of no use for a take.
+    rank: Vec<usize>,
+    /// By rank: whether not all arrivals that look like this one are answered.
+    is_spare: Vec<bool>,
+    seen: HashSet<State>,
+}
+
+impl<'a> Search<'a> {
+    fn new(calls: &'a [Call]) -> Self {
+        let mut keys = Vec::new();
+        for (place, call) in calls.iter().enumerate() {
+            if let Kind::Put(arrival) = call.kind {
+                keys.push((arrival.time, call.ticket, place, Taken::of(arrival)));
+            }
+        }
+        keys.sort_unstable_by_key(|&(time, ticket, ..)| (time, ticket));
+        let puts: Vec<_> = keys
+            .iter()
+            .map(|&(.., place, taken)| (place, taken))
+            .collect();
+        let mut rank = vec![0; calls.len()];
+        for (nth, &(place, _)) in puts.iter().enumerate() {
+            rank[place] = nth;
+        }
+        let is_spare = puts.iter().map(|&(_, taken)| is_spare(calls, &puts, taken));
+        Self {
+            calls,
+            rank,
+            is_spare: is_spare.collect(),
+            puts,
+            seen: HashSet::new(),
+        }
+    }
+
+    fn run(mut self) -> Option<Vec<usize>> {
+        let nothing = State {
+            ordered: Set::below(self.calls.len()),
+            queue: Set::below(self.puts.len()),
+        };
+        if self.is_complete(&nothing) {
+            return Some(Vec::new());
+        }
+        let mut way = vec![self.visit(Step::default(), nothing)];
+        while let Some(visit) = way.last_mut() {
+            let Some(step) = visit.untried.next() else {
+                way.pop();
+                continue;
+            };
+            let state = self.after(&visit.state, step);
+            if self.is_complete(&state) {
+                let steps = way.iter().map(|visit| visit.reached_by);
+                return Some(steps.chain([step]).flat_map(Step::calls).collect());
+            }
+            if self.seen.insert(state.clone()) {
+                way.push(self.visit(step, state));
+            }
+        }
+        None
+    }
+
+    /// Whether every finished call is in the order.
+    fn is_complete(&self, state: &State) -> bool {
+        let mut calls = self.calls.iter().enumerate();
+        calls.all(|(place, call)| call.end.is_none() || state.ordered.contains(place))
+    }
+
+    fn visit(&self, reached_by: Step, state: State) -> Visit {
+        let untried = self.steps(&state).into_iter();
+        Visit {
+            reached_by,
+            state,
+            untried,
+        }
+    }
+
+    /// The calls that may come next by their times; the first to end is the
+    /// first, unfinished ones are the last.
+    fn open(&self, ordered: &Set) -> Vec<usize> {
+        let mut first_end = usize::MAX;
+        let mut open = Vec::new();
+        for (place, call) in self.calls.iter().enumerate() {
+            // Those behind start and end later still.
+            if call.start > first_end {
+                break;
+            }
+            if !ordered.contains(place) {
+                open.push(place);
+                first_end = first_end.min(end(call));
+            }
+        }
+        open.sort_by_key(|&place| end(&self.calls[place]));
+        open
+    }
+
+    /// The steps with which the queue gives the answers of the calls.
+    fn steps(&self, state: &State) -> Vec<Step> {
+        let lowest = state.queue.first();
+        let open = self.open(&state.ordered);
+        let mut steps = Vec::new();
+        let mut has_unfinished_take = false;
+        for (nth, &place) in open.iter().enumerate() {
+            let alone = Step {
+                put: None,
+                call: Some(place),
+            };
+            let call = &self.calls[place];
+            match (call.kind, call.end) {
+                // A put that can wait no longer; the others wait.
+                (Kind::Put(_), Some(_)) if nth == 0 => steps.push(alone),
+                (Kind::Put(_), _) => {}
+                (Kind::Take, Some(end)) => {
+                    if end.answer == self.answer(lowest) {
+                        steps.push(alone);
+                    }
+                    for put in self.puts_for(end.answer, lowest, &open) {
+                        let put = Some(put);
+                        steps.push(Step { put, ..alone });
+                    }
+                }
+                // Unfinished takes are all alike: one will do.
+                (Kind::Take, None) => {
+                    if !has_unfinished_take && lowest.is_some_and(|rank| self.is_spare[rank]) {
+                        steps.push(alone);
+                    }
+                    has_unfinished_take = true;
+                }
+            }
+        }
+        steps
+    }
+
+    /// What the queue answers to a take.
+    fn answer(&self, lowest: Option<usize>) -> Line {
+        match lowest {
+            None => Line::Empty,
+            Some(rank) => Line::Took(self.puts[rank].1),
+        }
+    }
+
+    /// The open puts that would be the lowest in the queue and give this answer.
+    fn puts_for<'b>(
+        &'b self,
+        answer: Line,
+        lowest: Option<usize>,
+        open: &'b [usize],
+    ) -> impl Iterator<Item = usize> + 'b {
+        open.iter().copied().filter(move |&place| {
+            let rank = self.rank[place];
+            matches!(self.calls[place].kind, Kind::Put(_))
+                && lowest.is_none_or(|lowest| rank < lowest)
+                && self.answer(Some(rank)) == answer
+        })
+    }
+
+    fn after(&self, state: &State, step: Step) -> State {
+        let mut state = state.clone();
+        for place in step.calls() {
+            state.ordered.insert(place);
+            match (self.calls[place].kind, state.queue.first()) {
+                (Kind::Put(_), _) => state.queue.insert(self.rank[place]),
+                (Kind::Take, Some(lowest)) => state.queue.remove(lowest),
+                (Kind::Take, None) => {}
+            }
+        }
+        state
+    }
+}
+
+/// When a call ended; never, for an unfinished one.
+fn end(call: &Call) -> usize {
+    call.end.map_or(usize::MAX, |end| end.at)
+}
+
+/// Whether there are more puts of such an arrival than finished takes. Only then
+/// an unfinished take can have one.
+fn is_spare(calls: &[Call], puts: &[(usize, Taken)], taken: Taken) -> bool {
+    let put = puts.iter().filter(|(_, other)| *other == taken).count();
+    let ends = calls.iter().filter_map(|call| call.end);
+    let answered = ends.filter(|end| end.answer == Line::Took(taken)).count();
+    put > answered
+}

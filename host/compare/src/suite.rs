@@ -1,0 +1,163 @@
+//! Groups of turn files, and running an engine on them.
+
+use std::fmt::{self, Write};
+
+use crate::difference::{self, Difference};
+use crate::engine::{Engine, Printed};
+use crate::inputs::{self, Input};
+use crate::linearizability::{self, Checked};
+use crate::seeded;
+
+/// Turn files under one name.
+pub struct Group<'a> {
+    pub name: &'static str,
+    pub inputs: Box<dyn Iterator<Item = Input> + 'a>,
+}
+
+/// All groups, quick ones first; the last ones for these seeds.
+pub fn groups(seeds: &[u64], records: u64) -> Vec<Group<'_>> {
+    let seeds = || seeds.iter().copied();
+    vec![
+        group("worked example", inputs::worked_example()),
+        group("by hand", inputs::by_hand()),
+        group("orders", inputs::orders()),
+        group("cut files", inputs::cuts()),
+        group("wrong marks", inputs::marks()),
+        group("small histories", seeds().map(seeded::histories)),
+        group(
+            "damaged",
+            seeds().flat_map(move |seed| seeded::damaged(seed, records)),
+        ),
+        group(
+            "every shape",
+            seeds().map(move |seed| seeded::every_shape(seed, records)),
+        ),
+        group(
+            "few nodes",
+            seeds().map(move |seed| seeded::narrow(seed, records)),
+        ),
+        group(
+            "no refusals",
+            seeds().map(move |seed| seeded::unrefused(seed, records)),
+        ),
+    ]
+}
+
+fn group<'a, I>(name: &'static str, inputs: I) -> Group<'a>
+where
+    I: IntoIterator<Item = Input>,
+    I::IntoIter: 'a,
+{
+    let inputs = Box::new(inputs.into_iter());
+    Group { name, inputs }
+}
+
+/// What a group has run.
+#[derive(Clone, Copy, Debug, Default)]
+pub struct Counts {
+    pub files: usize,
+    pub lines: usize,
+    /// The histories in which an order was found.
+    pub checked: Checked,
+}
+
+impl fmt::Display for Counts {
+    fn fmt(&self, f: &mut fmt::Formatter<'_>) -> fmt::Result {
+        let Self { files, lines, .. } = self;
+        write!(f, "{files:>5} files {lines:>9} records")?;
+        let Checked { histories, calls } = self.checked;
+        if histories > 0 {
+            write!(f, " {histories:>5} histories {calls:>7} calls in order")?;
+        }
+        Ok(())
+    }
+}
+
+/// What is wrong with an engine, and on which input.
+#[derive(Clone, Debug)]
+pub struct Failure {
+    pub group: &'static str,
+    pub input: String,
+    pub seed: Option<u64>,
+    pub text: String,
+}
+
+impl fmt::Display for Failure {
+    fn fmt(&self, f: &mut fmt::Formatter<'_>) -> fmt::Result {
+        writeln!(f, "wrong: {}, {}", self.group, self.input)?;
+        f.write_str(&self.text)
+    }
+}
+
+/// Runs a group up to the first failure.
+pub fn run(engine: &Engine, group: Group<'_>) -> Result<Counts, Failure> {
+    let mut counts = Counts::default();
+    for input in group.inputs {
+        let lines = run_input(engine, &input, &mut counts.checked);
+        counts.files += 1;
+        counts.lines += lines.map_err(|text| Failure {
+            group: group.name,
+            input: input.name.clone(),
+            seed: input.seed,
+            text,
+        })?;
+    }
+    Ok(counts)
+}
+
+/// The number of lines, or what is wrong.
+fn run_input(engine: &Engine, input: &Input, checked: &mut Checked) -> Result<usize, String> {
+    let expected = expected(input)?;
+    let Printed { output, status } = engine
+        .run(&input.bytes)
+        .map_err(|error| format!("cannot run {}: {error}\n", engine.path().display()))?;
+    let mut wrong = String::new();
+    if let Some(difference) = difference::first(&input.bytes, &expected, &output) {
+        push_difference(&mut wrong, &difference, "second", "engine");
+    }
+    if input.is_small {
+        match linearizability::check(&input.bytes, &String::from_utf8_lossy(&output)) {
+            Ok(more) => {
+                checked.histories += more.histories;
+                checked.calls += more.calls;
+            }
+            Err(violation) => wrong.push_str(&violation.to_string()),
+        }
+    }
+    if wrong.is_empty() && !status.success() {
+        wrong = format!("the lines are right, but the engine ended with {status}\n");
+    }
+    match wrong.is_empty() {
+        true => Ok(output.iter().filter(|&&byte| byte == b'\n').count()),
+        false => Err(wrong),
+    }
+}
+
+/// What the second program prints; it must know what is known by hand.
+fn expected(input: &Input) -> Result<Vec<u8>, String> {
+    let mut output = Vec::new();
+    second::run(&input.bytes[..], &mut output).expect("a vector takes all");
+    if let Some(known) = &input.output {
+        if let Some(difference) = difference::first(&input.bytes, known.as_bytes(), &output) {
+            let mut text = String::new();
+            push_difference(&mut text, &difference, "by hand", "second");
+            return Err(text);
+        }
+    }
+    Ok(output)
+}
+
+fn push_difference(text: &mut String, difference: &Difference, left: &str, right: &str) {
+    let Difference {
+        number,
+        record,
+        expected,
+        printed,
+    } = difference;
+    let _ = write!(
+        text,
+        "first difference at record {number}\n  {:<9}{record}\n  {left:<9}{expected}\n  \
+         {right:<9}{printed}\n",
+        "record"
+    );
+}

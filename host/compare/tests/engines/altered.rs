@@ -1,0 +1,59 @@
+//! The second program, with its lines altered as the variable ALTER asks; without
+//! it, the second program itself.
+#![forbid(unsafe_code)]
+
+use std::io::{self, Read, Write};
+use std::process::ExitCode;
+
+fn main() -> ExitCode {
+    let Ok(how) = std::env::var("ALTER") else {
+        second::run_standard().expect("output");
+        return ExitCode::SUCCESS;
+    };
+    let mut input = Vec::new();
+    io::stdin().lock().read_to_end(&mut input).expect("input");
+    let mut output = Vec::new();
+    second::run(&input[..], &mut output).expect("a vector takes all");
+    let text = String::from_utf8(output).expect("lines");
+    io::stdout()
+        .lock()
+        .write_all(alter(text, &how).as_bytes())
+        .expect("output");
+    match how.as_str() {
+        "status" => ExitCode::from(3),
+        _ => ExitCode::SUCCESS,
+    }
+}
+
+fn alter(text: String, how: &str) -> String {
+    match how {
+        // The tenth arrival taken is answered empty.
+        "lost" => replace_nth(&text, "took", 10, "empty"),
+        // The third refusal by 12 is another one.
+        "refusal" => replace_nth(&text, "no 12", 3, "no 9"),
+        "energy" => text.replace("took 5 7 1 16777216\n", "took 5 7 1 16777215\n"),
+        "extra" => text + "on\n",
+        "short" => match text.strip_suffix('\n') {
+            Some(short) => short.to_string(),
+            None => text,
+        },
+        "missing" => {
+            let count = text.lines().count().saturating_sub(1);
+            text.split_inclusive('\n').take(count).collect()
+        }
+        _ => text,
+    }
+}
+
+/// Replaces the nth line that begins with these letters.
+fn replace_nth(text: &str, begin: &str, nth: usize, line: &str) -> String {
+    let mut met = 0;
+    let mut altered = String::new();
+    for old in text.lines() {
+        met += usize::from(old.starts_with(begin));
+        let is_it = old.starts_with(begin) && met == nth;
+        altered.push_str(if is_it { line } else { old });
+        altered.push('\n');
+    }
+    altered
+}

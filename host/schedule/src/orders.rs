@@ -1,0 +1,109 @@
+//! The orders that catch an engine out, as scripts. Each has a beginning, up to
+//! where a wrong engine goes astray, and a right ending.
+
+use crate::script::{put, took, Script};
+
+/// Every order with its right ending, by name.
+pub fn cases() -> Vec<(&'static str, Script)> {
+    vec![
+        ("a node of a higher epoch", sent_back()),
+        ("a node stood on", stood_on_rests()),
+        ("a marked node", marked_stays_in_use()),
+        ("linked below current", stored_after_lowering()),
+        ("a stale advance", stale_advance_fails()),
+    ]
+}
+
+/// One bucket with 10 and 20; worker 0 reads current and pauses; 12 and then 15
+/// are stored; worker 1 takes 10 and 12; worker 0 comes to 15.
+pub fn paused_before_15() -> Script {
+    Script::open(2, 4, 1, 100)
+        .stored(0, 10, 5)
+        .stored(0, 20, 6)
+        .take(0)
+        .turns(0, 1)
+        .stored(1, 12, 7)
+        .stored(1, 15, 8)
+        .taken(1, 8, &took(10))
+        .taken(1, 8, &took(12))
+        .turns(0, 1)
+}
+
+/// The taker reads current again before it takes 15.
+pub fn sent_back() -> Script {
+    paused_before_15()
+        .turns(0, 2)
+        .end(0, 7, &took(15))
+        .taken(1, 7, &took(20))
+        .taken(1, 3, "empty")
+}
+
+/// Two nodes. 10 is stored in node 0; the put of 20 stands on node 0 as its left
+/// and is about to link; worker 2 takes 10 to the end.
+pub fn stood_on_by_a_put() -> Script {
+    Script::open(3, 2, 1, 100)
+        .stored(0, 10, 5)
+        .put(1, 20)
+        .turns(1, 3)
+        .taken(2, 7, &took(10))
+}
+
+/// Node 0 is free only when the put has ended, after a second search.
+pub fn stood_on_rests() -> Script {
+    stood_on_by_a_put()
+        .refused(put(2, 30), 12)
+        .turns(1, 1)
+        .end(1, 5, "stored 2")
+        .stored(2, 30, 6)
+        .taken(0, 8, &took(20))
+        .taken(0, 7, &took(30))
+}
+
+/// One node, holding 10, marked by worker 0, which pauses before its search.
+pub fn marked_and_paused() -> Script {
+    Script::open(2, 1, 1, 100)
+        .stored(0, 10, 5)
+        .take(0)
+        .turns(0, 4)
+}
+
+pub fn marked_stays_in_use() -> Script {
+    marked_and_paused()
+        .refused(put(1, 30), 12)
+        .end(0, 3, &took(10))
+        .stored(1, 30, 5)
+        .taken(0, 7, &took(30))
+}
+
+/// Current has gone to bucket 1; the put of 5 has linked its node in bucket 0.
+pub fn linked_below_current() -> Script {
+    Script::open(2, 4, 2, 10)
+        .taken(0, 5, "empty")
+        .put(1, 5)
+        .turns(1, 3)
+}
+
+/// A take before the end of the put may miss it; one after may not.
+pub fn stored_after_lowering() -> Script {
+    linked_below_current()
+        .taken(0, 3, "empty")
+        .end(1, 2, "stored 2")
+        .taken(0, 7, &took(5))
+}
+
+/// Worker 0 saw bucket 0 empty in (0, 0) and pauses before advancing; worker 1
+/// walks to the last bucket; worker 2 stores 5, lowering current.
+pub fn stale_advance() -> Script {
+    Script::open(3, 4, 2, 10)
+        .take(0)
+        .turns(0, 2)
+        .taken(1, 5, "empty")
+        .stored(2, 5, 5)
+}
+
+pub fn stale_advance_fails() -> Script {
+    stale_advance()
+        .turns(0, 1)
+        .end(0, 7, &took(5))
+        .taken(1, 5, "empty")
+}
