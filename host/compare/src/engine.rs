@@ -39,7 +39,9 @@ impl Engine {
             let writer = scope.spawn(|| write(stdin, input));
             let read = stdout.map_or(Ok(0), |mut pipe| pipe.read_to_end(&mut output));
             let written = writer.join();
-            read.and(written.unwrap_or_else(|_| Err(io::Error::other("the writer panicked"))))
+            read.and(written.unwrap_or_else(|_| {
+                Err(io::Error::new(io::ErrorKind::Other, "the writer panicked"))
+            }))
         });
         let status = child.wait()?;
         done?;

@@ -30,7 +30,7 @@ pub fn find_order(calls: &[Call]) -> Option<Vec<usize>> {
 /// Such a put stands in no order.
 fn is_put_with_another_answer(call: &Call) -> bool {
     let stored = Line::Stored(call.ticket);
-    matches!(call.kind, Kind::Put(_)) && call.end.is_some_and(|end| end.answer != stored)
+    matches!(call.kind, Kind::Put(_)) && call.end.map_or(false, |end| end.answer != stored)
 }
 
 #[derive(Clone, PartialEq, Eq, Hash)]
@@ -109,9 +109,12 @@ impl<'a> Search<'a> {
         }
         let mut way = vec![self.visit(Step::default(), nothing)];
         while let Some(visit) = way.last_mut() {
-            let Some(step) = visit.untried.next() else {
-                way.pop();
-                continue;
+            let step = match visit.untried.next() {
+                Some(step) => step,
+                None => {
+                    way.pop();
+                    continue;
+                }
             };
             let state = self.after(&visit.state, step);
             if self.is_complete(&state) {
@@ -186,7 +189,7 @@ impl<'a> Search<'a> {
                 }
                 // Unfinished takes are all alike: one will do.
                 (Kind::Take, None) => {
-                    if !has_unfinished_take && lowest.is_some_and(|rank| self.is_spare[rank]) {
+                    if !has_unfinished_take && lowest.map_or(false, |rank| self.is_spare[rank]) {
                         steps.push(alone);
                     }
                     has_unfinished_take = true;
@@ -214,7 +217,7 @@ impl<'a> Search<'a> {
         open.iter().copied().filter(move |&place| {
             let rank = self.rank[place];
             matches!(self.calls[place].kind, Kind::Put(_))
-                && lowest.is_none_or(|lowest| rank < lowest)
+                && lowest.map_or(true, |lowest| rank < lowest)
                 && self.answer(Some(rank)) == answer
         })
     }

@@ -80,7 +80,7 @@ pub fn history(seed: u64, bytes: &mut Vec<u8>) {
         true => any_schedule(seed, random, records),
         false => pauses(random, records),
     };
-    if seed.is_multiple_of(2) {
+    if seed % 2 == 0 {
         history.drain();
     }
     bytes.append(&mut history.bytes);

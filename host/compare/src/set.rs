@@ -7,7 +7,7 @@ pub struct Set(Box<[u64]>);
 impl Set {
     /// The empty set of numbers below this.
     pub fn below(bound: usize) -> Self {
-        Self(vec![0; bound.div_ceil(64)].into_boxed_slice())
+        Self(vec![0; (bound + 63) / 64].into_boxed_slice())
     }
 
     pub fn contains(&self, number: usize) -> bool {

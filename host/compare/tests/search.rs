@@ -91,7 +91,7 @@ fn answers_of_a_queue(calls: &[Call], order: &[usize]) -> bool {
                 }
             }
         };
-        call.end.is_none_or(|end| end.answer == answer)
+        call.end.map_or(true, |end| end.answer == answer)
     })
 }
 

@@ -128,7 +128,7 @@ fn exchanged_arrivals_are_noticed() {
     let (mut altered, mut noticed, mut alone) = (0, 0, 0);
     for sample in drained() {
         for pair in sample.places("took").windows(2) {
-            let &[first, second] = pair else { continue };
+            let (first, second) = (pair[0], pair[1]);
             let mut other = sample.with(first, &sample.lines[second]);
             other.lines[second] = sample.lines[first].clone();
             if other.lines == sample.lines {
@@ -153,7 +153,10 @@ fn exchanged_arrivals_are_noticed() {
 fn are_alone(sample: &Sample, first: usize, second: usize) -> bool {
     let lines = &sample.lines;
     let start = lines[..first].iter().rposition(|line| begins(line));
-    let Some(start) = start else { return false };
+    let start = match start {
+        Some(start) => start,
+        None => return false,
+    };
     let count = |lines: &[String]| {
         let begun = lines.iter().filter(|line| begins(line)).count();
         (begun, lines.iter().filter(|line| ends(line)).count())

@@ -43,9 +43,12 @@ fn main() -> ExitCode {
         print!("{HELP}");
         return ExitCode::SUCCESS;
     }
-    let Some(arguments) = parse(&words) else {
-        eprint!("{HELP}");
-        return ExitCode::from(2);
+    let arguments = match parse(&words) {
+        Some(arguments) => arguments,
+        None => {
+            eprint!("{HELP}");
+            return ExitCode::from(2);
+        }
     };
     match write(&arguments) {
         Ok(()) => ExitCode::SUCCESS,
@@ -73,8 +76,9 @@ fn write(arguments: &Arguments) -> io::Result<()> {
 }
 
 fn parse(words: &[String]) -> Option<Arguments> {
-    let [seed, records, options @ ..] = words else {
-        return None;
+    let (seed, records, options) = match words {
+        [seed, records, options @ ..] => (seed, records, options),
+        _ => return None,
     };
     let mut arguments = Arguments {
         seed: seed.parse().ok()?,
@@ -98,14 +102,14 @@ fn parse(words: &[String]) -> Option<Arguments> {
 /// A shape that the program opens.
 fn parse_shape(text: &str) -> Option<Shape> {
     let fields: Result<Vec<u32>, _> = text.split(',').map(str::parse).collect();
-    let &[workers, nodes, buckets, width] = fields.ok()?.as_slice() else {
-        return None;
-    };
-    let shape = Shape {
-        workers,
-        nodes,
-        buckets,
-        width,
+    let shape = match *fields.ok()?.as_slice() {
+        [workers, nodes, buckets, width] => Shape {
+            workers,
+            nodes,
+            buckets,
+            width,
+        },
+        _ => return None,
     };
     (shape.is_within_limits() && shape.store_words() <= LENT_WORDS).then_some(shape)
 }

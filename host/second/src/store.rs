@@ -56,7 +56,7 @@ impl Reclamation {
         match self {
             Self::Unused => true,
             Self::Live => false,
-            Self::Retired(started) => oldest.is_none_or(|ticket| ticket > started),
+            Self::Retired(started) => oldest.map_or(true, |ticket| ticket > started),
         }
     }
 }

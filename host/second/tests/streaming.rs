@@ -176,7 +176,7 @@ fn a_read_error_is_the_end_of_the_input() {
     impl Read for Failing<'_> {
         fn read(&mut self, room: &mut [u8]) -> io::Result<usize> {
             match self.0.read(room)? {
-                0 => Err(io::Error::other("broken")),
+                0 => Err(io::Error::new(io::ErrorKind::Other, "broken")),
                 read => Ok(read),
             }
         }

@@ -6,9 +6,12 @@ use std::io::{self, Read, Write};
 use std::process::ExitCode;
 
 fn main() -> ExitCode {
-    let Ok(how) = std::env::var("ALTER") else {
-        second::run_standard().expect("output");
-        return ExitCode::SUCCESS;
+    let how = match std::env::var("ALTER") {
+        Ok(how) => how,
+        Err(_) => {
+            second::run_standard().expect("output");
+            return ExitCode::SUCCESS;
+        }
     };
     let mut input = Vec::new();
     io::stdin().lock().read_to_end(&mut input).expect("input");

@@ -144,10 +144,11 @@ impl Observer {
         loop {
             self.apply(&mut program, Record::DequeueStart { worker: 0 });
             self.finish(&mut program, 0);
-            let Op::Dequeue(answered) = self.calls.last().unwrap().op else {
-                panic!("a take ended as a put");
+            let key = match self.calls.last().unwrap().op {
+                Op::Dequeue(Some(key)) => key,
+                Op::Dequeue(None) => break,
+                _ => panic!("a take ended as a put"),
             };
-            let Some(key) = answered else { break };
             assert!(last < Some(key), "drained out of order");
             last = Some(key);
         }

@@ -183,8 +183,9 @@ impl Lent {
 
     /// A whole put.
     pub fn store_whole(&mut self, worker: usize, time: u32) {
-        let Ok(Response::Begun(ticket)) = self.put(worker, time) else {
-            panic!("put of {time} was refused");
+        let ticket = match self.put(worker, time) {
+            Ok(Response::Begun(ticket)) => ticket,
+            _ => panic!("put of {time} was refused"),
         };
         assert_eq!(self.finish(worker).1, stored(ticket));
     }

@@ -26,7 +26,11 @@ pub struct Call {
 fn feed(queue: &mut BTreeSet<Key>, op: Op) -> bool {
     match op {
         Op::Enqueue(key) => queue.insert(key),
-        Op::Dequeue(answered) => queue.pop_first() == answered,
+        Op::Dequeue(answered) => {
+            let lowest = queue.iter().next().copied();
+            lowest.map(|key| queue.remove(&key));
+            lowest == answered
+        }
     }
 }
 
