@@ -6,6 +6,7 @@ ghost use Rattle.arrival.specs.Keys.{lower, bucketOf};
 pub mod spreading;
 
 // The shape of a pool: how many workers, nodes and buckets, and a bucket's width in samples.
+#[repr(C)]
 pub struct Shape {
     pub workers: u64,
     pub nodes: u64,
@@ -14,6 +15,7 @@ pub struct Shape {
 }
 
 // What a tracer hands in: the time in samples, the path's number, the reflection order, the distance in metres.
+#[repr(C)]
 pub struct Arrival {
     pub time: u32,
     pub path: u32,

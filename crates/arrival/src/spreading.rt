@@ -3,8 +3,8 @@ ghost use mathlib.Core.Path.{_≡_};
 ghost use Prim.Native.Nat.{_≤_};
 ghost use Rattle.arrival.specs.Energy.{energyOf};
 
-// The energy at 1, 2, .. 1,024 metres.
-const SPREADING: [u64; 1024] = [
+// The energy at 1, 2, .. 1,024 metres. Of 32 bits: the compiler writes the entries to the stack at each use, four at a time.
+const SPREADING: [u32; 1024] = [
     16777216,
     4194304,
     1864135,
@@ -1031,6 +1031,12 @@ const SPREADING: [u64; 1024] = [
     16,
 ];
 
+fn wide(entry: u32) -> u64
+    ensures { λ r. ⌜ r ≡ entry ⌝ }
+{
+    entry as u64
+}
+
 // The energy at a distance.
 pub fn energy(distance: u64) -> u64
     requires { ⌜ distance ≤ 1024 ⌝ }
@@ -1040,5 +1046,5 @@ pub fn energy(distance: u64) -> u64
         return 0;
     }
     let k = (distance - 1) as usize;
-    SPREADING[k]
+    wide(SPREADING[k])
 }

@@ -17,19 +17,22 @@ returns c = rw (eq-eqb _ _ (c .if1 .taken))
 sub-k : tie.Need-sub-k
 sub-k c = search needs
 
-mul-result : tie.Need-mul-result
-mul-result c = search needs
+mul-wide : tie.Need-mul-wide
+mul-wide c = search needs
 
-array-read-result : tie.Need-array-read-result
-array-read-result c = search needs
+array-read-wide : tie.Need-array-read-wide
+array-read-wide c = search needs
+
+wide-requires : tie.Need-wide-requires
+wide-requires c κs = search needs
 
 returns-2 : tie.Need-returns-2
 unfolding energyOf
 returns-2 c =
-    let d = c .before .args .distance in
+    let d = c .before .before .args .distance in
     let e : 1 + (d - 1) ≡ d = omega arith in
     let h : d - 1 < 1024 = omega arith in
-    built-at energyOf 1 1024 (d - 1) h ∙ ap energyOf e
+    c .wide .ensures ∙ built-at energyOf 1 1024 (d - 1) h ∙ ap energyOf e
 
 pub energy-spec : {M : Type 1} → statement M
-energy-spec = tie.close (tie.spec returns sub-k mul-result array-read-result returns-2)
+energy-spec = tie.close (tie.spec returns sub-k mul-wide array-read-wide wide-requires returns-2)
