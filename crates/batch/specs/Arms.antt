@@ -38,8 +38,8 @@ use Rattle.batch.specs.declared.Stop.the-variants.{Drained, Full, Halted
 use Rattle.turn_file.specs.Lines.{lineOf}
 use Rattle.turn_file.specs.Buffer.{written, after, written-length}
 use Rattle.batch.specs.Serving.{opening, acting, Progress, hasRoom, wrote, servedAll}
-use Rattle.batch.specs.Watched.{Watched, opened-sound}
-use Rattle.batch.specs.Gate.{gateOf, openGate, open-gate-is, usable, refused-is, enqueue-is, dequeue-is, step-is, back}
+use Rattle.admission.specs.Watched.{Watched, opened-sound}
+use Rattle.admission.specs.Gate.{gateOf, openGate, open-gate-is, usable, refused-is, enqueue-is, dequeue-is, step-is, back}
 use Rattle.batch.specs.Rounds.{Going, going, go-on, drained, halted, full, at-work, enqueue-watched, dequeue-watched, step-watched}
 
 -- what the loop keeps: `words` and `last` are what it computed from the lent slices

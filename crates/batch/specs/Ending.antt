@@ -7,7 +7,7 @@ use Rattle.calendar.specs.Operations.{Memory}
 use Rattle.batch.specs.declared.Desk.{Desk}
 use Rattle.batch.specs.declared.Progress as declared
 use Rattle.batch.specs.Serving.{Progress, Stopped}
-use Rattle.batch.specs.Watched.{Watched}
+use Rattle.admission.specs.Watched.{Watched}
 use Rattle.batch.specs.Rounds.{at-work}
 
 abbrev pub lentTo : Desk → List ℕ → Memory

@@ -24,8 +24,8 @@ use Rattle.turn_file.specs.Reading.{recordAt, whole}
 use Rattle.turn_file.specs.OneReading.{read-on}
 use Rattle.batch.specs.declared.Stop.the-variants.{Drained, Full, Halted}
 use Rattle.batch.specs.Serving.{Session, Answered, opening, acting, Progress, Stopped, hasRoom, wrote, served, servedAll}
-use Rattle.batch.specs.Watched.{inRange, Watched, enqueue-sound, dequeue-sound, step-sound}
-use Rattle.batch.specs.Gate.{gateOf, usable, sound-is, turn-at-3}
+use Rattle.admission.specs.Watched.{inRange, Watched, enqueue-sound, dequeue-sound, step-sound}
+use Rattle.admission.specs.Gate.{gateOf, gate-passed, usable, turn-at-3}
 
 -- ── the flag past an action that the gate lets in ──
 module _ (sh : Shape) (m : Memory) (i : ℕ) (sound : Bool) (watched : Watched sh m sound) (z : gateOf sh (length (m .store)) (length (m .table)) i sound ≡ 0) where
@@ -33,7 +33,7 @@ module _ (sh : Shape) (m : Memory) (i : ℕ) (sound : Bool) (watched : Watched s
   U = usable sh m sound watched i z
 
   up : sound ≡ true
-  up = sound-is sh m sound watched i z
+  up = gate-passed sh (length (m .store)) (length (m .table)) i sound z .0
 
   ranged : inRange sh m ≡ true
   ranged = sym (watched (U .lent)) ∙ up

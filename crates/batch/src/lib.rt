@@ -4,15 +4,15 @@ ghost use lib.ListN.{length};
 ghost use Rattle.calendar.specs.RangesKept.{leaks};
 ghost use Rattle.stages.specs.Ready.{Ready};
 ghost use Rattle.batch.specs.Serving.{servedAll};
-ghost use Rattle.batch.specs.Watched.{Watched};
+ghost use Rattle.admission.specs.Watched.{Watched};
 ghost use Rattle.batch.specs.Rounds.{at-work};
 ghost use Rattle.batch.specs.Ending.{lentTo, begins, ends, Sound};
+use admission::gate;
+use admission::open_gate;
 use arrival::Action;
 use arrival::Response;
 use arrival::Shape;
 use arrival::Worker;
-use gate::gate;
-use gate::open_gate;
 use stages::step;
 use starts::opening::open_store;
 use starts::start_dequeue;
@@ -25,7 +25,6 @@ use turn_file::write_line;
 use words::get_cell;
 use words::get_field;
 
-pub mod gate;
 pub mod table;
 
 // Why a stretch was left: every byte is worked through, the next line may not fit, or what follows is refused by 7 or 8.

@@ -4,6 +4,7 @@ ghost use Prim.Native.Nat.{_≤_};
 ghost use Rattle.calendar.specs.Opening.{openWord, openStore};
 ghost use Rattle.words.specs.Laid.{Laid};
 use arrival::Shape;
+use words::layout_words;
 
 // The word that opening writes at address i.
 fn open_word(shape: Shape, i: u64) -> u64
@@ -25,7 +26,7 @@ pub fn open_store(shape: Shape, store: &mut [u64])
     requires { ⌜ 1 ≤ shape .nodes ⌝ }
     ensures { λ r. ⌜ now (store .exit) ≡ openStore shape (now (store .entry)) ⌝ }
 {
-    let end = (3 + shape.buckets + 8 * shape.nodes) as usize;
+    let end = layout_words(shape);
     let mut i: usize = 0;
     while i < end {
         store[i] = open_word(shape, i as u64);

@@ -1,10 +1,18 @@
 // The lent store by place: reading and writing one word. Only these functions know addresses.
 ghost use mathlib.Core.Path.{_≡_};
 ghost use Prim.Native.Nat.{_+_, _-_, _*_, _<_, _≤_};
-ghost use Rattle.calendar.specs.Layout.{word, cell, field, read, write, itemAt};
+ghost use Rattle.calendar.specs.Layout.{word, cell, field, layout, read, write, itemAt};
 ghost use Rattle.words.specs.Laid.{Laid};
 use arrival::Item;
 use arrival::Shape;
+
+// How many words the layout has.
+pub fn layout_words(shape: Shape) -> usize
+    requires { ⌜ (shape .buckets ≤ 256) × (shape .nodes ≤ 4096) ⌝ }
+    ensures { λ r. ⌜ r ≡ layout shape ⌝ }
+{
+    (3 + shape.buckets + 8 * shape.nodes) as usize
+}
 
 // A cell's address: the heads follow three words, and a node's link is the first of its eight words.
 fn cell_address(buckets: u64, p: u64) -> usize

@@ -17,14 +17,8 @@ Inv-loop shape store₀ end i₀ store i = (i ≤ end) × (length store ≡ leng
 abbrev μ-loop : tie.MeasureT-loop
 μ-loop shape store₀ end i₀ store i = end - i
 
-add-end : tie.Need-add-end Inv-loop μ-loop
-add-end c = search needs
-
-mul-end : tie.Need-mul-end Inv-loop μ-loop
-mul-end c = search needs
-
-add-end-2 : tie.Need-add-end-2 Inv-loop μ-loop
-add-end-2 c = search needs
+layout-words-requires : tie.Need-layout-words-requires Inv-loop μ-loop
+layout-words-requires c κs = search needs
 
 loop-holds : tie.Need-loop-holds Inv-loop μ-loop
 loop-holds c = (omega arith, refl, words-none _ _)
@@ -45,14 +39,14 @@ loop-less : tie.Need-loop-less Inv-loop μ-loop
 loop-less c = search needs
 
 loop-again : tie.Need-loop-again Inv-loop μ-loop
-loop-again c = (omega arith, simp length-set (c .before .before .loop .inv .1), cc (c .before .before .loop .inv .2, c .open-word .ensures, words-more (openWord (c .before .before .before .before .before .before .args .shape)) (c .before .before .loop .i) (c .before .before .before .before .before .before .args .store .now) (omega arith)))
+loop-again c = (omega arith, simp length-set (c .before .before .loop .inv .1), cc (c .before .before .loop .inv .2, c .open-word .ensures, words-more (openWord (c .before .before .before .before .before .args .shape)) (c .before .before .loop .i) (c .before .before .before .before .before .args .store .now) (omega arith)))
 
 same-length : tie.Need-same-length Inv-loop μ-loop
 same-length c = c .before .loop .inv .1
 
 returns : tie.Need-returns Inv-loop μ-loop
 unfolding openStore
-returns c = let e : c .before .loop .i ≡ layout (c .before .before .before .before .before .args .shape) = omega arith in cc (e, c .before .loop .inv .2)
+returns c = let e : c .before .loop .i ≡ layout (c .before .before .before .before .args .shape) = omega arith in cc (e, c .before .loop .inv .2)
 
 pub open-store-spec : {M : Type 1} → statement M
 open-store-spec =
@@ -60,9 +54,7 @@ open-store-spec =
     (tie.spec
     Inv-loop
     μ-loop
-    add-end
-    mul-end
-    add-end-2
+    layout-words-requires
     loop-holds
     open-word-requires
     mul-store

@@ -1,0 +1,60 @@
+// Refusals 1 to 4. Of 3 there is a flag: computed by a look at every field, or carried from record to record.
+ghost use mathlib.Core.Path.{_≡_};
+ghost use mathlib.Core.Bool.{true};
+ghost use lib.ListN.{length};
+ghost use Rattle.calendar.specs.Ranges.{shapeInRange};
+ghost use Rattle.admission.specs.Gate.{short, gateOf, openGate, soundOf};
+use arrival::Shape;
+use ranges::shape_in_range;
+use ranges::store_in_range;
+use words::layout_words;
+
+// Whether so many words or records are too few.
+fn is_short(shape: Shape, words: usize, records: usize) -> bool
+    requires { ⌜ shapeInRange shape ≡ true ⌝ }
+    ensures { λ r. ⌜ r ≡ short shape words records ⌝ }
+{
+    (words < layout_words(shape)) | (records < shape.workers as usize)
+}
+
+// Refusals 1 to 4, or 0.
+pub fn gate(shape: Shape, words: usize, records: usize, i: u64, sound: bool) -> u64
+    ensures { λ r. ⌜ r ≡ gateOf shape words records i sound ⌝ }
+{
+    if !shape_in_range(shape) {
+        return 1;
+    }
+    if is_short(shape, words, records) {
+        return 2;
+    }
+    if !sound {
+        return 3;
+    }
+    if shape.workers <= i {
+        return 4;
+    }
+    0
+}
+
+// An opening's refusal, or 0.
+pub fn open_gate(shape: Shape, words: usize, records: usize) -> u64
+    ensures { λ r. ⌜ r ≡ openGate shape words records ⌝ }
+{
+    if !shape_in_range(shape) {
+        return 1;
+    }
+    if is_short(shape, words, records) {
+        return 2;
+    }
+    0
+}
+
+// The flag by a look at every word; ok: the workers' records are in range.
+pub fn is_sound(shape: Shape, records: usize, ok: bool, store: &[u64]) -> bool
+    ensures { λ r. ⌜ r ≡ soundOf shape (now (store .entry)) records ok ⌝ }
+{
+    if open_gate(shape, store.len(), records) != 0 {
+        return false;
+    }
+    store_in_range(shape, store) & ok
+}

@@ -1,4 +1,0 @@
-pub mod Survey
-pub mod Gate
-pub mod Results
-pub mod Cleared

@@ -1,0 +1,51 @@
+use mathlib.Core.Path.{sym, _∙_}
+use borrow.Author.Tests.{eq-eqb, ne-eqb}
+use Rattle.wubraken.specs.Gate.{passed}
+use Rattle.wubraken.specs.Results.{dequeueOn}
+use borrow.Author.Needs.{needs}
+use Rattle.wubraken.proofs.records.dequeue_record.Statement.{statement}
+use Rattle.wubraken.proofs.records.dequeue_record.Tie as tie
+use Rattle.wubraken.proofs.records.dequeue_record.Reads as reads
+use Rattle.wubraken.proofs.records.dequeue_record.Lts as lts
+use Rattle.starts.proofs.start_dequeue.Reads as start-dequeue-reads
+use Rattle.wubraken.proofs.answers.answer_of.Reads as answer-of-reads
+use Rattle.wubraken.proofs.records.gate_on.Reads as gate-on-reads
+
+gate-on-requires : tie.Need-gate-on-requires
+gate-on-requires c κs = search needs
+
+answer-of-requires : tie.Need-answer-of-requires
+answer-of-requires c κs = search needs
+
+same-length : tie.Need-same-length
+same-length c = search needs
+
+returns : tie.Need-returns
+unfolding dequeueOn
+returns c = rw (← c .before .before .gate-on .ensures, ne-eqb _ _ (c .before .if1 .taken), c .answer-of .ensures)
+
+start-dequeue-requires : tie.Need-start-dequeue-requires
+start-dequeue-requires c κs = let p = passed _ _ _ _ _ (sym (c .before .before .gate-on .ensures) ∙ c .before .if1 .left) in (p .laid, p .store .started)
+
+answer-of-requires-2 : tie.Need-answer-of-requires-2
+answer-of-requires-2 c κs = search needs
+
+same-length-2 : tie.Need-same-length-2
+same-length-2 c = search needs
+
+returns-2 : tie.Need-returns-2
+unfolding dequeueOn
+returns-2 c = rw (← c .before .before .before .before .before .before .before .gate-on .ensures, eq-eqb _ _ (c .before .before .before .before .before .before .if1 .left), ← c .before .before .before .before .start-dequeue .ensures, c .answer-of2 .ensures)
+
+pub dequeue-record-spec : {M : Type 1} → statement M
+dequeue-record-spec =
+    tie.close
+    (tie.spec
+    gate-on-requires
+    answer-of-requires
+    same-length
+    returns
+    start-dequeue-requires
+    answer-of-requires-2
+    same-length-2
+    returns-2)

@@ -1,0 +1,21 @@
+use Rattle.wubraken.specs.Gate.{gateOn}
+use borrow.Author.Needs.{needs}
+use Rattle.wubraken.proofs.records.gate_on.Statement.{statement}
+use Rattle.wubraken.proofs.records.gate_on.Tie as tie
+use Rattle.wubraken.proofs.records.gate_on.Reads as reads
+use Rattle.wubraken.proofs.records.gate_on.Lts as lts
+use Rattle.admission.proofs.gate.Reads as gate-reads
+use Rattle.admission.proofs.is_sound.Reads as is-sound-reads
+
+is-sound-requires : tie.Need-is-sound-requires
+is-sound-requires c κs = search needs
+
+gate-requires : tie.Need-gate-requires
+gate-requires c κs = search needs
+
+returns : tie.Need-returns
+unfolding gateOn
+returns c = rw (← c .before .is-sound .ensures) (c .gate .ensures)
+
+pub gate-on-spec : {M : Type 1} → statement M
+gate-on-spec = tie.close (tie.spec is-sound-requires gate-requires returns)

@@ -1,0 +1,20 @@
+-- One record more in the look over the table. Assumes nothing.
+use native.Mathlib.Omega.{arith}
+use borrow.Author.Needs.{needs}
+use Rattle.calendar.specs.RangeFacts.{limits}
+use Rattle.wubraken.specs.Survey.{seen}
+use Rattle.wubraken.proofs.table.look.Statement.{statement}
+use Rattle.wubraken.proofs.table.look.Tie as tie
+
+record-in-range-requires : tie.Need-record-in-range-requires
+record-in-range-requires c κs = let l = limits (c .args .shape) (c .pre) in (l .some-bucket, omega arith)
+
+lower-ticket-requires : tie.Need-lower-ticket-requires
+lower-ticket-requires c κs = search needs
+
+returns : tie.Need-returns
+unfolding seen
+returns c = rw (c .before .before .record-in-range .ensures, c .lower-ticket .ensures)
+
+pub look-spec : {M : Type 1} → statement M
+look-spec = tie.close (tie.spec record-in-range-requires lower-ticket-requires returns)

@@ -1,0 +1,5 @@
+pub mod Answers
+pub mod Survey
+pub mod Gate
+pub mod Results
+pub mod Cleared

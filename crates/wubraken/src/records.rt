@@ -1,0 +1,137 @@
+// The operations on one record: refusals 1 to 4, then the by-value core.
+ghost use mathlib.Core.Path.{_≡_};
+ghost use Prim.Native.Nat.{_≤_};
+ghost use Rattle.arrival.specs.declared.Response.the-variants.{Refused};
+ghost use Rattle.wubraken.specs.Answers.{answerOf};
+ghost use Rattle.wubraken.specs.Survey.{Surveyed};
+ghost use Rattle.wubraken.specs.Gate.{gateOn};
+ghost use Rattle.wubraken.specs.Results.{left, coded, enqueueOn, dequeueOn, stepOn, opensWords};
+use super::answers::Answer;
+use super::answers::answer_of;
+use super::table::Survey;
+use admission::gate;
+use admission::is_sound;
+use admission::open_gate;
+use arrival::Arrival;
+use arrival::Response;
+use arrival::Shape;
+use arrival::Worker;
+use starts::opening::open_store;
+use starts::start_dequeue;
+use starts::start_enqueue;
+
+// What an operation leaves of a record, and its answer.
+pub struct Handled {
+    pub worker: Worker,
+    pub answer: Answer,
+}
+
+// Refusals 1 to 4, or 0, of n records.
+fn gate_on(shape: Shape, i: usize, n: usize, seen: Survey, store: &[u64]) -> u64
+    ensures { λ r. ⌜ r ≡ gateOn shape (now (store .entry)) i n (seen .ok) ⌝ }
+{
+    let ok = seen.ok;
+    let sound = is_sound(shape, n, ok, store);
+    gate(shape, store.len(), n, i as u64, sound)
+}
+
+// The answer where worker i has no record.
+pub fn turn_away(shape: Shape, i: usize, n: usize, seen: Survey, store: &mut [u64]) -> Answer
+    ensures { λ r. ⌜ (r ≡ answerOf (Refused (gateOn shape (now (store .entry)) i n (seen .ok)))) × (now (store .exit) ≡ now (store .entry)) ⌝ }
+{
+    let k = gate_on(shape, i, n, seen, store);
+    answer_of(Response::Refused(k))
+}
+
+pub fn enqueue_record(
+    shape: Shape,
+    i: usize,
+    arrival: Arrival,
+    n: usize,
+    seen: Survey,
+    w: Worker,
+    store: &mut [u64],
+) -> Handled
+    requires { ⌜ Surveyed shape i seen w ⌝ }
+    ensures { λ r. ⌜ left (now (store .exit)) r ≡ coded (enqueueOn shape i arrival n seen (now (store .entry)) w) ⌝ }
+{
+    let k = gate_on(shape, i, n, seen, store);
+    if k != 0 {
+        let answer = answer_of(Response::Refused(k));
+        return Handled { worker: w, answer };
+    }
+    let begun = start_enqueue(shape, seen.low, arrival, w, store);
+    let worker = begun.worker;
+    let response = begun.response;
+    let answer = answer_of(response);
+    Handled { worker, answer }
+}
+
+pub fn dequeue_record(
+    shape: Shape,
+    i: usize,
+    n: usize,
+    seen: Survey,
+    w: Worker,
+    store: &mut [u64],
+) -> Handled
+    requires { ⌜ Surveyed shape i seen w ⌝ }
+    ensures { λ r. ⌜ left (now (store .exit)) r ≡ coded (dequeueOn shape i n seen (now (store .entry)) w) ⌝ }
+{
+    let k = gate_on(shape, i, n, seen, store);
+    if k != 0 {
+        let answer = answer_of(Response::Refused(k));
+        return Handled { worker: w, answer };
+    }
+    let begun = start_dequeue(shape, w, store);
+    let worker = begun.worker;
+    let response = begun.response;
+    let answer = answer_of(response);
+    Handled { worker, answer }
+}
+
+pub fn step_record(
+    shape: Shape,
+    i: usize,
+    n: usize,
+    seen: Survey,
+    w: Worker,
+    store: &mut [u64],
+) -> Handled
+    requires { ⌜ Surveyed shape i seen w ⌝ }
+    ensures { λ r. ⌜ left (now (store .exit)) r ≡ coded (stepOn shape i n seen (now (store .entry)) w) ⌝ }
+{
+    let k = gate_on(shape, i, n, seen, store);
+    if k != 0 {
+        let answer = answer_of(Response::Refused(k));
+        return Handled { worker: w, answer };
+    }
+    let stepped = stages::step(shape, w, store);
+    let worker = stepped.worker;
+    let response = stepped.response;
+    let answer = answer_of(response);
+    Handled { worker, answer }
+}
+
+// How many records opening clears, and its answer.
+pub struct Opening {
+    pub records: usize,
+    pub answer: Answer,
+}
+
+// Opens the store of a table of n records.
+pub fn open_words(shape: Shape, n: usize, store: &mut [u64]) -> Opening
+    ensures { λ r. ⌜ (opensWords shape (now (store .entry)) n (now (store .exit)) r) × (r .records ≤ n) ⌝ }
+{
+    let k = open_gate(shape, store.len(), n);
+    if k != 0 {
+        let answer = answer_of(Response::Refused(k));
+        return Opening { records: 0, answer };
+    }
+    open_store(shape, store);
+    let answer = answer_of(Response::Opened);
+    Opening {
+        records: shape.workers as usize,
+        answer,
+    }
+}

@@ -1,0 +1,84 @@
+// The lent table as a whole: one look over the workers' records, and clearing them.
+ghost use mathlib.Core.Path.{_≡_};
+ghost use mathlib.Core.Bool.{true};
+ghost use mathlib.Core.List.{_++_};
+ghost use Prim.Native.Nat.{_≤_};
+ghost use lib.ListN.{length, drop, replicate};
+ghost use Rattle.calendar.specs.Ranges.{shapeInRange, blank};
+ghost use Rattle.wubraken.specs.Survey.{seen, surveyed, survey};
+use arrival::Shape;
+use arrival::Worker;
+use ranges::record_in_range;
+use ranges::shape_in_range;
+use starts::free::lower_ticket;
+
+// What a look over records finds: whether all are in range, and the least ticket in progress.
+pub struct Survey {
+    pub ok: bool,
+    pub low: u64,
+}
+
+// One record more.
+pub fn look(shape: Shape, found: Survey, w: Worker) -> Survey
+    requires { ⌜ shapeInRange shape ≡ true ⌝ }
+    ensures { λ r. ⌜ r ≡ seen shape found w ⌝ }
+{
+    Survey {
+        ok: found.ok & record_in_range(shape, w),
+        low: lower_ticket(found.low, w),
+    }
+}
+
+// How many of n records are looked at.
+pub fn records_surveyed(shape: Shape, n: usize) -> usize
+    ensures { λ r. ⌜ r ≡ surveyed shape n ⌝ }
+{
+    if !shape_in_range(shape) {
+        return 0;
+    }
+    if (n as u64) < shape.workers {
+        return n;
+    }
+    shape.workers as usize
+}
+
+// The look over the workers' records.
+pub fn survey_table(shape: Shape, table: &[Worker]) -> Survey
+    ensures { λ r. ⌜ r ≡ survey shape (now (table .entry)) ⌝ }
+{
+    let n = records_surveyed(shape, table.len());
+    let mut found = Survey {
+        ok: true,
+        low: 4294967296,
+    };
+    let mut k: usize = 0;
+    while k < n {
+        let w = table[k];
+        found = look(shape, found, w);
+        k = k + 1;
+    }
+    found
+}
+
+// The first n records become idle, all fields 0.
+pub fn clear_table(table: &mut [Worker], n: usize)
+    requires { ⌜ n ≤ length (now table) ⌝ }
+    ensures { λ _. ⌜ now (table .exit) ≡ replicate n blank ++ drop n (now (table .entry)) ⌝ }
+{
+    let idle = Worker {
+        stage: 0,
+        kind: 0,
+        own: 0,
+        bucket: 0,
+        left: 0,
+        right: 0,
+        seen: 0,
+        current: 0,
+        ticket: 0,
+    };
+    let mut k: usize = 0;
+    while k < n {
+        table[k] = idle;
+        k = k + 1;
+    }
+}
