@@ -6,7 +6,8 @@ use mathlib.Core.Logic.{_≢_}
 use Prim.Native.Nat.{ℕ, _+_, _-_, _≤_, _<_}
 use native.Mathlib.Omega.{arith}
 use lib.Dec.{eqb}
-use lib.ListN.{length, set, drop, replicate}
+use lib.ListN.{length, take, set, drop, replicate, length-set}
+use lib.Seq.{length-take-le, getD-take, take-set-lt}
 use borrow.Author.Tests.{le-leb, lt-leb, eq-eqb, ne-eqb}
 use Rattle.arrival.specs.declared.Shape.{Shape}
 use Rattle.arrival.specs.declared.Arrival.{Arrival}
@@ -38,56 +39,71 @@ use Rattle.batch.specs.declared.Stop.the-variants.{Drained, Full, Halted
 use Rattle.turn_file.specs.Lines.{lineOf}
 use Rattle.turn_file.specs.Buffer.{written, after, written-length}
 use Rattle.batch.specs.Serving.{opening, acting, Progress, hasRoom, wrote, servedAll}
+use Rattle.batch.specs.Taken.{least-taken, over-taken, over-length}
 use Rattle.admission.specs.Watched.{Watched, opened-sound}
 use Rattle.admission.specs.Gate.{gateOf, openGate, open-gate-is, usable, refused-is, enqueue-is, dequeue-is, step-is, back}
 use Rattle.batch.specs.Rounds.{Going, going, go-on, drained, halted, full, at-work, enqueue-watched, dequeue-watched, step-watched}
 
--- what the loop keeps: `words` and `last` are what it computed from the lent slices
-pub record Round (bytes : List ℕ) (p₀ : Progress) (words last : ℕ) (p : Progress) (sound : Bool) : Type 0 where
-  pub going : Going bytes p₀ p sound
-  pub store : words ≡ length (p .session .memory .store)
-  pub lines : last + 89 ≡ length (p .lines)
+-- What the loop keeps: `words`, `records` and `last` are what it computed from what is lent, and t is its array, of which the first records are lent.
+pub record Round (bytes : List ℕ) (p₀ : Progress) (words records last : ℕ) (sh : Shape) (s : List ℕ) (t : List Worker) (at : ℕ) (lines : List ℕ) (to : ℕ) (sound : Bool) : Type 0 where
+  pub going : Going bytes p₀ (at-work sh s (take records t) at lines to) sound
+  pub store : words ≡ length s
+  pub array : length t ≡ 64
+  pub lent : records ≤ 64
+  pub buffer : last + 89 ≡ length lines
 
--- the line l of a record, written
-pub record Line (lines : List ℕ) (to : ℕ) (l : Response) (lines′ : List ℕ) (to′ : ℕ) : Type 0 where
-  pub place : to′ ≡ after lines to (lineOf l)
-  pub text : lines′ ≡ written lines to (lineOf l)
+-- the line l of a record, written, as `write_line` tells
+abbrev pub Line : List ℕ → ℕ → Response → List ℕ → ℕ → Type 0
+Line lines to l lines′ to′ = (to′ ≡ after lines to (lineOf l)) × (lines′ ≡ written lines to (lineOf l)) × (length (lineOf l) ≤ 89)
 
-module _ (bytes : List ℕ) (p₀ : Progress) (words last : ℕ) (sh : Shape) (s : List ℕ) (t : List Worker) (at : ℕ) (lines : List ℕ) (to : ℕ) (sound : Bool)
-    (R : Round bytes p₀ words last (at-work sh s t at lines to) sound) where
+module _ {bytes : List ℕ} {p₀ : Progress} {words records last : ℕ} {sh : Shape} {s : List ℕ} {t : List Worker} {at : ℕ} {lines : List ℕ} {to : ℕ} {sound : Bool}
+    (R : Round bytes p₀ words records last sh s t at lines to sound) where
   abbrev m : Memory
-  m = record { store = s; table = t }
+  m = record { store = s; table = take records t }
 
-  W : Watched sh (record { store = s; table = t }) sound
+  W : Watched sh (record { store = s; table = take records t }) sound
   W = R .going .watched
 
-  gate-here : (i : ℕ) → gateOf sh words 64 i sound ≡ gateOf sh (length s) (length t) i sound
-  gate-here i = rw (R .store, R .going .records)
+  counted : records ≡ length (take records t)
+  counted = sym (length-take-le records t (omega (arith, R .array, R .lent)))
+
+  gate-here : (i : ℕ) → gateOf sh words records i sound ≡ gateOf sh (length s) (length (take records t)) i sound
+  gate-here i = ap (λ n. gateOf sh n records i sound) (R .store) ∙ ap (λ n. gateOf sh (length s) n i sound) counted
+
+  open-gate-here : (sh′ : Shape) → openGate sh′ words records ≡ openRefusal sh′ s (take records t)
+  open-gate-here sh′ = ap (λ n. openGate sh′ n records) (R .store) ∙ ap (openGate sh′ (length s)) counted ∙ open-gate-is sh′ m
 
   -- what a gate that refuses nothing tells
-  module _ (i k : ℕ) (is : k ≡ gateOf sh words 64 i sound) (z : k ≡ 0) where
-    passes : gateOf sh (length s) (length t) i sound ≡ 0
+  module _ (i k : ℕ) (is : k ≡ gateOf sh words records i sound) (z : k ≡ 0) where
+    passes : gateOf sh (length s) (length (take records t)) i sound ≡ 0
     passes = sym (gate-here i) ∙ sym is ∙ z
 
-    pub in-use : Usable sh s t i
+    pub in-use : Usable sh s (take records t) i
     in-use = usable sh m sound W i passes
 
     pub below-64 : i < 64
     below-64 = omega (arith, in-use .exists, in-use .lent .limits .workers)
 
+    is-lent : i < records
+    is-lent = omega (arith, in-use .exists, in-use .lent .table, counted)
+
+    -- worker i's record, in the array
+    own : worker (take records t) i ≡ worker t i
+    own = getD-take records t i blank is-lent
+
     pub laid-out : Laid sh s
     laid-out = laid sh s (in-use .lent .limits) (in-use .lent .store)
 
     pub ready : Ready sh s (worker t i)
-    ready = record { laid = laid-out; store = in-use .store; worker = in-use .table i (in-use .exists) }
+    ready = subst (λ (w : Worker). Ready sh s w) own record { laid = laid-out; store = in-use .store; worker = in-use .table i (in-use .exists) }
 
   -- an opening that is not refused
-  module _ (sh′ : Shape) (k : ℕ) (is : k ≡ openGate sh′ words 64) (z : k ≡ 0) where
-    no-refusal : openRefusal sh′ s t ≡ 0
-    no-refusal = sym (open-gate-is sh′ m) ∙ sym (ap (λ n. openGate sh′ n 64) (R .store) ∙ ap (openGate sh′ (length s)) (sym (R .going .records))) ∙ sym is ∙ z
+  module _ (sh′ : Shape) (k : ℕ) (is : k ≡ openGate sh′ words records) (z : k ≡ 0) where
+    no-refusal : openRefusal sh′ s (take records t) ≡ 0
+    no-refusal = sym (open-gate-here sh′) ∙ sym is ∙ z
 
-    pub lent-to : Lent sh′ s t
-    lent-to = open-accepted sh′ s t no-refusal
+    pub lent-to : Lent sh′ s (take records t)
+    lent-to = open-accepted sh′ s (take records t) no-refusal
 
     pub laid-for : Laid sh′ s
     laid-for = laid sh′ s (lent-to .limits) (lent-to .store)
@@ -95,105 +111,119 @@ module _ (bytes : List ℕ) (p₀ : Progress) (words last : ℕ) (sh : Shape) (s
   -- ── the rounds ──
   module _ (fits : to ≤ last) (next : ℕ) (l : Response) (lines′ : List ℕ) (to′ : ℕ) (line : Line lines to l lines′ to′) where
     room : hasRoom lines to ≡ true
-    room = le-leb (to + 89) (length lines) (omega (arith, R .lines))
+    room = le-leb (to + 89) (length lines) (omega (arith, R .buffer))
 
     length-kept : last + 89 ≡ length lines′
-    length-kept = R .lines ∙ sym (ap length (line .text) ∙ written-length lines to (lineOf l))
+    length-kept = R .buffer ∙ sym (ap length (line .1) ∙ written-length lines to (lineOf l))
 
     -- an action a with what it leaves
-    acted : (a : Action) → Act a next ≡ recordAt bytes at → (s′ : List ℕ) (t′ : List Worker) → record { memory = record { store = s′; table = t′ }; response = l } ≡ act sh (record { store = s; table = t }) a
-        → (sound′ : Bool) → Watched sh (act sh (record { store = s; table = t }) a .memory) sound′ → Round bytes p₀ words last (at-work sh s′ t′ next lines′ to′) sound′
+    acted : (a : Action) → Act a next ≡ recordAt bytes at → (s′ : List ℕ) (t′ : List Worker) → length t′ ≡ 64
+        → record { memory = record { store = s′; table = take records t′ }; response = l } ≡ act sh (record { store = s; table = take records t }) a
+        → (sound′ : Bool) → Watched sh (act sh (record { store = s; table = take records t }) a .memory) sound′ → Round bytes p₀ words records last sh s′ t′ next lines′ to′ sound′
     unfolding acting
-    acted a e s′ t′ is sound′ w = record {
-      going = go-on bytes p₀ (at-work sh s t at lines to) sound (R .going) room (acts a) next e (at-work sh s′ t′ next lines′ to′) there sound′
-          (subst⁻¹ (λ (r : Result). Watched sh (r .memory) sound′) is w)
-          (ap (λ (r : Result). length (r .memory .table)) is ∙ act-same-size sh m a .table ∙ R .going .records);
+    acted a e s′ t′ array is sound′ w = record {
+      going = go-on bytes p₀ (at-work sh s (take records t) at lines to) sound (R .going) room (acts a) next e (at-work sh s′ (take records t′) next lines′ to′) there sound′
+          (subst⁻¹ (λ (r : Result). Watched sh (r .memory) sound′) is w);
       store = R .store ∙ sym (ap (λ (r : Result). length (r .memory .store)) is ∙ act-same-size sh m a .store);
-      lines = length-kept;
+      array = array;
+      lent = R .lent;
+      buffer = length-kept;
     }
       where
-        there : at-work sh s′ t′ next lines′ to′ ≡ wrote (at-work sh s t at lines to) next (acting a (record { shape = sh; memory = record { store = s; table = t } }))
+        there : at-work sh s′ (take records t′) next lines′ to′ ≡ wrote (at-work sh s (take records t) at lines to) next (acting a (record { shape = sh; memory = record { store = s; table = take records t } }))
         there = λ j. record {
           session = record { shape = sh; memory = is j .memory };
           at = next;
-          lines = (line .text ∙ ap (λ (r : Result). written lines to (lineOf (r .response))) is) j;
-          to = (line .place ∙ ap (λ (r : Result). after lines to (lineOf (r .response))) is) j;
+          lines = (line .1 ∙ ap (λ (r : Result). written lines to (lineOf (r .response))) is) j;
+          to = (line .0 ∙ ap (λ (r : Result). after lines to (lineOf (r .response))) is) j;
         }
 
     -- refused by 1 to 4
-    pub turned-away : (a : Action) → Act a next ≡ recordAt bytes at → (k : ℕ) → k ≡ gateOf sh words 64 (actor a) sound → k ≢ 0 → l ≡ Refused k → Round bytes p₀ words last (at-work sh s t next lines′ to′) sound
+    pub turned-away : (a : Action) → Act a next ≡ recordAt bytes at → (k : ℕ) → k ≡ gateOf sh words records (actor a) sound → k ≢ 0 → l ≡ Refused k → Round bytes p₀ words records last sh s t next lines′ to′ sound
     turned-away a e k is n said =
         let g = is ∙ gate-here (actor a) in
         let r = refused-is sh m sound W a (λ z. n (g ∙ z)) in
-        acted a e s t (ap (λ (x : Response). record { memory = m; response = x }) (said ∙ ap Refused g) ∙ r) sound
+        acted a e s t (R .array) (ap (λ (x : Response). record { memory = m; response = x }) (said ∙ ap Refused g) ∙ r) sound
         (subst (λ (x : Result). Watched sh (x .memory) sound) r W)
 
-    module _ (i k : ℕ) (is : k ≡ gateOf sh words 64 i sound) (z : k ≡ 0) (s′ : List ℕ) (w′ : Worker) where
-      abbrev left : Done
-      left = record { store = s′; worker = w′; response = l }
+    module _ (i k : ℕ) (is : k ≡ gateOf sh words records i sound) (z : k ≡ 0) (s′ : List ℕ) (w′ : Worker) where
+      -- the record stored in the array, and what that is of the lent ones
+      array-kept : length (set t i w′) ≡ 64
+      array-kept = length-set t i w′ ∙ R .array
+
+      stored : (d : Done) → record { store = s′; worker = w′; response = l } ≡ d
+          → record { memory = record { store = s′; table = take records (set t i w′) }; response = l } ≡ back (take records t) i d
+      stored d e = ap (λ (u : List Worker). record { memory = record { store = s′; table = u }; response = l }) (take-set-lt records t i w′ (is-lent i k is z)) ∙ ap (back (take records t) i) e
 
       pub enqueued : (a : Arrival) → Act (Enqueue i a) next ≡ recordAt bytes at → (low : ℕ) → low ≡ leastTicket t (sh .workers)
-          → record { store = s′; worker = w′; response = l } ≡ localEnqueue sh low s a (worker t i) → Round bytes p₀ words last (at-work sh s′ (set t i w′) next lines′ to′) sound
+          → record { store = s′; worker = w′; response = l } ≡ localEnqueue sh low s a (worker t i) → Round bytes p₀ words records last sh s′ (set t i w′) next lines′ to′ sound
       enqueued a e low least d =
           let g = passes i k is z in
-          acted (Enqueue i a) e s′ (set t i w′) (ap (back t i) (d ∙ ap (λ (n : ℕ). localEnqueue sh n s a (worker t i)) least) ∙ enqueue-is sh m sound W i a g) sound (enqueue-watched sh m i sound W g a)
+          let U = in-use i k is z in
+          let among = least-taken records t (sh .workers) (omega (arith, U .lent .table, counted)) in
+          let same = ap (λ (n : ℕ). localEnqueue sh n s a (worker t i)) (least ∙ sym among) ∙ ap (localEnqueue sh (leastTicket (take records t) (sh .workers)) s a) (sym (own i k is z)) in
+          acted (Enqueue i a) e s′ (set t i w′) array-kept (stored _ (d ∙ same) ∙ enqueue-is sh m sound W i a g) sound (enqueue-watched sh m i sound W g a)
 
-      pub dequeued : Act (Dequeue i) next ≡ recordAt bytes at → record { store = s′; worker = w′; response = l } ≡ localDequeue sh s (worker t i) → Round bytes p₀ words last (at-work sh s′ (set t i w′) next lines′ to′) sound
+      pub dequeued : Act (Dequeue i) next ≡ recordAt bytes at → record { store = s′; worker = w′; response = l } ≡ localDequeue sh s (worker t i) → Round bytes p₀ words records last sh s′ (set t i w′) next lines′ to′ sound
       dequeued e d =
           let g = passes i k is z in
-          acted (Dequeue i) e s′ (set t i w′) (ap (back t i) d ∙ dequeue-is sh m sound W i g) sound (dequeue-watched sh m i sound W g)
+          acted (Dequeue i) e s′ (set t i w′) array-kept (stored _ (d ∙ ap (localDequeue sh s) (sym (own i k is z))) ∙ dequeue-is sh m sound W i g) sound (dequeue-watched sh m i sound W g)
 
       pub stepped : Act (Step i) next ≡ recordAt bytes at → (leak : Bool) → leak ≡ leaks sh s (worker t i) → record { store = s′; worker = w′; response = l } ≡ localStep sh s (worker t i)
-          → Round bytes p₀ words last (at-work sh s′ (set t i w′) next lines′ to′) (not leak)
+          → Round bytes p₀ words records last sh s′ (set t i w′) next lines′ to′ (not leak)
       stepped e leak is-leak d =
           let g = passes i k is z in
-          acted (Step i) e s′ (set t i w′) (ap (back t i) d ∙ step-is sh m sound W i g) (not leak)
-          (subst⁻¹ (λ b. Watched sh (act sh m (Step i) .memory) (not b)) is-leak (step-watched sh m i sound W g))
+          let o = sym (own i k is z) in
+          acted (Step i) e s′ (set t i w′) array-kept (stored _ (d ∙ ap (localStep sh s) o) ∙ step-is sh m sound W i g) (not leak)
+          (subst⁻¹ (λ b. Watched sh (act sh m (Step i) .memory) (not b)) (is-leak ∙ ap (leaks sh s) o) (step-watched sh m i sound W g))
 
     -- an opening with what it leaves
-    opened-with : (sh′ : Shape) → Open sh′ next ≡ recordAt bytes at → (sh″ : Shape) (s′ : List ℕ) (t′ : List Worker) → sh″ ≡ cond (eqb (openRefusal sh′ s t) 0) sh′ sh
-        → record { memory = record { store = s′; table = t′ }; response = l } ≡ open-pool sh′ (record { store = s; table = t })
-        → (sound′ : Bool) → Watched sh″ (record { store = s′; table = t′ }) sound′ → Round bytes p₀ words last (at-work sh″ s′ t′ next lines′ to′) sound′
+    opened-with : (sh′ : Shape) → Open sh′ next ≡ recordAt bytes at → (sh″ : Shape) (s′ : List ℕ) (t′ : List Worker) → length t′ ≡ 64 → sh″ ≡ cond (eqb (openRefusal sh′ s (take records t)) 0) sh′ sh
+        → record { memory = record { store = s′; table = take records t′ }; response = l } ≡ open-pool sh′ (record { store = s; table = take records t })
+        → (sound′ : Bool) → Watched sh″ (record { store = s′; table = take records t′ }) sound′ → Round bytes p₀ words records last sh″ s′ t′ next lines′ to′ sound′
     unfolding opening
-    opened-with sh′ e sh″ s′ t′ shape is sound′ w = record {
-      going = go-on bytes p₀ (at-work sh s t at lines to) sound (R .going) room (opens sh′) next e (at-work sh″ s′ t′ next lines′ to′) there sound′ w
-          (ap (λ (r : Result). length (r .memory .table)) is ∙ open-same-size sh′ m .table ∙ R .going .records);
+    opened-with sh′ e sh″ s′ t′ array shape is sound′ w = record {
+      going = go-on bytes p₀ (at-work sh s (take records t) at lines to) sound (R .going) room (opens sh′) next e (at-work sh″ s′ (take records t′) next lines′ to′) there sound′ w;
       store = R .store ∙ sym (ap (λ (r : Result). length (r .memory .store)) is ∙ open-same-size sh′ m .store);
-      lines = length-kept;
+      array = array;
+      lent = R .lent;
+      buffer = length-kept;
     }
       where
-        there : at-work sh″ s′ t′ next lines′ to′ ≡ wrote (at-work sh s t at lines to) next (opening sh′ (record { shape = sh; memory = record { store = s; table = t } }))
+        there : at-work sh″ s′ (take records t′) next lines′ to′ ≡ wrote (at-work sh s (take records t) at lines to) next (opening sh′ (record { shape = sh; memory = record { store = s; table = take records t } }))
         there = λ j. record {
           session = record { shape = shape j; memory = is j .memory };
           at = next;
-          lines = (line .text ∙ ap (λ (r : Result). written lines to (lineOf (r .response))) is) j;
-          to = (line .place ∙ ap (λ (r : Result). after lines to (lineOf (r .response))) is) j;
+          lines = (line .1 ∙ ap (λ (r : Result). written lines to (lineOf (r .response))) is) j;
+          to = (line .0 ∙ ap (λ (r : Result). after lines to (lineOf (r .response))) is) j;
         }
 
-    pub not-opened : (sh′ : Shape) → Open sh′ next ≡ recordAt bytes at → (k : ℕ) → k ≡ openGate sh′ words 64 → k ≢ 0 → l ≡ Refused k → Round bytes p₀ words last (at-work sh s t next lines′ to′) sound
+    pub not-opened : (sh′ : Shape) → Open sh′ next ≡ recordAt bytes at → (k : ℕ) → k ≡ openGate sh′ words records → k ≢ 0 → l ≡ Refused k → Round bytes p₀ words records last sh s t next lines′ to′ sound
     unfolding open-pool
     not-opened sh′ e k is n said =
-        let g : k ≡ openRefusal sh′ s t = is ∙ rw (R .store, ← R .going .records) (open-gate-is sh′ m) in
-        let none = ne-eqb (openRefusal sh′ s t) 0 (λ z. n (g ∙ z)) in
-        opened-with sh′ e sh s t (rw none) (rw (none, said, g)) sound W
+        let g = is ∙ open-gate-here sh′ in
+        let none = ne-eqb (openRefusal sh′ s (take records t)) 0 (λ z. n (g ∙ z)) in
+        opened-with sh′ e sh s t (R .array) (rw none) (rw (none, said, g)) sound W
 
-    pub opened : (sh′ : Shape) → Open sh′ next ≡ recordAt bytes at → (k : ℕ) → k ≡ openGate sh′ words 64 → k ≡ 0 → l ≡ Opened → (s′ : List ℕ) → s′ ≡ openStore sh′ s
-        → (t′ : List Worker) → t′ ≡ replicate (sh′ .workers) blank ++ drop (sh′ .workers) t → Round bytes p₀ words last (at-work sh′ s′ t′ next lines′ to′) true
+    pub opened : (sh′ : Shape) → Open sh′ next ≡ recordAt bytes at → (k : ℕ) → k ≡ openGate sh′ words records → k ≡ 0 → l ≡ Opened → (s′ : List ℕ) → s′ ≡ openStore sh′ s
+        → (t′ : List Worker) → t′ ≡ replicate (sh′ .workers) blank ++ drop (sh′ .workers) t → Round bytes p₀ words records last sh′ s′ t′ next lines′ to′ true
     unfolding open-pool openTable
     opened sh′ e k is z said s′ store t′ table =
-        let all = eq-eqb (openRefusal sh′ s t) 0 (no-refusal sh′ k is z) in
-        opened-with sh′ e sh′ s′ t′ (rw all) (rw (all, said, store, table)) true
-        (λ _. rw (store, table) (sym (opened-sound sh′ m (lent-to sh′ k is z .limits))))
+        let all = eq-eqb (openRefusal sh′ s (take records t)) 0 (no-refusal sh′ k is z) in
+        let L = lent-to sh′ k is z in
+        let array = ap length table ∙ over-length blank t (sh′ .workers) (omega (arith, L .limits .workers, R .array)) ∙ R .array in
+        let first = ap (take records) table ∙ over-taken blank records t (sh′ .workers) (omega (arith, L .table, counted)) (omega (arith, R .lent, R .array)) in
+        opened-with sh′ e sh′ s′ t′ array (rw all) (rw (all, said, store, first)) true (λ _. rw (store, first) (sym (opened-sound sh′ m (L .limits))))
 
   -- ── the ends ──
-  pub at-drained : to ≤ last → End ≡ recordAt bytes at → record { progress = at-work sh s t at lines to; stop = Drained } ≡ servedAll bytes p₀
-  at-drained fits e = drained bytes p₀ (at-work sh s t at lines to) sound (R .going) (le-leb (to + 89) (length lines) (omega (arith, R .lines))) e
+  pub at-drained : to ≤ last → End ≡ recordAt bytes at → record { progress = at-work sh s (take records t) at lines to; stop = Drained } ≡ servedAll bytes p₀
+  at-drained fits e = drained bytes p₀ (at-work sh s (take records t) at lines to) sound (R .going) (le-leb (to + 89) (length lines) (omega (arith, R .buffer))) e
 
-  pub at-halted : to ≤ last → (k : ℕ) → variants.Refused k ≡ recordAt bytes at → record { progress = at-work sh s t at lines to; stop = Halted k } ≡ servedAll bytes p₀
-  at-halted fits k e = halted bytes p₀ (at-work sh s t at lines to) sound (R .going) (le-leb (to + 89) (length lines) (omega (arith, R .lines))) k e
+  pub at-halted : to ≤ last → (k : ℕ) → variants.Refused k ≡ recordAt bytes at → record { progress = at-work sh s (take records t) at lines to; stop = Halted k } ≡ servedAll bytes p₀
+  at-halted fits k e = halted bytes p₀ (at-work sh s (take records t) at lines to) sound (R .going) (le-leb (to + 89) (length lines) (omega (arith, R .buffer))) k e
 
-  pub at-full : last < to → record { progress = at-work sh s t at lines to; stop = Full } ≡ servedAll bytes p₀
-  at-full over = full bytes p₀ (at-work sh s t at lines to) sound (R .going) (lt-leb (to + 89) (length lines) (omega (arith, R .lines)))
+  pub at-full : last < to → record { progress = at-work sh s (take records t) at lines to; stop = Full } ≡ servedAll bytes p₀
+  at-full over = full bytes p₀ (at-work sh s (take records t) at lines to) sound (R .going) (lt-leb (to + 89) (length lines) (omega (arith, R .buffer)))
 
 -- ── what was read ──
 module _ (bytes : List ℕ) (at : ℕ) (r : Read) (read : r ≡ recordAt bytes at) where
@@ -213,9 +243,14 @@ module _ (bytes : List ℕ) (at : ℕ) (r : Read) (read : r ≡ recordAt bytes a
   nearer-act a next e = nearer (acts a) next e
 
 -- ── before the loop ──
-module _ (bytes : List ℕ) (sh : Shape) (s : List ℕ) (t : List Worker) (at : ℕ) (lines : List ℕ) (to : ℕ) (sound : Bool) (watched : Watched sh (record { store = s; table = t }) sound) (records : length t ≡ 64) where
-  pub first-round : (words last : ℕ) → words ≡ length s → last + 89 ≡ length lines → Round bytes (at-work sh s t at lines to) words last (at-work sh s t at lines to) sound
-  first-round words last store long = record { going = going bytes (at-work sh s t at lines to) sound watched records; store = store; lines = long }
+pub no-room : (bytes : List ℕ) (sh : Shape) (s : List ℕ) (lent : List Worker) (at : ℕ) (lines : List ℕ) (to : ℕ) (sound : Bool) → Watched sh (record { store = s; table = lent }) sound → length lines < 89
+    → record { progress = at-work sh s lent at lines to; stop = Full } ≡ servedAll bytes (at-work sh s lent at lines to)
+no-room bytes sh s lent at lines to sound watched short =
+    let p = at-work sh s lent at lines to in
+    full bytes p p sound (going bytes p sound watched) (lt-leb (to + 89) (length lines) (omega arith))
 
-  pub no-room : length lines < 89 → record { progress = at-work sh s t at lines to; stop = Full } ≡ servedAll bytes (at-work sh s t at lines to)
-  no-room short = full bytes (at-work sh s t at lines to) (at-work sh s t at lines to) sound (going bytes (at-work sh s t at lines to) sound watched records) (lt-leb (to + 89) (length lines) (omega arith))
+pub first-round : (bytes : List ℕ) (sh : Shape) (s : List ℕ) (records : ℕ) (t : List Worker) (at : ℕ) (lines : List ℕ) (to : ℕ) (sound : Bool)
+    → Watched sh (record { store = s; table = take records t }) sound → length t ≡ 64 → records ≤ 64 → (words last : ℕ) → words ≡ length s → last + 89 ≡ length lines
+    → Round bytes (at-work sh s (take records t) at lines to) words records last sh s t at lines to sound
+first-round bytes sh s records t at lines to sound watched array lent words last store long =
+    record { going = going bytes (at-work sh s (take records t) at lines to) sound watched; store = store; array = array; lent = lent; buffer = long }

@@ -1,8 +1,9 @@
 -- A stretch as the code has it: the desk and the lent slices, before and after. Assumes nothing.
 use mathlib.Core.Path.{_≡_}
 use mathlib.Core.List.{List}
-use Prim.Native.Nat.{ℕ}
-use lib.ListN.{length}
+use Prim.Native.Nat.{ℕ, _≤_}
+use lib.ListN.{length, take}
+use Rattle.arrival.specs.declared.Worker.{Worker}
 use Rattle.calendar.specs.Operations.{Memory}
 use Rattle.batch.specs.declared.Desk.{Desk}
 use Rattle.batch.specs.declared.Progress as declared
@@ -10,15 +11,19 @@ use Rattle.batch.specs.Serving.{Progress, Stopped}
 use Rattle.admission.specs.Watched.{Watched}
 use Rattle.batch.specs.Rounds.{at-work}
 
-abbrev pub lentTo : Desk → List ℕ → Memory
-lentTo d s = record { store = s; table = d .table }
+-- the records that are lent
+abbrev pub lentRecords : Desk → List Worker
+lentRecords d = take (d .records) (d .table)
 
--- a desk has 64 records, and its flag tells whether the memory is in range
+abbrev pub lentTo : Desk → List ℕ → Memory
+lentTo d s = record { store = s; table = lentRecords d }
+
+-- a desk lends at most the 64 records of its array, and its flag tells whether the memory is in range
 abbrev pub Sound : Desk → List ℕ → Type 0
-Sound d s = (length (d .table) ≡ 64) × Watched (d .shape) (lentTo d s) (d .sound)
+Sound d s = (length (d .table) ≡ 64) × (d .records ≤ 64) × Watched (d .shape) (lentTo d s) (d .sound)
 
 abbrev pub begins : Desk → List ℕ → ℕ → List ℕ → ℕ → Progress
-begins d s at lines to = at-work (d .shape) s (d .table) at lines to
+begins d s at lines to = at-work (d .shape) s (lentRecords d) at lines to
 
 abbrev pub ends : List ℕ → List ℕ → declared.Progress → Stopped
 ends s lines r = record { progress = begins (r .desk) s (r .at) lines (r .to); stop = r .stop }

@@ -1,6 +1,7 @@
 pub mod Serving
 pub mod Bounds
 pub mod Clearing
+pub mod Taken
 pub mod Rounds
 pub mod Arms
 pub mod Ending

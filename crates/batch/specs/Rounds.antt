@@ -70,10 +70,9 @@ pub record Going (bytes : List ℕ) (p₀ p : Progress) (sound : Bool) : Type 0 
   pub enough : length bytes - p .at ≤ left
   pub same : served (suc left) bytes p ≡ servedAll bytes p₀
   pub watched : Watched (p .session .shape) (p .session .memory) sound
-  pub records : length (p .session .memory .table) ≡ 64
 
-pub going : (bytes : List ℕ) (p : Progress) (sound : Bool) → Watched (p .session .shape) (p .session .memory) sound → length (p .session .memory .table) ≡ 64 → Going bytes p p sound
-going bytes p sound w r = record { left = length bytes; enough = omega arith; same = ap (λ (n : ℕ). served n bytes p) (omega arith); watched = w; records = r }
+pub going : (bytes : List ℕ) (p : Progress) (sound : Bool) → Watched (p .session .shape) (p .session .memory) sound → Going bytes p p sound
+going bytes p sound w = record { left = length bytes; enough = omega arith; same = ap (λ (n : ℕ). served n bytes p) (omega arith); watched = w }
 
 abbrev answer : Record → Session → Answered
 answer (opens sh) x = opening sh x
@@ -87,8 +86,8 @@ module _ (bytes : List ℕ) (p₀ p : Progress) (sound : Bool) (G : Going bytes 
 
   -- one record more
   pub go-on : hasRoom (p .lines) (p .to) ≡ true → (r : Record) (next : ℕ) → whole r next ≡ recordAt bytes (p .at) → (p′ : Progress) → p′ ≡ wrote p next (answer r (p .session))
-      → (sound′ : Bool) → Watched (p′ .session .shape) (p′ .session .memory) sound′ → length (p′ .session .memory .table) ≡ 64 → Going bytes p₀ p′ sound′
-  go-on room r next e p′ is sound′ w len = go (G .left) (G .enough) (G .same)
+      → (sound′ : Bool) → Watched (p′ .session .shape) (p′ .session .memory) sound′ → Going bytes p₀ p′ sound′
+  go-on room r next e p′ is sound′ w = go (G .left) (G .enough) (G .same)
     where
       on : (p .at < next) × (next ≤ length bytes)
       on = read-on bytes (p .at) r next (sym e)
@@ -103,7 +102,6 @@ module _ (bytes : List ℕ) (p₀ p : Progress) (sound : Bool) (G : Going bytes 
         enough = omega (arith, on .0, on .1, there);
         same = ap (served (suc left) bytes) is ∙ sym (served-on (suc left) room r next e) ∙ s;
         watched = w;
-        records = len;
       }
 
   -- the ends

@@ -35,9 +35,11 @@ pub enum Stop {
 }
 
 // A pool between two stretches: the shape so far, whether store and table are in range, the workers' records.
+// Only the first `records` are lent; what stands behind them says nothing.
 pub struct Desk {
     pub shape: Shape,
     pub sound: bool,
+    pub records: usize,
     pub table: [Worker; 64],
 }
 
@@ -73,10 +75,11 @@ pub fn serve(
 ) -> Progress
     requires { ⌜ Sound desk (now store) ⌝ }
     ensures { λ r. ⌜ (ends (now (store .exit)) (now (out .exit)) r ≡ servedAll (now (input .entry)) (begins desk (now (store .entry)) at (now (out .entry)) to))
-        × Sound (r .desk) (now (store .exit)) ⌝ }
+        × Sound (r .desk) (now (store .exit)) × (r .desk .records ≡ desk .records) ⌝ }
 {
     let mut shape = desk.shape;
     let mut sound = desk.sound;
+    let records = desk.records;
     let mut table = desk.table;
     let mut at = at;
     let mut to = to;
@@ -87,6 +90,7 @@ pub fn serve(
             desk: Desk {
                 shape,
                 sound,
+                records,
                 table,
             },
             at,
@@ -99,7 +103,7 @@ pub fn serve(
         let record = read_record(input, at);
         match record {
             Read::Open(opened, next) => {
-                let k = open_gate(opened, words, 64);
+                let k = open_gate(opened, words, records);
                 if k != 0 {
                     to = write_line(Response::Refused(k), out, to);
                     at = next;
@@ -114,7 +118,7 @@ pub fn serve(
             }
             Read::Act(action, next) => match action {
                 Action::Enqueue(i, arrival) => {
-                    let k = gate(shape, words, 64, i, sound);
+                    let k = gate(shape, words, records, i, sound);
                     if k != 0 {
                         to = write_line(Response::Refused(k), out, to);
                         at = next;
@@ -130,7 +134,7 @@ pub fn serve(
                     }
                 }
                 Action::Dequeue(i) => {
-                    let k = gate(shape, words, 64, i, sound);
+                    let k = gate(shape, words, records, i, sound);
                     if k != 0 {
                         to = write_line(Response::Refused(k), out, to);
                         at = next;
@@ -145,7 +149,7 @@ pub fn serve(
                     }
                 }
                 Action::Step(i) => {
-                    let k = gate(shape, words, 64, i, sound);
+                    let k = gate(shape, words, records, i, sound);
                     if k != 0 {
                         to = write_line(Response::Refused(k), out, to);
                         at = next;
@@ -166,6 +170,7 @@ pub fn serve(
                     desk: Desk {
                         shape,
                         sound,
+                        records,
                         table,
                     },
                     at,
@@ -178,6 +183,7 @@ pub fn serve(
                     desk: Desk {
                         shape,
                         sound,
+                        records,
                         table,
                     },
                     at,
@@ -191,6 +197,7 @@ pub fn serve(
         desk: Desk {
             shape,
             sound,
+            records,
             table,
         },
         at,

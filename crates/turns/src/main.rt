@@ -37,6 +37,7 @@ fn fresh_desk(store: &[u64]) -> Desk
     Desk {
         shape,
         sound: false,
+        records: 64,
         table: [idle; 64],
     }
 }

@@ -2,28 +2,34 @@
 use mathlib.Core.Path.{_≡_, refl, sym, _∙_}
 use Prim.Native.Nat.{_+_, _-_}
 use native.Mathlib.Omega.{arith}
-use lib.ListN.{length}
+use lib.ListN.{length, take}
 use Rattle.calendar.specs.Ranges.{blank}
 use Rattle.starts.specs.Least.{least-bound}
 use Rattle.batch.specs.Rounds.{at-work}
-use Rattle.batch.specs.Arms.{Round, in-use, below-64, laid-out, ready, lent-to, laid-for, turned-away, enqueued, dequeued, stepped, not-opened, opened, at-drained, at-halted, at-full, known-open, known-act, nearer-open, nearer-act, first-round, no-room}
+use Rattle.batch.specs.Arms.{Round, in-use, below-64, laid-out, ready, lent-to, laid-for}
+use Rattle.batch.specs.Arms.{turned-away, enqueued, dequeued, stepped, not-opened, opened, at-drained, at-halted, at-full}
+use Rattle.batch.specs.Arms.{known-open, known-act, nearer-open, nearer-act, first-round, no-room}
 use borrow.Author.Needs.{needs}
 use Rattle.batch.proofs.serve.Statement.{statement}
 use Rattle.batch.proofs.serve.Tie as tie
 
 abbrev Inv-loop : tie.InvT-loop
-Inv-loop input at out₀ to store₀ shape₀ sound₀ table₀ at₀ to₀ words room last out store shape sound table at' to' =
-    Round input (at-work shape₀ store₀ table₀ at₀ out₀ to₀) words last (at-work shape store table at' out to') sound × (words ≡ length store₀) × (last + 89 ≡ length out₀)
+Inv-loop input at out₀ to store₀ shape₀ sound₀ records table₀ at₀ to₀ words room last out store shape sound table at' to' =
+    Round input (at-work shape₀ store₀ (take records table₀) at₀ out₀ to₀) words records last shape store table at' out to' sound
+    × (words ≡ length store₀) × (last + 89 ≡ length out₀)
 
 abbrev μ-loop : tie.MeasureT-loop
-μ-loop input at out₀ to store₀ shape₀ sound₀ table₀ at₀ to₀ words room last out store shape sound table at' to' =
-    length input - at'
+μ-loop input at out₀ to store₀ shape₀ sound₀ records table₀ at₀ to₀ words room last out store shape sound table at' to' = length input - at'
 
 returns : tie.Need-returns Inv-loop μ-loop
-returns c = (no-room (c .before .before .before .before .before .before .args .input .now) _ _ _ _ _ _ _ (c .before .before .before .before .before .before .pre .1) (c .before .before .before .before .before .before .pre .0) (c .if1 .taken), c .before .before .before .before .before .before .pre)
+returns c =
+    let pre = c .before .before .before .before .before .before .pre in
+    (no-room (c .before .before .before .before .before .before .args .input .now) _ _ _ _ _ _ _ (pre .2) (c .if1 .taken), pre, refl)
 
 loop-holds : tie.Need-loop-holds Inv-loop μ-loop
-loop-holds c = (first-round _ _ _ _ _ _ _ _ (c .before .before .before .before .before .before .pre .1) (c .before .before .before .before .before .before .pre .0) _ _ refl (omega arith), refl, omega arith)
+loop-holds c =
+    let pre = c .before .before .before .before .before .before .pre in
+    (first-round _ _ _ _ _ _ _ _ _ (pre .2) (pre .0) (pre .1) _ _ refl (omega arith), refl, omega arith)
 
 read-record-requires : tie.Need-read-record-requires Inv-loop μ-loop
 read-record-requires c κs = search needs
@@ -38,35 +44,43 @@ write-line-requires : tie.Need-write-line-requires Inv-loop μ-loop
 write-line-requires c κs = search needs
 
 loop-less : tie.Need-loop-less Inv-loop μ-loop
-loop-less c = nearer-open _ _ _ (c .before .before .before .before .before .before .before .before .before .read-record .ensures) _ _ (c .before .before .before .before .before .before .before .«record» .given .1)
+loop-less c =
+    let g = c .before .before .before .before in
+    nearer-open _ _ _ (g .before .before .before .before .before .read-record .ensures) _ _ (g .before .before .before .«record» .given .1)
 
 loop-again : tie.Need-loop-again Inv-loop μ-loop
-loop-again c = (
-  not-opened _ _ _ _ _ _ _ _ _ _ _ (c .before .before .before .before .before .before .before .before .before .before .before .loop .inv .0) (c .before .before .before .before .before .before .before .before .before .before .loop-test .taken) _ _ _ _ record { place = c .before .before .write-line .ensures .0; text = c .before .before .write-line .ensures .1 } _
-      (known-open _ _ _ (c .before .before .before .before .before .before .before .before .before .read-record .ensures) _ _ (c .before .before .before .before .before .before .before .«record» .given .1)) _ (c .before .before .before .before .before .open-gate .ensures) (c .before .before .before .before .if2 .taken) refl,
-  c .before .before .before .before .before .before .before .before .before .before .before .loop .inv .1,
-  c .before .before .before .before .before .before .before .before .before .before .before .loop .inv .2,
-)
+loop-again c =
+    let g = c .before .before .before .before in
+    let inv = g .before .before .before .before .before .before .before .loop .inv in
+    let read = known-open _ _ _ (g .before .before .before .before .before .read-record .ensures) _ _ (g .before .before .before .«record» .given .1) in
+    (not-opened (inv .0) (g .before .before .before .before .before .before .loop-test .taken) _ _ _ _ (c .before .before .write-line .ensures) _ read _ (g .before .open-gate .ensures) (g .if2 .taken) refl, inv .1, inv .2)
 
 open-store-requires : tie.Need-open-store-requires Inv-loop μ-loop
-open-store-requires c κs = (laid-for _ _ _ _ _ _ _ _ _ _ _ (c .before .before .before .before .before .before .before .before .loop .inv .0) _ _ (c .before .before .open-gate .ensures) (c .before .if2 .left), lent-to _ _ _ _ _ _ _ _ _ _ _ (c .before .before .before .before .before .before .before .before .loop .inv .0) _ _ (c .before .before .open-gate .ensures) (c .before .if2 .left) .limits .some-node)
+open-store-requires c κs =
+    let g = c .before in
+    let R = g .before .before .before .before .before .before .before .loop .inv .0 in
+    (laid-for R _ _ (g .before .open-gate .ensures) (g .if2 .left), lent-to R _ _ (g .before .open-gate .ensures) (g .if2 .left) .limits .some-node)
 
 cleared-requires : tie.Need-cleared-requires Inv-loop μ-loop
-cleared-requires c κs = lent-to _ _ _ _ _ _ _ _ _ _ _ (c .before .before .before .before .before .before .before .before .before .before .before .loop .inv .0) _ _ (c .before .before .before .before .before .open-gate .ensures) (c .before .before .before .before .if2 .left) .limits .workers
+cleared-requires c κs =
+    let g = c .before .before .before .before in
+    lent-to (g .before .before .before .before .before .before .before .loop .inv .0) _ _ (g .before .open-gate .ensures) (g .if2 .left) .limits .workers
 
 write-line-requires-2 : tie.Need-write-line-requires-2 Inv-loop μ-loop
 write-line-requires-2 c κs = search needs
 
 loop-less-2 : tie.Need-loop-less-2 Inv-loop μ-loop
-loop-less-2 c = nearer-open _ _ _ (c .before .before .before .before .before .before .before .before .before .before .before .before .before .before .read-record .ensures) _ _ (c .before .before .before .before .before .before .before .before .before .before .before .before .«record» .given .1)
+loop-less-2 c =
+    let g = c .before .before .before .before .before .before .before .before .before in
+    nearer-open _ _ _ (g .before .before .before .before .before .read-record .ensures) _ _ (g .before .before .before .«record» .given .1)
 
 loop-again-2 : tie.Need-loop-again-2 Inv-loop μ-loop
-loop-again-2 c = (
-  opened _ _ _ _ _ _ _ _ _ _ _ (c .before .before .before .before .before .before .before .before .before .before .before .before .before .before .before .before .loop .inv .0) (c .before .before .before .before .before .before .before .before .before .before .before .before .before .before .before .loop-test .taken) _ _ _ _ record { place = c .before .before .write-line2 .ensures .0; text = c .before .before .write-line2 .ensures .1 } _
-      (known-open _ _ _ (c .before .before .before .before .before .before .before .before .before .before .before .before .before .before .read-record .ensures) _ _ (c .before .before .before .before .before .before .before .before .before .before .before .before .«record» .given .1)) _ (c .before .before .before .before .before .before .before .before .before .before .open-gate .ensures) (c .before .before .before .before .before .before .before .before .before .if2 .left) refl _ (c .before .before .before .before .before .before .before .open-store .ensures) _ (c .before .before .before .before .cleared .ensures),
-  c .before .before .before .before .before .before .before .before .before .before .before .before .before .before .before .before .loop .inv .1,
-  c .before .before .before .before .before .before .before .before .before .before .before .before .before .before .before .before .loop .inv .2,
-)
+loop-again-2 c =
+    let g = c .before .before .before .before .before .before .before .before .before in
+    let inv = g .before .before .before .before .before .before .before .loop .inv in
+    let read = known-open _ _ _ (g .before .before .before .before .before .read-record .ensures) _ _ (g .before .before .before .«record» .given .1) in
+    let did = opened (inv .0) (g .before .before .before .before .before .before .loop-test .taken) _ _ _ _ (c .before .before .write-line2 .ensures) _ read _ (g .before .open-gate .ensures) (g .if2 .left) refl in
+    (did _ (c .before .before .before .before .before .before .before .open-store .ensures) _ (c .before .before .before .before .cleared .ensures), inv .1, inv .2)
 
 enum-known-record-2 : tie.Need-enum-known-record-2 Inv-loop μ-loop
 enum-known-record-2 c = search needs
@@ -81,49 +95,69 @@ write-line-requires-3 : tie.Need-write-line-requires-3 Inv-loop μ-loop
 write-line-requires-3 c κs = search needs
 
 loop-less-3 : tie.Need-loop-less-3 Inv-loop μ-loop
-loop-less-3 c = nearer-act _ _ _ (c .before .before .before .before .before .before .before .before .before .before .before .before .read-record .ensures) _ _ (c .before .before .before .before .before .before .before .before .before .before .record2 .given .1)
+loop-less-3 c =
+    let g = c .before .before .before .before in
+    nearer-act _ _ _ (g .before .before .before .before .before .before .before .before .read-record .ensures) _ _ (g .before .before .before .before .before .before .record2 .given .1)
 
 loop-again-3 : tie.Need-loop-again-3 Inv-loop μ-loop
-loop-again-3 c = (
-  turned-away _ _ _ _ _ _ _ _ _ _ _ (c .before .before .before .before .before .before .before .before .before .before .before .before .before .before .loop .inv .0) (c .before .before .before .before .before .before .before .before .before .before .before .before .before .loop-test .taken) _ _ _ _ record { place = c .before .before .write-line3 .ensures .0; text = c .before .before .write-line3 .ensures .1 } _
-      (known-act _ _ _ (c .before .before .before .before .before .before .before .before .before .before .before .before .read-record .ensures) _ _ _ (c .before .before .before .before .before .before .before .before .before .before .record2 .given .1) (c .before .before .before .before .before .before .before .action .given .1)) _ (c .before .before .before .before .before .gate .ensures) (c .before .before .before .before .if3 .taken) refl,
-  c .before .before .before .before .before .before .before .before .before .before .before .before .before .before .loop .inv .1,
-  c .before .before .before .before .before .before .before .before .before .before .before .before .before .before .loop .inv .2,
-)
+loop-again-3 c =
+    let g = c .before .before .before .before in
+    let inv = g .before .before .before .before .before .before .before .before .before .before .loop .inv in
+    let read = known-act _ _ _ (g .before .before .before .before .before .before .before .before .read-record .ensures) _ _ _ (g .before .before .before .before .before .before .record2 .given .1) (g .before .before .before .action .given .1) in
+    (turned-away (inv .0) (g .before .before .before .before .before .before .before .before .before .loop-test .taken) _ _ _ _ (c .before .before .write-line3 .ensures) _ read _ (g .before .gate .ensures) (g .if3 .taken) refl, inv .1, inv .2)
 
 mul-w : tie.Need-mul-w Inv-loop μ-loop
-mul-w c = let p = below-64 _ _ _ _ _ _ _ _ _ _ _ (c .before .before .before .before .before .before .before .before .before .before .loop .inv .0) _ _ (c .before .gate .ensures) (c .if3 .left) in omega arith
+mul-w c =
+    let g = c in
+    let p = below-64 (g .before .before .before .before .before .before .before .before .before .before .loop .inv .0) _ _ (g .before .gate .ensures) (g .if3 .left) in
+    omega arith
 
 array-copy-out-w : tie.Need-array-copy-out-w Inv-loop μ-loop
-array-copy-out-w c = below-64 _ _ _ _ _ _ _ _ _ _ _ (c .before .before .before .before .before .before .before .before .before .before .loop .inv .0) _ _ (c .before .gate .ensures) (c .if3 .left)
+array-copy-out-w c =
+    let g = c in
+    below-64 (g .before .before .before .before .before .before .before .before .before .before .loop .inv .0) _ _ (g .before .gate .ensures) (g .if3 .left)
 
 least-ticket-requires : tie.Need-least-ticket-requires Inv-loop μ-loop
-least-ticket-requires c κs = in-use _ _ _ _ _ _ _ _ _ _ _ (c .before .before .before .before .before .before .before .before .before .before .before .loop .inv .0) _ _ (c .before .before .gate .ensures) (c .before .if3 .left) .lent .limits .workers
+least-ticket-requires c κs =
+    let g = c .before in
+    let U = in-use (g .before .before .before .before .before .before .before .before .before .before .loop .inv .0) _ _ (g .before .gate .ensures) (g .if3 .left) in
+    omega (arith, U .lent .limits .workers)
 
 start-enqueue-requires : tie.Need-start-enqueue-requires Inv-loop μ-loop
-start-enqueue-requires c κs = let U = in-use _ _ _ _ _ _ _ _ _ _ _ (c .before .before .before .before .before .before .before .before .before .before .before .before .before .loop .inv .0) _ _ (c .before .before .before .before .gate .ensures) (c .before .before .before .if3 .left) in
-    (laid-out _ _ _ _ _ _ _ _ _ _ _ (c .before .before .before .before .before .before .before .before .before .before .before .before .before .loop .inv .0) _ _ (c .before .before .before .before .gate .ensures) (c .before .before .before .if3 .left), (U .store .started, U .store .last, rw (c .before .least-ticket .ensures) (least-bound _ _), U .lent .limits .some-width, U .lent .limits .width))
+start-enqueue-requires c κs =
+    let g = c .before .before .before in
+    let R = g .before .before .before .before .before .before .before .before .before .before .loop .inv .0 in
+    let U = in-use R _ _ (g .before .gate .ensures) (g .if3 .left) in
+    let low = c .before .least-ticket .ensures in
+    (laid-out R _ _ (g .before .gate .ensures) (g .if3 .left), (U .store .started, U .store .last, rw low (least-bound _ _), U .lent .limits .some-width, U .lent .limits .width))
 
 mul-table : tie.Need-mul-table Inv-loop μ-loop
-mul-table c = let p = below-64 _ _ _ _ _ _ _ _ _ _ _ (c .before .before .before .before .before .before .before .before .before .before .before .before .before .before .before .before .before .loop .inv .0) _ _ (c .before .before .before .before .before .before .before .before .gate .ensures) (c .before .before .before .before .before .before .before .if3 .left) in omega arith
+mul-table c =
+    let g = c .before .before .before .before .before .before .before in
+    let p = below-64 (g .before .before .before .before .before .before .before .before .before .before .loop .inv .0) _ _ (g .before .gate .ensures) (g .if3 .left) in
+    omega arith
 
 array-set-from-table : tie.Need-array-set-from-table Inv-loop μ-loop
-array-set-from-table c = below-64 _ _ _ _ _ _ _ _ _ _ _ (c .before .before .before .before .before .before .before .before .before .before .before .before .before .before .before .before .before .loop .inv .0) _ _ (c .before .before .before .before .before .before .before .before .gate .ensures) (c .before .before .before .before .before .before .before .if3 .left)
+array-set-from-table c =
+    let g = c .before .before .before .before .before .before .before in
+    below-64 (g .before .before .before .before .before .before .before .before .before .before .loop .inv .0) _ _ (g .before .gate .ensures) (g .if3 .left)
 
 write-line-requires-4 : tie.Need-write-line-requires-4 Inv-loop μ-loop
 write-line-requires-4 c κs = search needs
 
 loop-less-4 : tie.Need-loop-less-4 Inv-loop μ-loop
-loop-less-4 c = nearer-act _ _ _ (c .before .before .before .before .before .before .before .before .before .before .before .before .before .before .before .before .before .before .before .read-record .ensures) _ _ (c .before .before .before .before .before .before .before .before .before .before .before .before .before .before .before .before .before .record2 .given .1)
+loop-less-4 c =
+    let g = c .before .before .before .before .before .before .before .before .before .before .before in
+    nearer-act _ _ _ (g .before .before .before .before .before .before .before .before .read-record .ensures) _ _ (g .before .before .before .before .before .before .record2 .given .1)
 
 loop-again-4 : tie.Need-loop-again-4 Inv-loop μ-loop
 unfolding blank
-loop-again-4 c = (
-  enqueued _ _ _ _ _ _ _ _ _ _ _ (c .before .before .before .before .before .before .before .before .before .before .before .before .before .before .before .before .before .before .before .before .before .loop .inv .0) (c .before .before .before .before .before .before .before .before .before .before .before .before .before .before .before .before .before .before .before .before .loop-test .taken) _ _ _ _ record { place = c .before .before .write-line4 .ensures .0; text = c .before .before .write-line4 .ensures .1 } _ _ (c .before .before .before .before .before .before .before .before .before .before .before .before .gate .ensures) (c .before .before .before .before .before .before .before .before .before .before .before .if3 .left) _ _ _
-      (known-act _ _ _ (c .before .before .before .before .before .before .before .before .before .before .before .before .before .before .before .before .before .before .before .read-record .ensures) _ _ _ (c .before .before .before .before .before .before .before .before .before .before .before .before .before .before .before .before .before .record2 .given .1) (c .before .before .before .before .before .before .before .before .before .before .before .before .before .before .action .given .1)) _ (c .before .before .before .before .before .before .before .before .before .least-ticket .ensures) (c .before .before .before .before .before .before .before .start-enqueue .ensures),
-  c .before .before .before .before .before .before .before .before .before .before .before .before .before .before .before .before .before .before .before .before .before .loop .inv .1,
-  c .before .before .before .before .before .before .before .before .before .before .before .before .before .before .before .before .before .before .before .before .before .loop .inv .2,
-)
+loop-again-4 c =
+    let g = c .before .before .before .before .before .before .before .before .before .before .before in
+    let inv = g .before .before .before .before .before .before .before .before .before .before .loop .inv in
+    let read = known-act _ _ _ (g .before .before .before .before .before .before .before .before .read-record .ensures) _ _ _ (g .before .before .before .before .before .before .record2 .given .1) (g .before .before .before .action .given .1) in
+    let did = enqueued (inv .0) (g .before .before .before .before .before .before .before .before .before .loop-test .taken) _ _ _ _ (c .before .before .write-line4 .ensures) _ _ (g .before .gate .ensures) (g .if3 .left) _ _ _ read _ in
+    (did (c .before .before .before .before .before .before .before .before .before .least-ticket .ensures) (c .before .before .before .before .before .before .before .start-enqueue .ensures), inv .1, inv .2)
 
 enum-known-action-2 : tie.Need-enum-known-action-2 Inv-loop μ-loop
 enum-known-action-2 c = search needs
@@ -135,45 +169,60 @@ write-line-requires-5 : tie.Need-write-line-requires-5 Inv-loop μ-loop
 write-line-requires-5 c κs = search needs
 
 loop-less-5 : tie.Need-loop-less-5 Inv-loop μ-loop
-loop-less-5 c = nearer-act _ _ _ (c .before .before .before .before .before .before .before .before .before .before .before .before .read-record .ensures) _ _ (c .before .before .before .before .before .before .before .before .before .before .record2 .given .1)
+loop-less-5 c =
+    let g = c .before .before .before .before in
+    nearer-act _ _ _ (g .before .before .before .before .before .before .before .before .read-record .ensures) _ _ (g .before .before .before .before .before .before .record2 .given .1)
 
 loop-again-5 : tie.Need-loop-again-5 Inv-loop μ-loop
-loop-again-5 c = (
-  turned-away _ _ _ _ _ _ _ _ _ _ _ (c .before .before .before .before .before .before .before .before .before .before .before .before .before .before .loop .inv .0) (c .before .before .before .before .before .before .before .before .before .before .before .before .before .loop-test .taken) _ _ _ _ record { place = c .before .before .write-line5 .ensures .0; text = c .before .before .write-line5 .ensures .1 } _
-      (known-act _ _ _ (c .before .before .before .before .before .before .before .before .before .before .before .before .read-record .ensures) _ _ _ (c .before .before .before .before .before .before .before .before .before .before .record2 .given .1) (c .before .before .before .before .before .before .before .action2 .given .1)) _ (c .before .before .before .before .before .gate2 .ensures) (c .before .before .before .before .if4 .taken) refl,
-  c .before .before .before .before .before .before .before .before .before .before .before .before .before .before .loop .inv .1,
-  c .before .before .before .before .before .before .before .before .before .before .before .before .before .before .loop .inv .2,
-)
+loop-again-5 c =
+    let g = c .before .before .before .before in
+    let inv = g .before .before .before .before .before .before .before .before .before .before .loop .inv in
+    let read = known-act _ _ _ (g .before .before .before .before .before .before .before .before .read-record .ensures) _ _ _ (g .before .before .before .before .before .before .record2 .given .1) (g .before .before .before .action2 .given .1) in
+    (turned-away (inv .0) (g .before .before .before .before .before .before .before .before .before .loop-test .taken) _ _ _ _ (c .before .before .write-line5 .ensures) _ read _ (g .before .gate2 .ensures) (g .if4 .taken) refl, inv .1, inv .2)
 
 mul-w-2 : tie.Need-mul-w-2 Inv-loop μ-loop
-mul-w-2 c = let p = below-64 _ _ _ _ _ _ _ _ _ _ _ (c .before .before .before .before .before .before .before .before .before .before .loop .inv .0) _ _ (c .before .gate2 .ensures) (c .if4 .left) in omega arith
+mul-w-2 c =
+    let g = c in
+    let p = below-64 (g .before .before .before .before .before .before .before .before .before .before .loop .inv .0) _ _ (g .before .gate2 .ensures) (g .if4 .left) in
+    omega arith
 
 array-copy-out-w-2 : tie.Need-array-copy-out-w-2 Inv-loop μ-loop
-array-copy-out-w-2 c = below-64 _ _ _ _ _ _ _ _ _ _ _ (c .before .before .before .before .before .before .before .before .before .before .loop .inv .0) _ _ (c .before .gate2 .ensures) (c .if4 .left)
+array-copy-out-w-2 c =
+    let g = c in
+    below-64 (g .before .before .before .before .before .before .before .before .before .before .loop .inv .0) _ _ (g .before .gate2 .ensures) (g .if4 .left)
 
 start-dequeue-requires : tie.Need-start-dequeue-requires Inv-loop μ-loop
-start-dequeue-requires c κs = (laid-out _ _ _ _ _ _ _ _ _ _ _ (c .before .before .before .before .before .before .before .before .before .before .before .before .loop .inv .0) _ _ (c .before .before .before .gate2 .ensures) (c .before .before .if4 .left), in-use _ _ _ _ _ _ _ _ _ _ _ (c .before .before .before .before .before .before .before .before .before .before .before .before .loop .inv .0) _ _ (c .before .before .before .gate2 .ensures) (c .before .before .if4 .left) .store .started)
+start-dequeue-requires c κs =
+    let g = c .before .before in
+    let R = g .before .before .before .before .before .before .before .before .before .before .loop .inv .0 in
+    (laid-out R _ _ (g .before .gate2 .ensures) (g .if4 .left), in-use R _ _ (g .before .gate2 .ensures) (g .if4 .left) .store .started)
 
 mul-table-2 : tie.Need-mul-table-2 Inv-loop μ-loop
-mul-table-2 c = let p = below-64 _ _ _ _ _ _ _ _ _ _ _ (c .before .before .before .before .before .before .before .before .before .before .before .before .before .before .before .before .loop .inv .0) _ _ (c .before .before .before .before .before .before .before .gate2 .ensures) (c .before .before .before .before .before .before .if4 .left) in omega arith
+mul-table-2 c =
+    let g = c .before .before .before .before .before .before in
+    let p = below-64 (g .before .before .before .before .before .before .before .before .before .before .loop .inv .0) _ _ (g .before .gate2 .ensures) (g .if4 .left) in
+    omega arith
 
 array-set-from-table-2 : tie.Need-array-set-from-table-2 Inv-loop μ-loop
-array-set-from-table-2 c = below-64 _ _ _ _ _ _ _ _ _ _ _ (c .before .before .before .before .before .before .before .before .before .before .before .before .before .before .before .before .loop .inv .0) _ _ (c .before .before .before .before .before .before .before .gate2 .ensures) (c .before .before .before .before .before .before .if4 .left)
+array-set-from-table-2 c =
+    let g = c .before .before .before .before .before .before in
+    below-64 (g .before .before .before .before .before .before .before .before .before .before .loop .inv .0) _ _ (g .before .gate2 .ensures) (g .if4 .left)
 
 write-line-requires-6 : tie.Need-write-line-requires-6 Inv-loop μ-loop
 write-line-requires-6 c κs = search needs
 
 loop-less-6 : tie.Need-loop-less-6 Inv-loop μ-loop
-loop-less-6 c = nearer-act _ _ _ (c .before .before .before .before .before .before .before .before .before .before .before .before .before .before .before .before .before .before .read-record .ensures) _ _ (c .before .before .before .before .before .before .before .before .before .before .before .before .before .before .before .before .record2 .given .1)
+loop-less-6 c =
+    let g = c .before .before .before .before .before .before .before .before .before .before in
+    nearer-act _ _ _ (g .before .before .before .before .before .before .before .before .read-record .ensures) _ _ (g .before .before .before .before .before .before .record2 .given .1)
 
 loop-again-6 : tie.Need-loop-again-6 Inv-loop μ-loop
 unfolding blank
-loop-again-6 c = (
-  dequeued _ _ _ _ _ _ _ _ _ _ _ (c .before .before .before .before .before .before .before .before .before .before .before .before .before .before .before .before .before .before .before .before .loop .inv .0) (c .before .before .before .before .before .before .before .before .before .before .before .before .before .before .before .before .before .before .before .loop-test .taken) _ _ _ _ record { place = c .before .before .write-line6 .ensures .0; text = c .before .before .write-line6 .ensures .1 } _ _ (c .before .before .before .before .before .before .before .before .before .before .before .gate2 .ensures) (c .before .before .before .before .before .before .before .before .before .before .if4 .left) _ _
-      (known-act _ _ _ (c .before .before .before .before .before .before .before .before .before .before .before .before .before .before .before .before .before .before .read-record .ensures) _ _ _ (c .before .before .before .before .before .before .before .before .before .before .before .before .before .before .before .before .record2 .given .1) (c .before .before .before .before .before .before .before .before .before .before .before .before .before .action2 .given .1)) (c .before .before .before .before .before .before .before .start-dequeue .ensures),
-  c .before .before .before .before .before .before .before .before .before .before .before .before .before .before .before .before .before .before .before .before .loop .inv .1,
-  c .before .before .before .before .before .before .before .before .before .before .before .before .before .before .before .before .before .before .before .before .loop .inv .2,
-)
+loop-again-6 c =
+    let g = c .before .before .before .before .before .before .before .before .before .before in
+    let inv = g .before .before .before .before .before .before .before .before .before .before .loop .inv in
+    let read = known-act _ _ _ (g .before .before .before .before .before .before .before .before .read-record .ensures) _ _ _ (g .before .before .before .before .before .before .record2 .given .1) (g .before .before .before .action2 .given .1) in
+    (dequeued (inv .0) (g .before .before .before .before .before .before .before .before .before .loop-test .taken) _ _ _ _ (c .before .before .write-line6 .ensures) _ _ (g .before .gate2 .ensures) (g .if4 .left) _ _ read (c .before .before .before .before .before .before .before .start-dequeue .ensures), inv .1, inv .2)
 
 enum-known-action-3 : tie.Need-enum-known-action-3 Inv-loop μ-loop
 enum-known-action-3 c = search needs
@@ -185,83 +234,106 @@ write-line-requires-7 : tie.Need-write-line-requires-7 Inv-loop μ-loop
 write-line-requires-7 c κs = search needs
 
 loop-less-7 : tie.Need-loop-less-7 Inv-loop μ-loop
-loop-less-7 c = nearer-act _ _ _ (c .before .before .before .before .before .before .before .before .before .before .before .before .read-record .ensures) _ _ (c .before .before .before .before .before .before .before .before .before .before .record2 .given .1)
+loop-less-7 c =
+    let g = c .before .before .before .before in
+    nearer-act _ _ _ (g .before .before .before .before .before .before .before .before .read-record .ensures) _ _ (g .before .before .before .before .before .before .record2 .given .1)
 
 loop-again-7 : tie.Need-loop-again-7 Inv-loop μ-loop
-loop-again-7 c = (
-  turned-away _ _ _ _ _ _ _ _ _ _ _ (c .before .before .before .before .before .before .before .before .before .before .before .before .before .before .loop .inv .0) (c .before .before .before .before .before .before .before .before .before .before .before .before .before .loop-test .taken) _ _ _ _ record { place = c .before .before .write-line7 .ensures .0; text = c .before .before .write-line7 .ensures .1 } _
-      (known-act _ _ _ (c .before .before .before .before .before .before .before .before .before .before .before .before .read-record .ensures) _ _ _ (c .before .before .before .before .before .before .before .before .before .before .record2 .given .1) (c .before .before .before .before .before .before .before .action3 .given .1)) _ (c .before .before .before .before .before .gate3 .ensures) (c .before .before .before .before .if5 .taken) refl,
-  c .before .before .before .before .before .before .before .before .before .before .before .before .before .before .loop .inv .1,
-  c .before .before .before .before .before .before .before .before .before .before .before .before .before .before .loop .inv .2,
-)
+loop-again-7 c =
+    let g = c .before .before .before .before in
+    let inv = g .before .before .before .before .before .before .before .before .before .before .loop .inv in
+    let read = known-act _ _ _ (g .before .before .before .before .before .before .before .before .read-record .ensures) _ _ _ (g .before .before .before .before .before .before .record2 .given .1) (g .before .before .before .action3 .given .1) in
+    (turned-away (inv .0) (g .before .before .before .before .before .before .before .before .before .loop-test .taken) _ _ _ _ (c .before .before .write-line7 .ensures) _ read _ (g .before .gate3 .ensures) (g .if5 .taken) refl, inv .1, inv .2)
 
 mul-w-3 : tie.Need-mul-w-3 Inv-loop μ-loop
-mul-w-3 c = let p = below-64 _ _ _ _ _ _ _ _ _ _ _ (c .before .before .before .before .before .before .before .before .before .before .loop .inv .0) _ _ (c .before .gate3 .ensures) (c .if5 .left) in omega arith
+mul-w-3 c =
+    let g = c in
+    let p = below-64 (g .before .before .before .before .before .before .before .before .before .before .loop .inv .0) _ _ (g .before .gate3 .ensures) (g .if5 .left) in
+    omega arith
 
 array-copy-out-w-3 : tie.Need-array-copy-out-w-3 Inv-loop μ-loop
-array-copy-out-w-3 c = below-64 _ _ _ _ _ _ _ _ _ _ _ (c .before .before .before .before .before .before .before .before .before .before .loop .inv .0) _ _ (c .before .gate3 .ensures) (c .if5 .left)
+array-copy-out-w-3 c =
+    let g = c in
+    below-64 (g .before .before .before .before .before .before .before .before .before .before .loop .inv .0) _ _ (g .before .gate3 .ensures) (g .if5 .left)
 
 turn-leaks-requires : tie.Need-turn-leaks-requires Inv-loop μ-loop
 unfolding blank
-turn-leaks-requires c κs = ready _ _ _ _ _ _ _ _ _ _ _ (c .before .before .before .before .before .before .before .before .before .before .before .before .loop .inv .0) _ _ (c .before .before .before .gate3 .ensures) (c .before .before .if5 .left)
+turn-leaks-requires c κs =
+    let g = c .before .before in
+    ready (g .before .before .before .before .before .before .before .before .before .before .loop .inv .0) _ _ (g .before .gate3 .ensures) (g .if5 .left)
 
 step-requires : tie.Need-step-requires Inv-loop μ-loop
 unfolding blank
-step-requires c κs = λ _. ready _ _ _ _ _ _ _ _ _ _ _ (c .before .before .before .before .before .before .before .before .before .before .before .before .before .before .loop .inv .0) _ _ (c .before .before .before .before .before .gate3 .ensures) (c .before .before .before .before .if5 .left)
+step-requires c κs =
+    let g = c .before .before .before .before in
+    λ _. ready (g .before .before .before .before .before .before .before .before .before .before .loop .inv .0) _ _ (g .before .gate3 .ensures) (g .if5 .left)
 
 mul-table-3 : tie.Need-mul-table-3 Inv-loop μ-loop
-mul-table-3 c = let p = below-64 _ _ _ _ _ _ _ _ _ _ _ (c .before .before .before .before .before .before .before .before .before .before .before .before .before .before .before .before .before .before .loop .inv .0) _ _ (c .before .before .before .before .before .before .before .before .before .gate3 .ensures) (c .before .before .before .before .before .before .before .before .if5 .left) in omega arith
+mul-table-3 c =
+    let g = c .before .before .before .before .before .before .before .before in
+    let p = below-64 (g .before .before .before .before .before .before .before .before .before .before .loop .inv .0) _ _ (g .before .gate3 .ensures) (g .if5 .left) in
+    omega arith
 
 array-set-from-table-3 : tie.Need-array-set-from-table-3 Inv-loop μ-loop
-array-set-from-table-3 c = below-64 _ _ _ _ _ _ _ _ _ _ _ (c .before .before .before .before .before .before .before .before .before .before .before .before .before .before .before .before .before .before .loop .inv .0) _ _ (c .before .before .before .before .before .before .before .before .before .gate3 .ensures) (c .before .before .before .before .before .before .before .before .if5 .left)
+array-set-from-table-3 c =
+    let g = c .before .before .before .before .before .before .before .before in
+    below-64 (g .before .before .before .before .before .before .before .before .before .before .loop .inv .0) _ _ (g .before .gate3 .ensures) (g .if5 .left)
 
 write-line-requires-8 : tie.Need-write-line-requires-8 Inv-loop μ-loop
 write-line-requires-8 c κs = search needs
 
 loop-less-8 : tie.Need-loop-less-8 Inv-loop μ-loop
-loop-less-8 c = nearer-act _ _ _ (c .before .before .before .before .before .before .before .before .before .before .before .before .before .before .before .before .before .before .before .before .read-record .ensures) _ _ (c .before .before .before .before .before .before .before .before .before .before .before .before .before .before .before .before .before .before .record2 .given .1)
+loop-less-8 c =
+    let g = c .before .before .before .before .before .before .before .before .before .before .before .before in
+    nearer-act _ _ _ (g .before .before .before .before .before .before .before .before .read-record .ensures) _ _ (g .before .before .before .before .before .before .record2 .given .1)
 
 loop-again-8 : tie.Need-loop-again-8 Inv-loop μ-loop
 unfolding blank
-loop-again-8 c = (
-  stepped _ _ _ _ _ _ _ _ _ _ _ (c .before .before .before .before .before .before .before .before .before .before .before .before .before .before .before .before .before .before .before .before .before .before .loop .inv .0) (c .before .before .before .before .before .before .before .before .before .before .before .before .before .before .before .before .before .before .before .before .before .loop-test .taken) _ _ _ _ record { place = c .before .before .write-line8 .ensures .0; text = c .before .before .write-line8 .ensures .1 } _ _ (c .before .before .before .before .before .before .before .before .before .before .before .before .before .gate3 .ensures) (c .before .before .before .before .before .before .before .before .before .before .before .before .if5 .left) _ _
-      (known-act _ _ _ (c .before .before .before .before .before .before .before .before .before .before .before .before .before .before .before .before .before .before .before .before .read-record .ensures) _ _ _ (c .before .before .before .before .before .before .before .before .before .before .before .before .before .before .before .before .before .before .record2 .given .1) (c .before .before .before .before .before .before .before .before .before .before .before .before .before .before .before .action3 .given .1)) _ (c .before .before .before .before .before .before .before .before .before .turn-leaks .ensures) (c .before .before .before .before .before .before .before .step .ensures),
-  c .before .before .before .before .before .before .before .before .before .before .before .before .before .before .before .before .before .before .before .before .before .before .loop .inv .1,
-  c .before .before .before .before .before .before .before .before .before .before .before .before .before .before .before .before .before .before .before .before .before .before .loop .inv .2,
-)
+loop-again-8 c =
+    let g = c .before .before .before .before .before .before .before .before .before .before .before .before in
+    let inv = g .before .before .before .before .before .before .before .before .before .before .loop .inv in
+    let read = known-act _ _ _ (g .before .before .before .before .before .before .before .before .read-record .ensures) _ _ _ (g .before .before .before .before .before .before .record2 .given .1) (g .before .before .before .action3 .given .1) in
+    let did = stepped (inv .0) (g .before .before .before .before .before .before .before .before .before .loop-test .taken) _ _ _ _ (c .before .before .write-line8 .ensures) _ _ (g .before .gate3 .ensures) (g .if5 .left) _ _ read _ in
+    (did (c .before .before .before .before .before .before .before .before .before .turn-leaks .ensures) (c .before .before .before .before .before .before .before .step .ensures), inv .1, inv .2)
 
 enum-told : tie.Need-enum-told Inv-loop μ-loop
 enum-told c = search needs
 
 same-length : tie.Need-same-length Inv-loop μ-loop
-same-length c = sym (c .before .before .before .before .loop .inv .0 .lines) ∙ c .before .before .before .before .loop .inv .2
+same-length c = sym (c .before .before .before .before .loop .inv .0 .buffer) ∙ c .before .before .before .before .loop .inv .2
 
 same-length-2 : tie.Need-same-length-2 Inv-loop μ-loop
 same-length-2 c = sym (c .before .before .before .before .loop .inv .0 .store) ∙ c .before .before .before .before .loop .inv .1
 
 returns-2 : tie.Need-returns-2 Inv-loop μ-loop
-returns-2 c = (at-drained _ _ _ _ _ _ _ _ _ _ _ (c .before .before .before .before .loop .inv .0) (c .before .before .before .loop-test .taken) (sym (c .enum-told .given .1) ∙ c .before .before .read-record .ensures), (c .before .before .before .before .loop .inv .0 .going .records, c .before .before .before .before .loop .inv .0 .going .watched))
+returns-2 c =
+    let R = c .before .before .before .before .loop .inv .0 in
+    (at-drained R (c .before .before .before .loop-test .taken) (sym (c .enum-told .given .1) ∙ c .before .before .read-record .ensures), (R .array, R .lent, R .going .watched), refl)
 
 enum-known-record-3 : tie.Need-enum-known-record-3 Inv-loop μ-loop
 enum-known-record-3 c = search needs
 
 same-length-3 : tie.Need-same-length-3 Inv-loop μ-loop
-same-length-3 c = sym (c .before .before .before .before .before .loop .inv .0 .lines) ∙ c .before .before .before .before .before .loop .inv .2
+same-length-3 c = sym (c .before .before .before .before .before .loop .inv .0 .buffer) ∙ c .before .before .before .before .before .loop .inv .2
 
 same-length-4 : tie.Need-same-length-4 Inv-loop μ-loop
 same-length-4 c = sym (c .before .before .before .before .before .loop .inv .0 .store) ∙ c .before .before .before .before .before .loop .inv .1
 
 returns-3 : tie.Need-returns-3 Inv-loop μ-loop
-returns-3 c = (at-halted _ _ _ _ _ _ _ _ _ _ _ (c .before .before .before .before .before .loop .inv .0) (c .before .before .before .before .loop-test .taken) _ (sym (c .before .record3 .given .1) ∙ c .before .before .before .read-record .ensures), (c .before .before .before .before .before .loop .inv .0 .going .records, c .before .before .before .before .before .loop .inv .0 .going .watched))
+returns-3 c =
+    let R = c .before .before .before .before .before .loop .inv .0 in
+    (at-halted R (c .before .before .before .before .loop-test .taken) _ (sym (c .before .record3 .given .1) ∙ c .before .before .before .read-record .ensures), (R .array, R .lent, R .going .watched), refl)
 
 same-length-5 : tie.Need-same-length-5 Inv-loop μ-loop
-same-length-5 c = sym (c .before .loop .inv .0 .lines) ∙ c .before .loop .inv .2
+same-length-5 c = sym (c .before .loop .inv .0 .buffer) ∙ c .before .loop .inv .2
 
 same-length-6 : tie.Need-same-length-6 Inv-loop μ-loop
 same-length-6 c = sym (c .before .loop .inv .0 .store) ∙ c .before .loop .inv .1
 
 returns-4 : tie.Need-returns-4 Inv-loop μ-loop
-returns-4 c = (at-full _ _ _ _ _ _ _ _ _ _ _ (c .before .loop .inv .0) (c .loop-test .left), (c .before .loop .inv .0 .going .records, c .before .loop .inv .0 .going .watched))
+returns-4 c =
+    let R = c .before .loop .inv .0 in
+    (at-full R (c .loop-test .left), (R .array, R .lent, R .going .watched), refl)
 
 pub serve-spec : {M : Type 1} → statement M
 serve-spec =
