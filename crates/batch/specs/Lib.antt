@@ -1,5 +1,6 @@
 pub mod Serving
 pub mod Bounds
+pub mod Beyond
 pub mod Clearing
 pub mod Taken
 pub mod Rounds

@@ -26,3 +26,4 @@ pub mod RangesKept
 pub mod LedgerRun
 pub mod Opened
 pub mod Acting
+pub mod RecordsBeyond
