@@ -22,6 +22,7 @@ use table::survey_table;
 use words::layout_words;
 
 pub mod answers;
+pub mod copies;
 pub mod records;
 pub mod table;
 
