@@ -6,7 +6,7 @@ use native.Mathlib.Omega.{arith}
 use lib.ListN.{length, take, drop, replicate, length-append, length-replicate, length-drop}
 use lib.Seq.{getD-take}
 use Rattle.arrival.specs.declared.Worker.{Worker}
-use Rattle.calendar.specs.Ranges.{blank, worker}
+use Rattle.calendar.specs.Ranges.{blank}
 use Rattle.starts.specs.Least.{leastTicket}
 
 pub least-taken : (n : ℕ) (t : List Worker) (k : ℕ) → k ≤ n → leastTicket (take n t) k ≡ leastTicket t k

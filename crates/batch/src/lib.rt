@@ -14,11 +14,11 @@ use arrival::Response;
 use arrival::Shape;
 use arrival::Worker;
 use stages::step;
+use starts::free::lower_ticket;
 use starts::opening::open_store;
 use starts::start_dequeue;
 use starts::start_enqueue;
 use table::cleared;
-use table::least_ticket;
 use turn_file::Read;
 use turn_file::read_record;
 use turn_file::write_line;
@@ -124,7 +124,14 @@ pub fn serve(
                         at = next;
                     } else {
                         let w = table[i as usize];
-                        let low = least_ticket(table, shape.workers as usize);
+                        let n = shape.workers as usize;
+                        let mut low = 4294967296;
+                        let mut j: usize = 0;
+                        while j < n {
+                            let other = table[j];
+                            low = lower_ticket(low, other);
+                            j += 1;
+                        }
                         let begun = start_enqueue(shape, low, arrival, w, store);
                         let worker = begun.worker;
                         let response = begun.response;
