@@ -2,4 +2,5 @@ pub mod Answers
 pub mod Survey
 pub mod Gate
 pub mod Results
+pub mod Stretch
 pub mod Cleared

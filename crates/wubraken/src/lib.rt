@@ -7,16 +7,22 @@ ghost use Rattle.calendar.specs.Layout.{layout};
 ghost use Rattle.calendar.specs.Ranges.{shapeInRange};
 ghost use Rattle.calendar.specs.Operations.{act, open-pool};
 ghost use Rattle.wubraken.specs.Results.{lent, leaves, told};
+ghost use Rattle.wubraken.specs.Stretch.{account, stretchOn};
 use answers::Answer;
 use arrival::Arrival;
 use arrival::Shape;
 use arrival::Worker;
+use copies::copy_back;
+use copies::copy_out;
 use ranges::shape_in_range;
 use records::dequeue_record;
 use records::enqueue_record;
 use records::open_words;
 use records::step_record;
 use records::turn_away;
+use stretch::Served;
+use stretch::records_held;
+use stretch::serve_records;
 use table::clear_table;
 use table::survey_table;
 use words::layout_words;
@@ -24,6 +30,7 @@ use words::layout_words;
 pub mod answers;
 pub mod copies;
 pub mod records;
+pub mod stretch;
 pub mod table;
 
 // How many words to lend for a shape; 0 where it is outside its limits.
@@ -113,4 +120,22 @@ pub extern "C" fn wubraken_step(
     } else {
         return turn_away(shape, i, n, seen, store);
     }
+}
+
+// Works through a stretch of turn-file bytes and writes the lines. The lent memory is looked at once, not for every record.
+#[no_mangle]
+pub extern "C" fn wubraken_serve(
+    shape: Shape,
+    input: &[u8],
+    out: &mut [u8],
+    store: &mut [u64],
+    table: &mut [Worker],
+) -> Served
+    ensures { λ r. ⌜ account (now (store .exit)) (now (table .exit)) (now (out .exit)) r ≡ stretchOn shape (now (store .entry)) (now (table .entry)) (now (input .entry)) (now (out .entry)) ⌝ }
+{
+    let n = records_held(table.len());
+    let held = copy_out(table, n);
+    let r = serve_records(shape, n, held, input, out, store);
+    copy_back(table, r.table, n);
+    r.served
 }

@@ -1,0 +1,99 @@
+// A stretch of a turn file on records that are held by value.
+ghost use mathlib.Core.Path.{_≡_};
+ghost use Prim.Native.Nat.{_≤_};
+ghost use lib.ListN.{length, take};
+ghost use Rattle.wubraken.specs.Stretch.{stopNumber, heldOf, heldInRange, account, stretchOn};
+use super::table::records_surveyed;
+use admission::is_sound;
+use arrival::Shape;
+use arrival::Worker;
+use batch::Desk;
+use batch::Stop;
+use ranges::record_in_range;
+
+// The shape after a stretch, the bytes read and written, and why it was left: 0 all bytes are worked through, 1 the next line may not fit, 7 or 8 what
+// follows is refused by that number.
+#[repr(C)]
+pub struct Served {
+    pub shape: Shape,
+    pub read: usize,
+    pub written: usize,
+    pub stop: u64,
+}
+
+// What a stretch leaves of the records, and its account.
+pub struct Stretch {
+    pub table: [Worker; 64],
+    pub served: Served,
+}
+
+// How many of n lent records are held.
+pub fn records_held(n: usize) -> usize
+    ensures { λ r. ⌜ r ≡ heldOf n ⌝ }
+{
+    if n < 64 { n } else { 64 }
+}
+
+fn stop_number(stop: Stop) -> u64
+    ensures { λ r. ⌜ r ≡ stopNumber stop ⌝ }
+{
+    match stop {
+        Stop::Drained => 0,
+        Stop::Full => 1,
+        Stop::Halted(k) => k,
+    }
+}
+
+// Whether the workers' records are in range, as far as there are records.
+fn held_in_range(shape: Shape, n: usize, table: [Worker; 64]) -> bool
+    requires { ⌜ n ≤ 64 ⌝ }
+    ensures { λ r. ⌜ r ≡ heldInRange shape n table ⌝ }
+{
+    let end = records_surveyed(shape, n);
+    let mut ok = true;
+    let mut k: usize = 0;
+    while k < end {
+        let w = table[k];
+        ok = ok & record_in_range(shape, w);
+        k += 1;
+    }
+    ok
+}
+
+// Works through a stretch from its first byte on, with the first n records lent.
+pub fn serve_records(
+    shape: Shape,
+    n: usize,
+    table: [Worker; 64],
+    input: &[u8],
+    out: &mut [u8],
+    store: &mut [u64],
+) -> Stretch
+    requires { ⌜ n ≤ 64 ⌝ }
+    ensures { λ r. ⌜ account (now (store .exit)) (take n (r .table)) (now (out .exit)) (r .served) ≡ stretchOn shape (now (store .entry)) (take n table) (now (input .entry)) (now (out .entry)) ⌝ }
+{
+    let ok = held_in_range(shape, n, table);
+    let sound = is_sound(shape, n, ok, store);
+    let desk = Desk {
+        shape,
+        sound,
+        records: n,
+        table,
+    };
+    let p = batch::serve(desk, input, 0, out, 0, store);
+    let end = p.desk;
+    let opened = end.shape;
+    let left = end.table;
+    let stop = p.stop;
+    let number = stop_number(stop);
+    let served = Served {
+        shape: opened,
+        read: p.at,
+        written: p.to,
+        stop: number,
+    };
+    Stretch {
+        table: left,
+        served,
+    }
+}
