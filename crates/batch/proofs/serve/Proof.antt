@@ -31,7 +31,8 @@ abbrev μ-loop : tie.MeasureT-loop
 returns : tie.Need-returns Inv-loop2 μ-loop2 Inv-loop μ-loop
 returns c =
     let pre = c .before .before .before .before .before .before .pre in
-    (no-room (c .before .before .before .before .before .before .args .input .now) _ _ _ _ _ _ _ (pre .2) (c .if1 .taken), pre, refl)
+    let bytes = c .before .before .before .before .before .before .args .input .now in
+    (no-room bytes _ _ _ _ _ _ _ (pre .2) (c .if1 .taken), pre, refl)
 
 loop-holds : tie.Need-loop-holds Inv-loop2 μ-loop2 Inv-loop μ-loop
 loop-holds c =
@@ -53,20 +54,25 @@ write-line-requires c κs = search needs
 loop-less : tie.Need-loop-less Inv-loop2 μ-loop2 Inv-loop μ-loop
 loop-less c =
     let g = c .before .before .before .before in
-    nearer-open _ _ _ (g .before .before .before .before .before .read-record .ensures) _ _ (g .before .before .before .«record» .given .1)
+    let is = g .before .before .before .before .before .read-record .ensures in
+    nearer-open _ _ _ is _ _ (g .before .before .before .«record» .given .1)
 
 loop-again : tie.Need-loop-again Inv-loop2 μ-loop2 Inv-loop μ-loop
 loop-again c =
     let g = c .before .before .before .before in
     let inv = g .before .before .before .before .before .before .before .loop .inv in
-    let read = known-open _ _ _ (g .before .before .before .before .before .read-record .ensures) _ _ (g .before .before .before .«record» .given .1) in
-    (not-opened (inv .0) (g .before .before .before .before .before .before .loop-test .taken) _ _ _ _ (c .before .before .write-line .ensures) _ read _ (g .before .open-gate .ensures) (g .if2 .taken) refl, inv .1, inv .2)
+    let fits = g .before .before .before .before .before .before .loop-test .taken in
+    let line = c .before .before .write-line .ensures in
+    let is = g .before .before .before .before .before .read-record .ensures in
+    let read = known-open _ _ _ is _ _ (g .before .before .before .«record» .given .1) in
+    (not-opened (inv .0) fits _ _ _ _ line _ read _ (g .before .open-gate .ensures) (g .if2 .taken) refl, inv .1, inv .2)
 
 open-store-requires : tie.Need-open-store-requires Inv-loop2 μ-loop2 Inv-loop μ-loop
 open-store-requires c κs =
     let g = c .before in
     let R = g .before .before .before .before .before .before .before .loop .inv .0 in
-    (laid-for R _ _ (g .before .open-gate .ensures) (g .if2 .left), lent-to R _ _ (g .before .open-gate .ensures) (g .if2 .left) .limits .some-node)
+    let is = g .before .open-gate .ensures in
+    (laid-for R _ _ is (g .if2 .left), lent-to R _ _ is (g .if2 .left) .limits .some-node)
 
 cleared-requires : tie.Need-cleared-requires Inv-loop2 μ-loop2 Inv-loop μ-loop
 cleared-requires c κs =
@@ -79,14 +85,18 @@ write-line-requires-2 c κs = search needs
 loop-less-2 : tie.Need-loop-less-2 Inv-loop2 μ-loop2 Inv-loop μ-loop
 loop-less-2 c =
     let g = c .before .before .before .before .before .before .before .before .before in
-    nearer-open _ _ _ (g .before .before .before .before .before .read-record .ensures) _ _ (g .before .before .before .«record» .given .1)
+    let is = g .before .before .before .before .before .read-record .ensures in
+    nearer-open _ _ _ is _ _ (g .before .before .before .«record» .given .1)
 
 loop-again-2 : tie.Need-loop-again-2 Inv-loop2 μ-loop2 Inv-loop μ-loop
 loop-again-2 c =
     let g = c .before .before .before .before .before .before .before .before .before in
     let inv = g .before .before .before .before .before .before .before .loop .inv in
-    let read = known-open _ _ _ (g .before .before .before .before .before .read-record .ensures) _ _ (g .before .before .before .«record» .given .1) in
-    let did = opened (inv .0) (g .before .before .before .before .before .before .loop-test .taken) _ _ _ _ (c .before .before .write-line2 .ensures) _ read _ (g .before .open-gate .ensures) (g .if2 .left) refl in
+    let fits = g .before .before .before .before .before .before .loop-test .taken in
+    let line = c .before .before .write-line2 .ensures in
+    let is = g .before .before .before .before .before .read-record .ensures in
+    let read = known-open _ _ _ is _ _ (g .before .before .before .«record» .given .1) in
+    let did = opened (inv .0) fits _ _ _ _ line _ read _ (g .before .open-gate .ensures) (g .if2 .left) refl in
     (did _ (c .before .before .before .before .before .before .before .open-store .ensures) _ (c .before .before .before .before .cleared .ensures), inv .1, inv .2)
 
 enum-known-record-2 : tie.Need-enum-known-record-2 Inv-loop2 μ-loop2 Inv-loop μ-loop
@@ -104,14 +114,18 @@ write-line-requires-3 c κs = search needs
 loop-less-3 : tie.Need-loop-less-3 Inv-loop2 μ-loop2 Inv-loop μ-loop
 loop-less-3 c =
     let g = c .before .before .before .before in
-    nearer-act _ _ _ (g .before .before .before .before .before .before .before .before .read-record .ensures) _ _ (g .before .before .before .before .before .before .record2 .given .1)
+    let is = g .before .before .before .before .before .before .before .before .read-record .ensures in
+    nearer-act _ _ _ is _ _ (g .before .before .before .before .before .before .record2 .given .1)
 
 loop-again-3 : tie.Need-loop-again-3 Inv-loop2 μ-loop2 Inv-loop μ-loop
 loop-again-3 c =
     let g = c .before .before .before .before in
     let inv = g .before .before .before .before .before .before .before .before .before .before .loop .inv in
-    let read = known-act _ _ _ (g .before .before .before .before .before .before .before .before .read-record .ensures) _ _ _ (g .before .before .before .before .before .before .record2 .given .1) (g .before .before .before .action .given .1) in
-    (turned-away (inv .0) (g .before .before .before .before .before .before .before .before .before .loop-test .taken) _ _ _ _ (c .before .before .write-line3 .ensures) _ read _ (g .before .gate .ensures) (g .if3 .taken) refl, inv .1, inv .2)
+    let fits = g .before .before .before .before .before .before .before .before .before .loop-test .taken in
+    let line = c .before .before .write-line3 .ensures in
+    let is = g .before .before .before .before .before .before .before .before .read-record .ensures in
+    let read = known-act _ _ _ is _ _ _ (g .before .before .before .before .before .before .record2 .given .1) (g .before .before .before .action .given .1) in
+    (turned-away (inv .0) fits _ _ _ _ line _ read _ (g .before .gate .ensures) (g .if3 .taken) refl, inv .1, inv .2)
 
 mul-w : tie.Need-mul-w Inv-loop2 μ-loop2 Inv-loop μ-loop
 mul-w c =
@@ -156,7 +170,8 @@ unfolding blank
 loop2-again c =
     let t = c .before .before .before .before .before .before .before .before .before .before .before .before .before .before .before .loop .table in
     let j = c .before .before .before .loop2 .j in
-    (omega arith, c .lower-ticket .ensures ∙ ap (λ (low : ℕ). lower low (worker t j)) (c .before .before .before .loop2 .inv .1) ∙ sym (least-more t j))
+    let so-far = ap (λ (low : ℕ). lower low (worker t j)) (c .before .before .before .loop2 .inv .1) in
+    (omega arith, c .lower-ticket .ensures ∙ so-far ∙ sym (least-more t j))
 
 start-enqueue-requires : tie.Need-start-enqueue-requires Inv-loop2 μ-loop2 Inv-loop μ-loop
 start-enqueue-requires c κs =
@@ -164,7 +179,8 @@ start-enqueue-requires c κs =
     let R = g .before .before .before .before .before .before .before .before .before .before .loop .inv .0 in
     let U = in-use R _ _ (g .before .gate .ensures) (g .if3 .left) in
     let low = c .before .before .loop2 .inv .1 in
-    (laid-out R _ _ (g .before .gate .ensures) (g .if3 .left), (U .store .started, U .store .last, rw low (least-bound _ _), U .lent .limits .some-width, U .lent .limits .width))
+    let L = U .lent .limits in
+    (laid-out R _ _ (g .before .gate .ensures) (g .if3 .left), (U .store .started, U .store .last, rw low (least-bound _ _), L .some-width, L .width))
 
 mul-table : tie.Need-mul-table Inv-loop2 μ-loop2 Inv-loop μ-loop
 mul-table c =
@@ -183,17 +199,22 @@ write-line-requires-4 c κs = search needs
 loop-less-4 : tie.Need-loop-less-4 Inv-loop2 μ-loop2 Inv-loop μ-loop
 loop-less-4 c =
     let g = c .before .before .before .before .before .before .before .before .before .before .before .before in
-    nearer-act _ _ _ (g .before .before .before .before .before .before .before .before .read-record .ensures) _ _ (g .before .before .before .before .before .before .record2 .given .1)
+    let is = g .before .before .before .before .before .before .before .before .read-record .ensures in
+    nearer-act _ _ _ is _ _ (g .before .before .before .before .before .before .record2 .given .1)
 
 loop-again-4 : tie.Need-loop-again-4 Inv-loop2 μ-loop2 Inv-loop μ-loop
 unfolding blank
 loop-again-4 c =
     let g = c .before .before .before .before .before .before .before .before .before .before .before .before in
     let inv = g .before .before .before .before .before .before .before .before .before .before .loop .inv in
-    let read = known-act _ _ _ (g .before .before .before .before .before .before .before .before .read-record .ensures) _ _ _ (g .before .before .before .before .before .before .record2 .given .1) (g .before .before .before .action .given .1) in
-    let did = enqueued (inv .0) (g .before .before .before .before .before .before .before .before .before .loop-test .taken) _ _ _ _ (c .before .before .write-line4 .ensures) _ _ (g .before .gate .ensures) (g .if3 .left) _ _ _ read _ in
-    let all : c .before .before .before .before .before .before .before .before .before .before .loop2 .j ≡ g .before .before .before .before .before .before .before .before .before .before .loop .shape .workers = omega arith in
-    (did (c .before .before .before .before .before .before .before .before .before .before .loop2 .inv .1 ∙ ap (leastTicket _) all) (c .before .before .before .before .before .before .before .start-enqueue .ensures), inv .1, inv .2)
+    let fits = g .before .before .before .before .before .before .before .before .before .loop-test .taken in
+    let line = c .before .before .write-line4 .ensures in
+    let is = g .before .before .before .before .before .before .before .before .read-record .ensures in
+    let read = known-act _ _ _ is _ _ _ (g .before .before .before .before .before .before .record2 .given .1) (g .before .before .before .action .given .1) in
+    let did = enqueued (inv .0) fits _ _ _ _ line _ _ (g .before .gate .ensures) (g .if3 .left) _ _ _ read _ in
+    let scan = c .before .before .before .before .before .before .before .before .before .before .loop2 in
+    let all : scan .j ≡ g .before .before .before .before .before .before .before .before .before .before .loop .shape .workers = omega arith in
+    (did (scan .inv .1 ∙ ap (leastTicket _) all) (c .before .before .before .before .before .before .before .start-enqueue .ensures), inv .1, inv .2)
 
 enum-known-action-2 : tie.Need-enum-known-action-2 Inv-loop2 μ-loop2 Inv-loop μ-loop
 enum-known-action-2 c = search needs
@@ -207,14 +228,18 @@ write-line-requires-5 c κs = search needs
 loop-less-5 : tie.Need-loop-less-5 Inv-loop2 μ-loop2 Inv-loop μ-loop
 loop-less-5 c =
     let g = c .before .before .before .before in
-    nearer-act _ _ _ (g .before .before .before .before .before .before .before .before .read-record .ensures) _ _ (g .before .before .before .before .before .before .record2 .given .1)
+    let is = g .before .before .before .before .before .before .before .before .read-record .ensures in
+    nearer-act _ _ _ is _ _ (g .before .before .before .before .before .before .record2 .given .1)
 
 loop-again-5 : tie.Need-loop-again-5 Inv-loop2 μ-loop2 Inv-loop μ-loop
 loop-again-5 c =
     let g = c .before .before .before .before in
     let inv = g .before .before .before .before .before .before .before .before .before .before .loop .inv in
-    let read = known-act _ _ _ (g .before .before .before .before .before .before .before .before .read-record .ensures) _ _ _ (g .before .before .before .before .before .before .record2 .given .1) (g .before .before .before .action2 .given .1) in
-    (turned-away (inv .0) (g .before .before .before .before .before .before .before .before .before .loop-test .taken) _ _ _ _ (c .before .before .write-line5 .ensures) _ read _ (g .before .gate2 .ensures) (g .if4 .taken) refl, inv .1, inv .2)
+    let fits = g .before .before .before .before .before .before .before .before .before .loop-test .taken in
+    let line = c .before .before .write-line5 .ensures in
+    let is = g .before .before .before .before .before .before .before .before .read-record .ensures in
+    let read = known-act _ _ _ is _ _ _ (g .before .before .before .before .before .before .record2 .given .1) (g .before .before .before .action2 .given .1) in
+    (turned-away (inv .0) fits _ _ _ _ line _ read _ (g .before .gate2 .ensures) (g .if4 .taken) refl, inv .1, inv .2)
 
 mul-w-2 : tie.Need-mul-w-2 Inv-loop2 μ-loop2 Inv-loop μ-loop
 mul-w-2 c =
@@ -231,7 +256,8 @@ start-dequeue-requires : tie.Need-start-dequeue-requires Inv-loop2 μ-loop2 Inv-
 start-dequeue-requires c κs =
     let g = c .before .before in
     let R = g .before .before .before .before .before .before .before .before .before .before .loop .inv .0 in
-    (laid-out R _ _ (g .before .gate2 .ensures) (g .if4 .left), in-use R _ _ (g .before .gate2 .ensures) (g .if4 .left) .store .started)
+    let is = g .before .gate2 .ensures in
+    (laid-out R _ _ is (g .if4 .left), in-use R _ _ is (g .if4 .left) .store .started)
 
 mul-table-2 : tie.Need-mul-table-2 Inv-loop2 μ-loop2 Inv-loop μ-loop
 mul-table-2 c =
@@ -250,15 +276,19 @@ write-line-requires-6 c κs = search needs
 loop-less-6 : tie.Need-loop-less-6 Inv-loop2 μ-loop2 Inv-loop μ-loop
 loop-less-6 c =
     let g = c .before .before .before .before .before .before .before .before .before .before in
-    nearer-act _ _ _ (g .before .before .before .before .before .before .before .before .read-record .ensures) _ _ (g .before .before .before .before .before .before .record2 .given .1)
+    let is = g .before .before .before .before .before .before .before .before .read-record .ensures in
+    nearer-act _ _ _ is _ _ (g .before .before .before .before .before .before .record2 .given .1)
 
 loop-again-6 : tie.Need-loop-again-6 Inv-loop2 μ-loop2 Inv-loop μ-loop
 unfolding blank
 loop-again-6 c =
     let g = c .before .before .before .before .before .before .before .before .before .before in
     let inv = g .before .before .before .before .before .before .before .before .before .before .loop .inv in
-    let read = known-act _ _ _ (g .before .before .before .before .before .before .before .before .read-record .ensures) _ _ _ (g .before .before .before .before .before .before .record2 .given .1) (g .before .before .before .action2 .given .1) in
-    (dequeued (inv .0) (g .before .before .before .before .before .before .before .before .before .loop-test .taken) _ _ _ _ (c .before .before .write-line6 .ensures) _ _ (g .before .gate2 .ensures) (g .if4 .left) _ _ read (c .before .before .before .before .before .before .before .start-dequeue .ensures), inv .1, inv .2)
+    let fits = g .before .before .before .before .before .before .before .before .before .loop-test .taken in
+    let line = c .before .before .write-line6 .ensures in
+    let is = g .before .before .before .before .before .before .before .before .read-record .ensures in
+    let read = known-act _ _ _ is _ _ _ (g .before .before .before .before .before .before .record2 .given .1) (g .before .before .before .action2 .given .1) in
+    (dequeued (inv .0) fits _ _ _ _ line _ _ (g .before .gate2 .ensures) (g .if4 .left) _ _ read (c .before .before .before .before .before .before .before .start-dequeue .ensures), inv .1, inv .2)
 
 enum-known-action-3 : tie.Need-enum-known-action-3 Inv-loop2 μ-loop2 Inv-loop μ-loop
 enum-known-action-3 c = search needs
@@ -272,14 +302,18 @@ write-line-requires-7 c κs = search needs
 loop-less-7 : tie.Need-loop-less-7 Inv-loop2 μ-loop2 Inv-loop μ-loop
 loop-less-7 c =
     let g = c .before .before .before .before in
-    nearer-act _ _ _ (g .before .before .before .before .before .before .before .before .read-record .ensures) _ _ (g .before .before .before .before .before .before .record2 .given .1)
+    let is = g .before .before .before .before .before .before .before .before .read-record .ensures in
+    nearer-act _ _ _ is _ _ (g .before .before .before .before .before .before .record2 .given .1)
 
 loop-again-7 : tie.Need-loop-again-7 Inv-loop2 μ-loop2 Inv-loop μ-loop
 loop-again-7 c =
     let g = c .before .before .before .before in
     let inv = g .before .before .before .before .before .before .before .before .before .before .loop .inv in
-    let read = known-act _ _ _ (g .before .before .before .before .before .before .before .before .read-record .ensures) _ _ _ (g .before .before .before .before .before .before .record2 .given .1) (g .before .before .before .action3 .given .1) in
-    (turned-away (inv .0) (g .before .before .before .before .before .before .before .before .before .loop-test .taken) _ _ _ _ (c .before .before .write-line7 .ensures) _ read _ (g .before .gate3 .ensures) (g .if5 .taken) refl, inv .1, inv .2)
+    let fits = g .before .before .before .before .before .before .before .before .before .loop-test .taken in
+    let line = c .before .before .write-line7 .ensures in
+    let is = g .before .before .before .before .before .before .before .before .read-record .ensures in
+    let read = known-act _ _ _ is _ _ _ (g .before .before .before .before .before .before .record2 .given .1) (g .before .before .before .action3 .given .1) in
+    (turned-away (inv .0) fits _ _ _ _ line _ read _ (g .before .gate3 .ensures) (g .if5 .taken) refl, inv .1, inv .2)
 
 mul-w-3 : tie.Need-mul-w-3 Inv-loop2 μ-loop2 Inv-loop μ-loop
 mul-w-3 c =
@@ -321,15 +355,19 @@ write-line-requires-8 c κs = search needs
 loop-less-8 : tie.Need-loop-less-8 Inv-loop2 μ-loop2 Inv-loop μ-loop
 loop-less-8 c =
     let g = c .before .before .before .before .before .before .before .before .before .before .before .before in
-    nearer-act _ _ _ (g .before .before .before .before .before .before .before .before .read-record .ensures) _ _ (g .before .before .before .before .before .before .record2 .given .1)
+    let is = g .before .before .before .before .before .before .before .before .read-record .ensures in
+    nearer-act _ _ _ is _ _ (g .before .before .before .before .before .before .record2 .given .1)
 
 loop-again-8 : tie.Need-loop-again-8 Inv-loop2 μ-loop2 Inv-loop μ-loop
 unfolding blank
 loop-again-8 c =
     let g = c .before .before .before .before .before .before .before .before .before .before .before .before in
     let inv = g .before .before .before .before .before .before .before .before .before .before .loop .inv in
-    let read = known-act _ _ _ (g .before .before .before .before .before .before .before .before .read-record .ensures) _ _ _ (g .before .before .before .before .before .before .record2 .given .1) (g .before .before .before .action3 .given .1) in
-    let did = stepped (inv .0) (g .before .before .before .before .before .before .before .before .before .loop-test .taken) _ _ _ _ (c .before .before .write-line8 .ensures) _ _ (g .before .gate3 .ensures) (g .if5 .left) _ _ read _ in
+    let fits = g .before .before .before .before .before .before .before .before .before .loop-test .taken in
+    let line = c .before .before .write-line8 .ensures in
+    let is = g .before .before .before .before .before .before .before .before .read-record .ensures in
+    let read = known-act _ _ _ is _ _ _ (g .before .before .before .before .before .before .record2 .given .1) (g .before .before .before .action3 .given .1) in
+    let did = stepped (inv .0) fits _ _ _ _ line _ _ (g .before .gate3 .ensures) (g .if5 .left) _ _ read _ in
     (did (c .before .before .before .before .before .before .before .before .before .turn-leaks .ensures) (c .before .before .before .before .before .before .before .step .ensures), inv .1, inv .2)
 
 enum-told : tie.Need-enum-told Inv-loop2 μ-loop2 Inv-loop μ-loop
@@ -344,7 +382,8 @@ same-length-2 c = sym (c .before .before .before .before .loop .inv .0 .store) �
 returns-2 : tie.Need-returns-2 Inv-loop2 μ-loop2 Inv-loop μ-loop
 returns-2 c =
     let R = c .before .before .before .before .loop .inv .0 in
-    (at-drained R (c .before .before .before .loop-test .taken) (sym (c .enum-told .given .1) ∙ c .before .before .read-record .ensures), (R .array, R .lent, R .going .watched), refl)
+    let is = c .before .before .read-record .ensures in
+    (at-drained R (c .before .before .before .loop-test .taken) (sym (c .enum-told .given .1) ∙ is), (R .array, R .lent, R .going .watched), refl)
 
 enum-known-record-3 : tie.Need-enum-known-record-3 Inv-loop2 μ-loop2 Inv-loop μ-loop
 enum-known-record-3 c = search needs
@@ -358,7 +397,8 @@ same-length-4 c = sym (c .before .before .before .before .before .loop .inv .0 .
 returns-3 : tie.Need-returns-3 Inv-loop2 μ-loop2 Inv-loop μ-loop
 returns-3 c =
     let R = c .before .before .before .before .before .loop .inv .0 in
-    (at-halted R (c .before .before .before .before .loop-test .taken) _ (sym (c .before .record3 .given .1) ∙ c .before .before .before .read-record .ensures), (R .array, R .lent, R .going .watched), refl)
+    let is = c .before .before .before .read-record .ensures in
+    (at-halted R (c .before .before .before .before .loop-test .taken) _ (sym (c .before .record3 .given .1) ∙ is), (R .array, R .lent, R .going .watched), refl)
 
 same-length-5 : tie.Need-same-length-5 Inv-loop2 μ-loop2 Inv-loop μ-loop
 same-length-5 c = sym (c .before .loop .inv .0 .buffer) ∙ c .before .loop .inv .2
