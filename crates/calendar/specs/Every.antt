@@ -52,6 +52,11 @@ every-fails f (suc n) k h e =
     ⊎-elim (λ q. rw (← q, e) (and-false (every k f))) (λ l. rw (every-fails f n k l e))
     (eq-or-lt-of-le (le-of-suc-le-suc h))
 
+pub every-same : (f g : ℕ → Bool) (n : ℕ) → ((k : ℕ) → k < n → f k ≡ g k) → every n f ≡ every n g
+unfolding every
+every-same f g zero h = refl
+every-same f g (suc n) h = rw (every-same f g n (λ k l. h k (omega arith)), h n (omega arith))
+
 -- three tests of which exactly one holds everywhere share the numbers out
 pub count-three : (n : ℕ) (f g h : ℕ → Bool) → ((k : ℕ) → cond (f k) 1 0 + cond (g k) 1 0 + cond (h k) 1 0 ≡ 1) → count n f + count n g + count n h ≡ n
 unfolding count

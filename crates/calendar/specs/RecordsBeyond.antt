@@ -13,7 +13,7 @@ use Rattle.arrival.specs.declared.Worker.{Worker}
 use Rattle.arrival.specs.declared.Action.{Action}
 use Rattle.arrival.specs.declared.Action.the-variants.{Enqueue, Dequeue, Step}
 use Rattle.arrival.specs.declared.Response.the-variants.{Opened, Refused}
-use Rattle.calendar.specs.Every.{every}
+use Rattle.calendar.specs.Every.{every-same}
 use Rattle.calendar.specs.Ranges.{shapeInRange, blank, worker, recordInRange, tableInRange}
 use Rattle.calendar.specs.Reclaim.{startedBy, isFree, nodeAfter, firstFreeOf, firstFree}
 use Rattle.calendar.specs.Layout.{standing}
@@ -28,11 +28,6 @@ longer m u = record { store = m .store; table = m .table ++ u }
 
 abbrev pub keeping : Result → List Worker → Result
 keeping r u = record { memory = longer (r .memory) u; response = r .response }
-
-every-same : (f g : ℕ → Bool) (n : ℕ) → ((k : ℕ) → k < n → f k ≡ g k) → every n f ≡ every n g
-unfolding every
-every-same f g zero h = refl
-every-same f g (suc n) h = rw (every-same f g n (λ k l. h k (omega arith)), h n (omega arith))
 
 -- what follows 4 matters only where there is the worker
 after-4 : (a b c d : Bool) (rest : Worker → List (ℕ × Bool)) (w w′ : Worker) → (d ≡ false → w ≡ w′)

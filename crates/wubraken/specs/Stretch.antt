@@ -1,18 +1,20 @@
 -- A stretch on lent memory, in numbers, and that it may be served on the first 64 records. Assumes nothing.
-use mathlib.Core.Path.{_≡_, refl, sym, ap, _∙_}
+use mathlib.Core.Path.{_≡_, refl, sym, ap, _∙_, subst}
 use mathlib.Core.List.{List, [], _++_, append-nil}
 use mathlib.Core.Bool.{Bool, true, false, cond}
 use Prim.Native.Nat.{ℕ, _≤_}
 use native.Mathlib.Omega.{arith}
 use lib.Dec.{ltb}
 use lib.ListN.{length, take, drop, take-append-drop}
-use lib.Seq.{take-all, drop-length, length-take-le}
-use borrow.Author.Tests.{ltb-true, ltb-false}
+use lib.Seq.{take-all, drop-length, length-take-le, getD-take}
+use borrow.Author.Tests.{ltb-true, ltb-false, le-ltb}
 use Rattle.arrival.specs.declared.Shape.{Shape}
 use Rattle.arrival.specs.declared.Worker.{Worker}
-use Rattle.calendar.specs.Every.{every}
-use Rattle.calendar.specs.Ranges.{recordInRange, worker}
+use Rattle.calendar.specs.Every.{every, every-same}
+use Rattle.calendar.specs.Ranges.{blank, recordInRange, tableInRange, worker}
 use Rattle.calendar.specs.Operations.{Memory}
+use Rattle.admission.specs.Watched.{Watched}
+use Rattle.admission.specs.Gate.{soundOf, sound-watched, shape-tests}
 use Rattle.batch.specs.declared.Stop.{Stop}
 use Rattle.batch.specs.declared.Stop.the-variants.{Drained, Full, Halted}
 use Rattle.batch.specs.Serving.{Progress, Stopped, servedAll}
@@ -67,6 +69,17 @@ held-bound n = go (ltb n 64) refl
     go : (b : Bool) → ltb n 64 ≡ b → (cond b n 64 ≤ 64) × (cond b n 64 ≤ n)
     go true e = (omega (arith, ltb-true n 64 e), omega arith)
     go false e = (omega arith, ltb-false n 64 e)
+
+-- the flag of held records
+pub held-watched : (sh : Shape) (s : List ℕ) (n : ℕ) (t : List Worker) → n ≤ length t → Watched sh (record { store = s; table = take n t }) (soundOf sh s n (heldInRange sh n t))
+unfolding heldInRange tableInRange
+held-watched sh s n t h =
+    subst (λ m. Watched sh (lent s (take n t)) (soundOf sh s m (heldInRange sh n t))) (length-take-le n t h)
+    (sound-watched sh (lent s (take n t)) (heldInRange sh n t) (λ l.
+    let all : surveyed sh n ≡ sh .workers = rw (shape-tests sh (l .limits), le-ltb n (sh .workers) (omega (arith, l .table, length-take-le n t h))) in
+    ap (λ m. every m (λ i. recordInRange sh (worker t i))) all
+    ∙ every-same (λ i. recordInRange sh (worker t i)) (λ i. recordInRange sh (worker (take n t) i)) (sh .workers) (λ k b.
+    ap (recordInRange sh) (sym (getD-take n t k blank (omega (arith, b, l .table, length-take-le n t h)))))))
 
 -- ── on the first 64 records, the rest kept ──
 abbrev withRest : Account → List Worker → Account

@@ -1,0 +1,56 @@
+use mathlib.Core.Path.{_≡_, sym, ap, _∙_, subst⁻¹}
+use mathlib.Core.Bool.{Bool}
+use lib.ListN.{length, take}
+use Prim.Native.Nat.{ℕ}
+use native.Mathlib.Omega.{arith}
+use Rattle.admission.specs.Watched.{Watched}
+use Rattle.admission.specs.Gate.{soundOf}
+use Rattle.wubraken.specs.Stretch.{Account, stretchOn, stopNumber, accountOf, held-watched}
+use Rattle.wubraken.specs.Results.{lent}
+use borrow.Author.Needs.{needs}
+use Rattle.wubraken.proofs.stretch.serve_records.Statement.{statement}
+use Rattle.wubraken.proofs.stretch.serve_records.Tie as tie
+use Rattle.wubraken.proofs.stretch.serve_records.Reads as reads
+use Rattle.wubraken.proofs.stretch.serve_records.Lts as lts
+use Rattle.admission.proofs.is_sound.Reads as is-sound-reads
+use Rattle.batch.proofs.serve.Reads as serve-reads
+use Rattle.wubraken.proofs.stretch.held_in_range.Reads as held-in-range-reads
+use Rattle.wubraken.proofs.stretch.stop_number.Reads as stop-number-reads
+
+held-in-range-requires : tie.Need-held-in-range-requires
+held-in-range-requires c κs = search needs
+
+is-sound-requires : tie.Need-is-sound-requires
+is-sound-requires c κs = search needs
+
+serve-requires : tie.Need-serve-requires
+serve-requires c κs = let a = c .before .before .before .before .before .before .before .before .args in let long : length (a .table) ≡ 64 = search needs in (long, c .before .before .before .before .before .before .before .before .pre, subst⁻¹ (λ (b : Bool). Watched (a .shape) (record { store = a .store .now; table = take (a .n) (a .table) }) b) (c .before .before .is-sound .ensures ∙ ap (soundOf (a .shape) (a .store .now) (a .n)) (c .before .before .before .before .held-in-range .ensures)) (held-watched (a .shape) (a .store .now) (a .n) (a .table) (omega (arith, long, c .before .before .before .before .before .before .before .before .pre))))
+
+stop-number-requires : tie.Need-stop-number-requires
+stop-number-requires c κs = search needs
+
+same-length : tie.Need-same-length
+same-length c = search needs
+
+same-length-2 : tie.Need-same-length-2
+same-length-2 c = search needs
+
+returns : tie.Need-returns
+unfolding stretchOn
+returns c =
+    let served = c .before .before .before .before .before .before .before .before .serve in
+    let r = served .result in
+    let lends : ℕ → ℕ → Account = λ (m k : ℕ). record { shape = r .desk .shape; memory = lent (served .last .1 .1 .1 .1 .1 .0) (take m (r .desk .table)); lines = served .last .1 .1 .1 .0; read = r .at; written = r .to; stop = k } in
+    ap (lends (c .before .before .before .before .before .before .before .before .before .before .before .before .before .before .before .before .before .args .n)) (c .stop-number .ensures) ∙ ap (λ m. lends m (stopNumber (r .stop))) (sym (served .ensures .2)) ∙ ap accountOf (served .ensures .0)
+
+pub serve-records-spec : {M : Type 1} → statement M
+serve-records-spec =
+    tie.close
+    (tie.spec
+    held-in-range-requires
+    is-sound-requires
+    serve-requires
+    stop-number-requires
+    same-length
+    same-length-2
+    returns)
