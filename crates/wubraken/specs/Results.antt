@@ -29,7 +29,7 @@ use Rattle.wubraken.specs.declared.records.Opening.{Opening}
 use Rattle.wubraken.specs.declared.records.Handled.{Handled}
 use Rattle.wubraken.specs.declared.answers.Answer.{Answer}
 use Rattle.wubraken.specs.Answers.{answerOf}
-use Rattle.wubraken.specs.Survey.{survey, survey-ok-is, survey-low-is}
+use Rattle.wubraken.specs.Survey.{surveyed, survey, survey-records, survey-ok-is, survey-low-is}
 use Rattle.wubraken.specs.Gate.{gateOn, passed}
 
 -- ── what a call leaves ──
@@ -114,10 +114,13 @@ module _ (sh : Shape) (s : List ℕ) (t : List Worker) where
       ap (λ (n : ℕ). back t i (localEnqueue sh n s x (worker t i))) (survey-low-is sh t (shape-tests sh (l .limits)) (le-ltb (length t) (sh .workers) (l .table)))
       ∙ admission.enqueue-is sh m sound W i x z)
 
-  -- past the table's end there is no worker, or the table is too short
-  pub away-is : (a : Action) → ltb (actor a) (length t) ≡ false → leaves s t (answerOf (Refused (gateOn sh s (actor a) (length t) (survey sh t .ok)))) ≡ told (act sh (lent s t) a)
+  -- past the records that were looked at there is no worker, or the gate refuses anyway
+  pub away-is : (a : Action) → ltb (actor a) (survey sh t .records) ≡ false → leaves s t (answerOf (Refused (gateOn sh s (actor a) (length t) (survey sh t .ok)))) ≡ told (act sh (lent s t) a)
   unfolding gateOn
-  away-is a beyond = ap told (refused-is sh m sound W a (λ z. let p = usable sh m sound W (actor a) z in omega (arith, ltb-false (actor a) (length t) beyond, p .exists, p .lent .table)))
+  away-is a beyond = ap told (refused-is sh m sound W a (λ z.
+      let p = usable sh m sound W (actor a) z in
+      let all : surveyed sh (length t) ≡ sh .workers = rw (shape-tests sh (p .lent .limits), le-ltb (length t) (sh .workers) (p .lent .table)) in
+      omega (arith, ltb-false (actor a) (survey sh t .records) beyond, survey-records sh t (surveyed sh (length t)) (surveyed sh (length t)), all, p .exists)))
 
 -- ── opening ──
 -- what opening the store gives: how many records are to be cleared, the response, the store

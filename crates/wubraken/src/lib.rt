@@ -68,7 +68,7 @@ pub extern "C" fn wubraken_enqueue(
 {
     let n = table.len();
     let seen = survey_table(shape, table);
-    if i < n {
+    if i < seen.records {
         let w = table[i];
         let r = enqueue_record(shape, i, arrival, n, seen, w, store);
         table[i] = r.worker;
@@ -90,7 +90,7 @@ pub extern "C" fn wubraken_dequeue(
 {
     let n = table.len();
     let seen = survey_table(shape, table);
-    if i < n {
+    if i < seen.records {
         let w = table[i];
         let r = dequeue_record(shape, i, n, seen, w, store);
         table[i] = r.worker;
@@ -112,7 +112,7 @@ pub extern "C" fn wubraken_step(
 {
     let n = table.len();
     let seen = survey_table(shape, table);
-    if i < n {
+    if i < seen.records {
         let w = table[i];
         let r = step_record(shape, i, n, seen, w, store);
         table[i] = r.worker;

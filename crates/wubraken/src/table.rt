@@ -12,10 +12,11 @@ use ranges::record_in_range;
 use ranges::shape_in_range;
 use starts::free::lower_ticket;
 
-// What a look over records finds: whether all are in range, and the least ticket in progress.
+// What a look over records finds: whether all are in range, and the least ticket in progress; and how many they are.
 pub struct Survey {
     pub ok: bool,
     pub low: u64,
+    pub records: usize,
 }
 
 // One record more.
@@ -26,6 +27,7 @@ pub fn look(shape: Shape, found: Survey, w: Worker) -> Survey
     Survey {
         ok: found.ok & record_in_range(shape, w),
         low: lower_ticket(found.low, w),
+        records: found.records,
     }
 }
 
@@ -50,6 +52,7 @@ pub fn survey_table(shape: Shape, table: &[Worker]) -> Survey
     let mut found = Survey {
         ok: true,
         low: 4294967296,
+        records: n,
     };
     let mut k: usize = 0;
     while k < n {

@@ -55,7 +55,7 @@ use Rattle.calendar.specs.Operations.{act}
 use Rattle.wubraken.specs.declared.records.Handled.{Handled}
 use Rattle.wubraken.specs.Answers.{answerOf}
 use Rattle.wubraken.specs.declared.table.Survey.{Survey}
-use Rattle.wubraken.specs.Survey.{survey, survey-tells}
+use Rattle.wubraken.specs.Survey.{surveyed, survey, surveyed-bound, survey-records, survey-tells}
 use Rattle.wubraken.specs.Gate.{gateOn}
 use Rattle.wubraken.specs.Results.{lent, leaves, told, left, coded, put-back, stepOn, step-is, away-is}
 use Rattle.arrival.proofs.Shape as Sh
@@ -150,7 +150,7 @@ module _ (sh : Shape) (i : ℕ) (S : List ℕ) (ys : List Worker) where
   says-in : i < length ys → (r : Handled) (zs : List ℕ) → Said r zs → Says (r .answer) zs (set ys i (r .worker))
   says-in inside r zs e = ap (put-back ys i) e ∙ ap told (step-is sh S ys i)
 
-  says-out : ltb i (length ys) ≡ false → (r : Answer) (zs : List ℕ) → SaidAway r zs → Says r zs ys
+  says-out : ltb i (survey sh ys .records) ≡ false → (r : Answer) (zs : List ℕ) → SaidAway r zs → Says r zs ys
   says-out beyond r zs e = (λ k. leaves (e .1 k) ys (e .0 k)) ∙ away-is sh S ys (Step i) beyond
 
 module _ {M : Type 1} (𝓤 : URA M) (H : Heap 𝓤) (A : Atoms 𝓤) (W : Given 𝓤 H A) (mem : Memory → SProp 𝓤) (run : Routine → Fun 𝓤) (κ κ′ : Lft) (q q′ : Share) (sh : Shape) (i : ℕ) (b o : ℕ) (γ : GName) (S : List ℕ) (b′ o′ : ℕ) (γ′ : GName) (ys : List Worker)
@@ -259,7 +259,7 @@ module _ {M : Type 1} (𝓤 : URA M) (H : Heap 𝓤) (A : Atoms 𝓤) (W : Given
         drop ! $ split ! $ lft-end ! tt $ move ! (0 ∷ 2 ∷ []) $
         use2 W (later (‵ (MutSlice (named 1) κ′ T.the-row .own (t ys) (tv ∷ [])) ⊛ ‵ (flft κ′ q′))) (comes-back-shared T.the-row κ′ (ν ∷ []) q′ γ′ b′ o′ 𝓤 H A W (named 1) (named 0) ys room) $ await ! tt $ split ! $
         -- [the table; its token; true; true; the store's token; the store; the locals, the last first]
-        assigns ! (bin ! (load ! (from ! (stop !)) (look ! 40 refl)) (load ! (from ! (stop !)) (look ! 34 refl)) tt) (from ! (stop !)) (init ! 22 refl (tt, tt)) $
+        assigns ! (bin ! (load ! (from ! (stop !)) (look ! 40 refl)) (load ! (from ! (fld ! refl (stop !))) (look-in ! 32 (sub ! 2 refl (whole !)))) tt) (from ! (stop !)) (init ! 22 refl (tt, tt)) $
         first ! $ branches ! (load ! (from ! (stop !)) (look ! 22 refl)) (λ inside.
         fsplit ! $ move ! (1 ∷ []) $ fsplit ! $ move ! (0 ∷ 1 ∷ 3 ∷ []) $
         opens-slice ! tt T.the-row ys b′ o′ $ elem-out ! T.the-row (Is T.the-row) (shows 𝓤 H A T.the-row) vals (LL.tells T.the-type T′.the-laws) fullShare ys i blank b′ o′ (within inside) (λ g.
@@ -326,11 +326,11 @@ module _ {M : Type 1} (𝓤 : URA M) (H : Heap 𝓤) (A : Atoms 𝓤) (W : Given
         answer-is : (r : Handled) (v : Val) → Is U.the-row r (v ∷ []) → Is R.the-row (r .answer) (val-r (r .answer) ∷ [])
         answer-is r v is = LL.owed U.the-type U′.the-laws r _ is .1 .0
 
-        within : Holds (ltb i (length ys)) → i < length ys
-        within inside = ltb→lt i (length ys) inside
+        within : Holds (ltb i (all .records)) → i < length ys
+        within inside = omega (arith, ltb→lt i (all .records) inside, survey-records sh ys (surveyed sh (length ys)) (surveyed sh (length ys)), surveyed-bound sh (length ys))
 
         -- the elements' bytes fit an isize, so element i's offset fits a usize
-        place-fits : Holds (ltb i (length ys)) → i * 72 < 2 ^ 64
+        place-fits : Holds (ltb i (all .records)) → i * 72 < 2 ^ 64
         place-fits inside = omega (arith, within inside, room .1)
 
 module _ {M : Type 1} (𝓤 : URA M) (H : Heap 𝓤) (A : Atoms 𝓤) (W : Given 𝓤 H A) (mem : Memory → SProp 𝓤) (run : Routine → Fun 𝓤) where

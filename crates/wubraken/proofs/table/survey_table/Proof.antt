@@ -119,22 +119,22 @@ abbrev Fits : Survey → Type 0
 Fits m = Is S.the-row m (vals-s m)
 
 -- the accumulator at the start: the machine value that MIR makes is that of `unseen`
-abbrev made : Val
-made = vstruct (ofList (vbool true ∷ vint w64 4294967296 ∷ []))
+abbrev made : ℕ → Val
+made e = vstruct (ofList (vbool true ∷ vint w64 4294967296 ∷ vint w64 e ∷ []))
 
-made-unseen : made ≡ val-s unseen
+made-unseen : (e : ℕ) → made e ≡ val-s (unseen e)
 unfolding unseen
-made-unseen = refl
+made-unseen e = refl
 
-unseen-is : Fits unseen
+unseen-is : (e : ℕ) → e < 2 ^ 64 → Fits (unseen e)
 unfolding unseen
-unseen-is = LL.owes S.the-type S′.the-laws unseen (refl, ((refl, lit< tt), tt))
+unseen-is e h = LL.owes S.the-type S′.the-laws (unseen e) (refl, ((refl, lit< tt), ((refl, h), tt)))
 
-begins : (sh : Shape) (ys : List Worker) → Fits (surveyOf sh ys 0)
-begins sh ys = subst Fits (survey-start sh ys) unseen-is
+begins : (sh : Shape) (ys : List Worker) (e : ℕ) → e < 2 ^ 64 → Fits (surveyOf sh ys e 0)
+begins sh ys e h = subst Fits (survey-start sh ys e) (unseen-is e h)
 
-made-start : (sh : Shape) (ys : List Worker) → made ≡ val-s (surveyOf sh ys 0)
-made-start sh ys = made-unseen ∙ ap val-s (survey-start sh ys)
+made-start : (sh : Shape) (ys : List Worker) (e : ℕ) → made e ≡ val-s (surveyOf sh ys e 0)
+made-start sh ys e = made-unseen e ∙ ap val-s (survey-start sh ys e)
 
 module _ {M : Type 1} (𝓤 : URA M) (H : Heap 𝓤) (A : Atoms 𝓤) (mem : Memory → SProp 𝓤) (run : Routine → Fun 𝓤) where
   -- the contracts that the proof cites, and of what they ensure the clause alone
@@ -177,7 +177,7 @@ module _ {M : Type 1} (𝓤 : URA M) (H : Heap 𝓤) (A : Atoms 𝓤) (W : Given
   abbrev Had : List (Item 𝓤) → List (Item 𝓤)
   Had Γ = ‵ (flft κ q) ∷ ‵ (fshr-bor κ (λ r. arr-parts (shares T.the-row) (length ys) .part r ys b o)) ∷ ‵ (fres γ (codedHoleys T.the-row .code (heres T.the-row ys))) ∷ ‵ (at-slice T.the-row s (sv ∷ [])) ∷ Γ
 
-  exits : (r : Survey) → r ≡ surveyOf sh ys n → Fits r → ent 𝓤 (⋆ 𝓤 H A (Had [])) (Post (val-s r))
+  exits : (r : Survey) → r ≡ surveyOf sh ys n n → Fits r → ent 𝓤 (⋆ 𝓤 H A (Had [])) (Post (val-s r))
   exits r e fits =
       qed W (Had []) ∵
       suffices ! _ (ends-at 𝓤 H A f.ended stayed (f.clauses 𝓤 H A mem run) W (((κ, tt), (q, tt), tt, x, at), tt) (val-s r) r (tt, (tt, tt)) (tt, (tt, tt))) $ says ! e $
@@ -209,12 +209,15 @@ module _ {M : Type 1} (𝓤 : URA M) (H : Heap 𝓤) (A : Atoms 𝓤) (W : Given
   typed-sh : Holds (hasTy Sh′.mir (val-sh sh)) × WT (val-sh sh)
   typed-sh = LL.lawful Sh.the-type Sh′.the-laws 𝓤 H A W .typed sh _ sh-is .0
 
-  made-typed : Holds (hasTy S′.mir made) × WT made
-  made-typed = subst (λ (v : Val). Holds (hasTy S′.mir v) × WT v) (sym made-unseen) (typed-s unseen (val-s unseen) unseen-is)
+  n-fits : n < 2 ^ 64
+  n-fits = omega (arith, within, room .0)
+
+  made-typed : Holds (hasTy S′.mir (made n)) × WT (made n)
+  made-typed = subst (λ (v : Val). Holds (hasTy S′.mir v) × WT v) (sym (made-unseen n)) (typed-s (unseen n) (val-s (unseen n)) (unseen-is n n-fits))
 
   -- the variant
   abbrev Upto : Type 0
-  Upto = (k : ℕ) × ((k ≤ n) × Fits (surveyOf sh ys k))
+  Upto = (k : ℕ) × ((k ≤ n) × Fits (surveyOf sh ys n k))
 
   abbrev Nearer : Upto → Upto → Type 0
   Nearer j k = n - j .0 < n - k .0
@@ -240,7 +243,7 @@ module _ {M : Type 1} (𝓤 : URA M) (H : Heap 𝓤) (A : Atoms 𝓤) (W : Given
     At k = Had (
         ‵ (froom ty-w l₁₁ 0) ∷ ‵ (fdies ty-w l₁₁) ∷ ‵ (froom tyPtr l₁₀ 0) ∷ ‵ (fdies tyPtr l₁₀) ∷ ‵ (froom word l₉ 0) ∷ ‵ (fdies word l₉) ∷ ‵ (froom tyBool l₈ 0) ∷ ‵ (fdies tyBool l₈)
         ∷ ‵ (fat fullShare word l₇ 0 (vint w64 (length ys))) ∷ ‵ (fdies word l₇) ∷ ‵ (froom ty-w l₆ 0) ∷ ‵ (fdies ty-w l₆)
-        ∷ ‵ (fat fullShare word l₅ 0 (vint w64 (k .0))) ∷ ‵ (fdies word l₅) ∷ ‵ (fat fullShare ty-s l₄ 0 (val-s (surveyOf sh ys (k .0)))) ∷ ‵ (fdies ty-s l₄)
+        ∷ ‵ (fat fullShare word l₅ 0 (vint w64 (k .0))) ∷ ‵ (fdies word l₅) ∷ ‵ (fat fullShare ty-s l₄ 0 (val-s (surveyOf sh ys n (k .0)))) ∷ ‵ (fdies ty-s l₄)
         ∷ ‵ (fat fullShare word l₃ 0 (vint w64 n)) ∷ ‵ (fdies word l₃) ∷ ‵ (fat fullShare ty-t l₂ 0 sv) ∷ ‵ (fdies ty-t l₂) ∷ ‵ (fat fullShare ty-sh l₁ 0 (val-sh sh)) ∷ ‵ (fdies ty-sh l₁) ∷ ‵ (froom ty-s l₀ 0) ∷ ‵ (fdies ty-s l₀) ∷ [])
 
     abbrev Turned : Upto → Out → SProp 𝓤
@@ -262,15 +265,15 @@ module _ {M : Type 1} (𝓤 : URA M) (H : Heap 𝓤) (A : Atoms 𝓤) (W : Given
         assigns ! (of-opd ! (load ! (from ! (stop !)) (look ! 7 refl))) (from ! (stop !)) (init ! 17 refl (typed elem g)) $
         elem-back ! T.the-row q′ ys (k .0) blank (vals elem) b o inside $ shuts-slice ! tt T.the-row q′ ys b o $
         -- `look`
-        use0 W (raw (Look 𝓤 H A mem run .pre (to-look (surveyOf sh ys (k .0)) elem))) (goes-look (surveyOf sh ys (k .0)) elem (surveyed-shape sh (length ys) (k .0) less) (k .1 .1) g) $
-        calls-at ! (fmOf 𝓤 H (W .laws) 𝓣) (Look 𝓤 H A mem run) known (to-look (surveyOf sh ys (k .0)) elem) (and-then ! (load ! (from ! (stop !)) (look ! 25 refl)) (and-then ! (load ! (from ! (stop !)) (look ! 19 refl)) (and-then ! (load ! (from ! (stop !)) (look ! 15 refl)) (no-more !)))) (λ v.
-        use1 W (later (some (λ (r : Survey). (‵ ftrue ⊛ ‵ (S.the-row .own r (v ∷ []))) ⊛ raw (ensured 𝓤 H A look-fn.ended (look-fn.clauses 𝓤 H A mem run) tt (sh, (surveyOf sh ys (k .0), (elem, tt))) tt r)))) (id⊢ 𝓤 _) $ await ! tt $ pick ! (λ r.
-        split ! $ move ! (1 ∷ []) $ use1 W (raw (fact 𝓤 (r ≡ seen sh (surveyOf sh ys (k .0)) elem))) (look-of 𝓤 H A mem run sh (surveyOf sh ys (k .0)) elem r) $ heard ! (r ≡ seen sh (surveyOf sh ys (k .0)) elem) (λ e′. split ! $ drop ! $
+        use0 W (raw (Look 𝓤 H A mem run .pre (to-look (surveyOf sh ys n (k .0)) elem))) (goes-look (surveyOf sh ys n (k .0)) elem (surveyed-shape sh (length ys) (k .0) less) (k .1 .1) g) $
+        calls-at ! (fmOf 𝓤 H (W .laws) 𝓣) (Look 𝓤 H A mem run) known (to-look (surveyOf sh ys n (k .0)) elem) (and-then ! (load ! (from ! (stop !)) (look ! 25 refl)) (and-then ! (load ! (from ! (stop !)) (look ! 19 refl)) (and-then ! (load ! (from ! (stop !)) (look ! 15 refl)) (no-more !)))) (λ v.
+        use1 W (later (some (λ (r : Survey). (‵ ftrue ⊛ ‵ (S.the-row .own r (v ∷ []))) ⊛ raw (ensured 𝓤 H A look-fn.ended (look-fn.clauses 𝓤 H A mem run) tt (sh, (surveyOf sh ys n (k .0), (elem, tt))) tt r)))) (id⊢ 𝓤 _) $ await ! tt $ pick ! (λ r.
+        split ! $ move ! (1 ∷ []) $ use1 W (raw (fact 𝓤 (r ≡ seen sh (surveyOf sh ys n (k .0)) elem))) (look-of 𝓤 H A mem run sh (surveyOf sh ys n (k .0)) elem r) $ heard ! (r ≡ seen sh (surveyOf sh ys n (k .0)) elem) (λ e′. split ! $ drop ! $
         peeks ! S.the-row (Is S.the-row) (shows 𝓤 H A S.the-row) r (v ∷ []) (λ is. land ! (from ! (stop !)) (store ! 19 refl (typed-s r v is)) $
-        rewrite ! 19 (λ (u : Val). ‵ (fat fullShare ty-s l₄ 0 u)) (ap only (LL.tells S.the-type S′.the-laws r (v ∷ []) is) ∙ ap val-s (e′ ∙ survey-more sh ys (k .0))) refl $
+        rewrite ! 19 (λ (u : Val). ‵ (fat fullShare ty-s l₄ 0 u)) (ap only (LL.tells S.the-type S′.the-laws r (v ∷ []) is) ∙ ap val-s (e′ ∙ survey-more sh ys n (k .0))) refl $
         assigns-last ! (bin ! (load ! (from ! (stop !)) (look ! 17 refl)) (lit ! tt) (record { fits = next-fits })) (from ! (stop !)) (store ! 17 refl (tt, record { fits = next-fits })) $
         drop ! $ forget ! 4 refl $ forget ! 6 refl $ forget ! 8 refl $ forget ! 10 refl $ forget ! 14 refl $
-        again ! Nearer At k (k .0 + 1, (add-one-le less, subst Fits (e′ ∙ survey-more sh ys (k .0)) (subst (Is S.the-row r) (LL.tells S.the-type S′.the-laws r (v ∷ []) is) is))) (add-one-dec n (k .0) less)))))))
+        again ! Nearer At k (k .0 + 1, (add-one-le less, subst Fits (e′ ∙ survey-more sh ys n (k .0)) (subst (Is S.the-row r) (LL.tells S.the-type S′.the-laws r (v ∷ []) is) is))) (add-one-dec n (k .0) less)))))))
       where
         elem : Worker
         elem = getD ys (k .0) blank
@@ -289,10 +292,10 @@ module _ {M : Type 1} (𝓤 : URA M) (H : Heap 𝓤) (A : Atoms 𝓤) (W : Given
     turn-at k false e =
         assigns ! (bin ! (load ! (from ! (stop !)) (look ! 16 refl)) (load ! (from ! (stop !)) (look ! 20 refl)) tt) (from ! (stop !)) (init ! 10 refl (tt, tt)) $
         rewrite ! 10 (λ (t : Bool). ‵ (fat fullShare tyBool l₈ 0 (vbool t))) e refl $ leaves-loop ! (load ! (from ! (stop !)) (look ! 10 refl)) $ exec ! C Λ En mir.t-6 (atRet En Post) $
-        assigns ! (of-opd ! (load ! (from ! (stop !)) (look ! 18 refl))) (from ! (stop !)) (init ! 26 refl (typed-s (surveyOf sh ys (k .0)) (val-s (surveyOf sh ys (k .0))) (k .1 .1))) $
+        assigns ! (of-opd ! (load ! (from ! (stop !)) (look ! 18 refl))) (from ! (stop !)) (init ! 26 refl (typed-s (surveyOf sh ys n (k .0)) (val-s (surveyOf sh ys n (k .0))) (k .1 .1))) $
         returns ! (look ! 26 refl) $ forget ! 10 refl $ forget ! 12 refl $ forget ! 16 refl $ forget ! 18 refl $ forget ! 20 refl $ forget ! 22 refl $ forget ! 24 refl $ forget ! 26 refl $
         move ! (26 ∷ 27 ∷ []) $ free1 ! $ move ! (24 ∷ 25 ∷ []) $ free1 ! $ move ! (22 ∷ 23 ∷ []) $ free1 ! $ move ! (20 ∷ 21 ∷ []) $ free1 ! $ move ! (18 ∷ 19 ∷ []) $ free1 ! $ move ! (16 ∷ 17 ∷ []) $ free1 ! $ move ! (14 ∷ 15 ∷ []) $ free1 ! $ move ! (12 ∷ 13 ∷ []) $ free1 ! $ move ! (10 ∷ 11 ∷ []) $ free1 ! $ move ! (8 ∷ 9 ∷ []) $ free1 ! $ move ! (6 ∷ 7 ∷ []) $ free1 ! $ move ! (4 ∷ 5 ∷ []) $ free1 ! $ free0 ! $
-        by ! (exits (surveyOf sh ys (k .0)) (ap (surveyOf sh ys) (le-antisymm (k .1 .0) (ltb-false (k .0) n e))) (k .1 .1))
+        by ! (exits (surveyOf sh ys n (k .0)) (ap (surveyOf sh ys n) (le-antisymm (k .1 .0) (ltb-false (k .0) n e))) (k .1 .1))
 
   walk : (𝓣 : Tables 𝓤 H) → Triple 𝓤 (𝓣 .C #count) (Count 𝓤 H A mem run) → Triple 𝓤 (𝓣 .C #look) (Look 𝓤 H A mem run) → ent 𝓤 (onEntry 𝓤 H A f.signature (κ, tt) (q, tt) x at) (WpFn 𝓤 H (𝓣 .C) (𝓣 .Λ) code.function (val-sh sh ∷ sv ∷ []) Post)
   walk 𝓣 known-count known =
@@ -307,12 +310,12 @@ module _ {M : Type 1} (𝓤 : URA M) (H : Heap 𝓤) (A : Atoms 𝓤) (W : Given
       split ! $ move ! (1 ∷ []) $ use1 W (raw (fact 𝓤 (m ≡ n))) (count-of 𝓤 H A mem run sh (length ys) m) $ heard ! (m ≡ n) (λ e₀. split ! $ drop ! $
       peeks ! usize (Is usize) (shows 𝓤 H A usize) m (v₀ ∷ []) (λ is₀. land ! (from ! (stop !)) (init ! 17 refl (uint-lawful 𝓤 H A W w64 .typed m _ is₀ .0)) $
       rewrite ! 17 (λ (u : Val). ‵ (fat fullShare (tyInt w64) l₃ 0 u)) (ap only (is₀ .0) ∙ ap (vint w64) e₀) refl $ drop ! $
-      assigns ! (agg ! (and-then ! (true-lit !) (and-then ! (big-lit ! (record { fits = lit< tt })) (no-more !)))) (from ! (stop !)) (init ! 14 refl made-typed) $ rewrite ! 14 (λ (v : Val). ‵ (fat fullShare ty-s l₄ 0 v)) (made-start sh ys) refl $
+      assigns ! (agg ! (and-then ! (true-lit !) (and-then ! (big-lit ! (record { fits = lit< tt })) (and-then ! (load ! (from ! (stop !)) (look ! 16 refl)) (no-more !))))) (from ! (stop !)) (init ! 14 refl made-typed) $ rewrite ! 14 (λ (v : Val). ‵ (fat fullShare ty-s l₄ 0 v)) (made-start sh ys n) refl $
       assigns ! (of-opd ! (lit ! tt)) (from ! (stop !)) (init ! 12 refl (tt, record { fits = lit< tt })) $
       move ! (25 ∷ []) $ fsplit ! $ drop ! $ fsplit ! $ fsplit ! $ move ! (1 ∷ []) $ fsplit ! $ move ! (28 ∷ []) $ split ! $
       keep ! (0 ∷ 3 ∷ 2 ∷ 4 ∷ 6 ∷ 7 ∷ 8 ∷ 9 ∷ 10 ∷ 11 ∷ 12 ∷ 13 ∷ 14 ∷ 15 ∷ 16 ∷ 17 ∷ 18 ∷ 19 ∷ 20 ∷ 21 ∷ 22 ∷ 23 ∷ 24 ∷ 25 ∷ 26 ∷ 27 ∷ 28 ∷ 29 ∷ []) $
       first ! $ blocks ! $ loops ! 𝓣 Nearer Nearer-wf (At 𝓣 known l₀ l₁ l₂ l₃ l₄ l₅ l₆ l₇ l₈ l₉ l₁₀ l₁₁) (λ k. turn-at 𝓣 known l₀ l₁ l₂ l₃ l₄ l₅ l₆ l₇ l₈ l₉ l₁₀ l₁₁ k (ltb (k .0) n) refl)
-      (0, (zero-le, begins sh ys))))))))))))))))))
+      (0, (zero-le, begins sh ys n n-fits))))))))))))))))))
 
 module _ {M : Type 1} (𝓤 : URA M) (H : Heap 𝓤) (A : Atoms 𝓤) (W : Given 𝓤 H A) (mem : Memory → SProp 𝓤) (run : Routine → Fun 𝓤) where
   walks : (𝓣 : Tables 𝓤 H) → Triple 𝓤 (𝓣 .C #count) (Count 𝓤 H A mem run) → Triple 𝓤 (𝓣 .C #look) (Look 𝓤 H A mem run) → Walks 𝓤 H A f.ended stayed (WpFn 𝓤 H (𝓣 .C) (𝓣 .Λ) code.function) (f.clauses 𝓤 H A mem run)
