@@ -5,34 +5,16 @@ mod common;
 use std::collections::BTreeSet;
 
 use common::both::{calls_made, Both, Call};
+use common::draw::any_arrival;
 use common::seeds::on_seeds;
 use common::translate;
 use schedule::lent::{often_small, small_shape, Memory};
 use schedule::Random;
 use wubraken::raw::{self, kind};
-use wubraken::{Arrival, Shape};
+use wubraken::Shape;
 
 const MEMORIES: usize = 20_000;
 const WALK: usize = 24;
-
-/// Mostly in range; each field sometimes at its bound, past it, or far past it.
-fn any_arrival(random: &mut Random, shape: Shape) -> Arrival {
-    let limit = (shape.buckets * shape.width) as u32;
-    let mut field = |least: u32, most: u32| match random.below(24) {
-        0 => least.wrapping_sub(1),
-        1 => most + 1,
-        2 => most | 1 << 16,
-        3 => u32::MAX,
-        4..=7 => most,
-        _ => random.between(least, most),
-    };
-    Arrival {
-        time: field(0, limit - 1),
-        path: field(0, 65_535),
-        order: field(0, 63),
-        distance: field(1, 1_024),
-    }
-}
 
 /// Mostly a worker of the shape.
 fn any_worker(random: &mut Random, shape: Shape) -> u64 {

@@ -120,8 +120,8 @@ fn corners_of_the_limits() {
             assert_eq!(lent.call(shape, Call::Open).kind, kind::OPEN);
             let last = (shape.buckets * shape.width - 1) as u32;
             let mut ended = 0;
-            // A take may walk through all the buckets, in two turns each.
-            for _ in 0..600 {
+            // Two takes may walk through all the buckets, in two turns each.
+            for _ in 0..1_200 {
                 let worker = random.choose(&[0, shape.workers - 1]);
                 let arrival = Arrival {
                     time: random.choose(&[0, last]),

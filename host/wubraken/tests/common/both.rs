@@ -1,12 +1,15 @@
 //! One call made twice: of the library, and of the second program. Answer, every
 //! word, every record and the guards are compared.
+//!
+//! The single calls are made as C makes them, stretches through the wrapper.
 
+use std::fmt::Debug;
 use std::sync::atomic::{AtomicU64, Ordering};
 
 use schedule::lent::Memory;
-use second::Answer;
+use second::{Answer, Record, Records};
 use wubraken::raw::{self, wubraken_dequeue, wubraken_enqueue, wubraken_open, wubraken_step};
-use wubraken::{Arrival, Shape, Worker};
+use wubraken::{Arrival, Pool, Refusal, Served, Shape, Stop, Worker, LINE};
 
 use super::guarded::{Guarded, GARBAGE, GARBAGE_RECORD};
 use super::translate;
@@ -18,6 +21,9 @@ pub enum Call {
     Dequeue(u64),
     Step(u64),
 }
+
+/// What a byte of room is filled with.
+const UNWRITTEN: u8 = 0xA5;
 
 static CALLS: AtomicU64 = AtomicU64::new(0);
 
@@ -65,7 +71,7 @@ impl Both {
     }
 
     pub fn record(&self, worker: usize) -> Option<Worker> {
-        self.table.contents().get(worker).copied()
+        self.table().get(worker).copied()
     }
 
     pub fn call(&mut self, shape: Shape, call: Call) -> raw::Answer {
@@ -109,7 +115,81 @@ impl Both {
         }
     }
 
-    fn compare(&self, shape: Shape, call: Call) {
+    /// Serves a stretch into so many bytes of room: how far, and the lines.
+    pub fn serve(&mut self, shape: &mut Shape, input: &[u8], room: usize) -> (Served, Vec<u8>) {
+        let mut out = Guarded::new(&vec![UNWRITTEN; room], !UNWRITTEN);
+        let mut pool = Pool::resume(*shape, self.store.lent(), self.table.lent());
+        let served = pool.serve(input, out.lent());
+        let left = pool.shape();
+
+        let (expected, lines) = self.serve_second(shape, input, room);
+        assert_eq!((served, left), (expected, *shape));
+        let (written, rest) = out.contents().split_at(served.written);
+        assert_eq!(written, lines);
+        assert!(rest.iter().all(|&byte| byte == UNWRITTEN));
+        self.compare(*shape, "a stretch");
+        (served, lines)
+    }
+
+    /// Record by record, each on memory that is looked through again.
+    fn serve_second(&mut self, shape: &mut Shape, input: &[u8], room: usize) -> (Served, Vec<u8>) {
+        let (mut read, mut lines) = (0, Vec::new());
+        let mut records = Records::new(input);
+        let stop = loop {
+            if lines.len() + LINE > room {
+                break Stop::Full;
+            }
+            match records.next() {
+                None => break Stop::Drained,
+                Some(Err(refusal)) => {
+                    let number = refusal.number().into();
+                    break Stop::Halted(Refusal::from_number(number).unwrap());
+                }
+                Some(Ok(record)) => {
+                    let mut bytes = Vec::new();
+                    record.encode(&mut bytes);
+                    read += bytes.len();
+                    second::push_line(&mut lines, &self.apply_second(shape, record));
+                }
+            }
+        };
+        let written = lines.len();
+        (
+            Served {
+                read,
+                written,
+                stop,
+            },
+            lines,
+        )
+    }
+
+    fn apply_second(&mut self, shape: &mut Shape, record: Record) -> Answer {
+        let call = match record {
+            Record::Open(opened) => {
+                let answer = self.call_second(opened, Call::Open)?;
+                *shape = translate::shape_back(opened);
+                return Ok(answer);
+            }
+            Record::EnqueueStart { worker, arrival } => {
+                Call::Enqueue(worker.into(), translate::arrival_back(arrival))
+            }
+            Record::DequeueStart { worker } => Call::Dequeue(worker.into()),
+            Record::Step { worker } => Call::Step(worker.into()),
+        };
+        self.call_second(translate::shape(*shape), call)
+    }
+
+    /// The memory, as the library has it.
+    pub fn store(&self) -> &[u64] {
+        self.store.contents()
+    }
+
+    pub fn table(&self) -> &[Worker] {
+        self.table.contents()
+    }
+
+    fn compare(&self, shape: Shape, call: impl Debug) {
         assert!(
             self.store.contents() == self.second_store,
             "{shape:?} {call:?}: the stores differ"

@@ -2,6 +2,7 @@
 #![allow(dead_code)]
 
 pub mod both;
+pub mod draw;
 pub mod guarded;
 pub mod seeds;
 pub mod translate;
