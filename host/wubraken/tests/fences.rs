@@ -1,0 +1,165 @@
+//! Nothing outside the lent slices is touched, not even read: they lie against
+//! pages that end the process when touched.
+#![cfg(target_os = "linux")]
+
+mod common;
+
+use std::ffi::c_void;
+use std::mem::size_of_val;
+use std::ptr;
+use std::slice;
+
+use common::draw::any_arrival;
+use common::guarded::{GARBAGE, GARBAGE_RECORD};
+use common::seeds::on_seeds;
+use common::translate;
+use schedule::lent::{fields, small_shape, Memory};
+use schedule::{write_damaged, Options, Random};
+use wubraken::{Pool, Shape, Worker};
+
+const PAGE: usize = 4_096;
+const PAGES: usize = 4;
+
+const READ_WRITE: i32 = 3;
+const PRIVATE_ANONYMOUS: i32 = 0x22;
+
+extern "C" {
+    fn mmap(
+        at: *mut c_void,
+        bytes: usize,
+        access: i32,
+        kind: i32,
+        file: i32,
+        from: i64,
+    ) -> *mut c_void;
+    fn mprotect(at: *mut c_void, bytes: usize, access: i32) -> i32;
+}
+
+/// Pages between two that nobody may touch. Kept until the process ends.
+struct Fenced {
+    first: *mut u8,
+}
+
+impl Fenced {
+    fn new() -> Self {
+        // SAFETY: new pages, of which only those between the fences are used.
+        unsafe {
+            let all = mmap(
+                ptr::null_mut(),
+                (PAGES + 2) * PAGE,
+                0,
+                PRIVATE_ANONYMOUS,
+                -1,
+                0,
+            );
+            let first = all.cast::<u8>().wrapping_add(PAGE);
+            assert_eq!(mprotect(first.cast(), PAGES * PAGE, READ_WRITE), 0);
+            Self { first }
+        }
+    }
+
+    /// A copy of the contents right behind the first fence or right before the
+    /// second. The elements are any bits, as those of words, records and bytes.
+    fn lend<E: Copy>(&mut self, contents: &[E], at_the_end: bool) -> &mut [E] {
+        let start = match at_the_end {
+            true => PAGES * PAGE - size_of_val(contents),
+            false => 0,
+        };
+        // SAFETY: inside the pages, which are borrowed with `self`, and aligned as
+        // they are, since a size is a multiple of its alignment.
+        unsafe {
+            let start = self.first.add(start).cast::<E>();
+            ptr::copy_nonoverlapping(contents.as_ptr(), start, contents.len());
+            slice::from_raw_parts_mut(start, contents.len())
+        }
+    }
+}
+
+/// In range, damaged or too short, with garbage behind or nothing.
+fn any_memory(random: &mut Random, small: second::Shape) -> (Vec<u64>, Vec<Worker>) {
+    let mut memory = Memory::in_range(random, small);
+    if random.one_in(4) {
+        let field = random.choose(&fields(small));
+        *memory.at(field) = u64::MAX;
+    }
+    let mut store = memory.store;
+    let mut table: Vec<_> = memory
+        .workers
+        .into_iter()
+        .map(translate::worker_back)
+        .collect();
+    match random.below(8) {
+        0 => store.truncate(random.below(store.len() as u32) as usize),
+        1 => table.truncate(random.below(table.len() as u32) as usize),
+        2 => store.push(GARBAGE),
+        3 => table.push(GARBAGE_RECORD),
+        _ => {}
+    }
+    (store, table)
+}
+
+/// Every call, one after the other; all that they answer.
+fn all_calls<S: AsMut<[u64]>, T: AsMut<[Worker]>>(
+    random: &mut Random,
+    pool: &mut Pool<S, T>,
+    file: &[u8],
+    out: &mut [u8],
+) -> String {
+    let mut said = String::new();
+    for _ in 0..16 {
+        let worker = random.draw() % 4;
+        let shape = pool.shape();
+        said += &match random.below(8) {
+            0 => format!("{:?}", pool.enqueue(worker, any_arrival(random, shape))),
+            1 => format!("{:?}", pool.dequeue(worker)),
+            _ => format!("{:?}", pool.step(worker)),
+        };
+    }
+    said += &format!("{:?}", pool.serve(file, out));
+    said += &format!("{:?}", pool.reopen(SMALL));
+    said
+}
+
+const SMALL: Shape = Shape {
+    workers: 1,
+    nodes: 1,
+    buckets: 1,
+    width: 1,
+};
+
+#[test]
+fn between_fences() {
+    on_seeds("fences", |random| {
+        let mut pages = [(); 4].map(|()| Fenced::new());
+        for _ in 0..4_000 {
+            one_round(random, &mut pages);
+        }
+    });
+}
+
+/// The same calls between fences and in plain memory.
+fn one_round(
+    random: &mut Random,
+    [store_pages, table_pages, file_pages, out_pages]: &mut [Fenced; 4],
+) {
+    let at_the_end = random.one_in(2);
+    let small = small_shape(random);
+    let shape = translate::shape_back(small);
+    let (store, table) = any_memory(random, small);
+    let mut file = Vec::new();
+    let records = random.below(40).into();
+    write_damaged(random.draw(), records, Options::default(), &mut file).unwrap();
+    let mut out = vec![0; random.below(600) as usize];
+
+    let lent_store = store_pages.lend(&store, at_the_end);
+    let lent_table = table_pages.lend(&table, at_the_end);
+    let lent_file = file_pages.lend(&file, at_the_end);
+    let lent_out = out_pages.lend(&out, at_the_end);
+    let mut lent = Pool::resume(shape, lent_store, lent_table);
+    let said = all_calls(&mut random.clone(), &mut lent, lent_file, lent_out);
+
+    let mut plain = Pool::resume(shape, store, table);
+    assert_eq!(said, all_calls(random, &mut plain, &file, &mut out));
+    assert_eq!((lent.store(), lent.table()), (plain.store(), plain.table()));
+    assert_eq!(lent_out, out);
+}
