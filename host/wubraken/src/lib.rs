@@ -30,6 +30,9 @@
 //! ```
 //!
 //! [`Pool::serve`] works through a whole stretch of a turn file at once.
+//!
+//! The library is linked from the repository's `target/staticlib`, where
+//! `rt staticlib wubraken` writes it, or from the directory `WUBRAKEN_LIB_DIR`.
 
 mod answer;
 mod pool;

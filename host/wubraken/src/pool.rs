@@ -85,7 +85,7 @@ impl<S, T: AsRef<[Worker]>> Pool<S, T> {
 
 impl<S: AsMut<[u64]>, T: AsMut<[Worker]>> Pool<S, T> {
     /// Opens a pool in lent memory, whatever that held. Memory handed over by
-    /// value is gone on a refusal; what is borrowed stays with its owner.
+    /// value is gone on a refusal (1 or 2); what is borrowed stays with its owner.
     ///
     /// ```
     /// use wubraken::{Pool, Refusal, Shape, Worker};
@@ -109,7 +109,7 @@ impl<S: AsMut<[u64]>, T: AsMut<[Worker]>> Pool<S, T> {
     }
 
     /// Empties the pool and gives it a shape, in the memory it has. A refusal
-    /// leaves everything as it was.
+    /// (1 or 2) leaves everything as it was.
     pub fn reopen(&mut self, shape: Shape) -> Result<(), Refusal> {
         let (store, table) = (self.store.as_mut(), self.table.as_mut());
         // SAFETY: two slices, borrowed for the call.
@@ -126,7 +126,8 @@ impl<S: AsMut<[u64]>, T: AsMut<[Worker]>> Pool<S, T> {
         Ok(())
     }
 
-    /// A worker begins to put an arrival in: the call's ticket.
+    /// A worker begins to put an arrival in: the call's ticket, or refusal 1 to
+    /// 6, 9, 11 or 12.
     pub fn enqueue(&mut self, worker: u64, arrival: Arrival) -> Result<u64, Refusal> {
         let (store, table) = (self.store.as_mut(), self.table.as_mut());
         // SAFETY: two slices, borrowed for the call.
@@ -143,7 +144,8 @@ impl<S: AsMut<[u64]>, T: AsMut<[Worker]>> Pool<S, T> {
         })
     }
 
-    /// A worker begins to take the earliest arrival out: the call's ticket.
+    /// A worker begins to take the earliest arrival out: the call's ticket, or
+    /// refusal 1 to 4, 9 or 11.
     pub fn dequeue(&mut self, worker: u64) -> Result<u64, Refusal> {
         let (store, table) = (self.store.as_mut(), self.table.as_mut());
         // SAFETY: two slices, borrowed for the call.
@@ -159,7 +161,8 @@ impl<S: AsMut<[u64]>, T: AsMut<[Worker]>> Pool<S, T> {
         })
     }
 
-    /// A worker's call goes on by one shared word.
+    /// A worker's call goes on by one shared word: what that led to, or refusal 1
+    /// to 4, 10 or 11.
     pub fn step(&mut self, worker: u64) -> Result<Step, Refusal> {
         let (store, table) = (self.store.as_mut(), self.table.as_mut());
         // SAFETY: two slices, borrowed for the call.

@@ -10,6 +10,7 @@ use common::draw::any_arrival;
 use common::guarded::{GARBAGE, GARBAGE_RECORD};
 use common::seeds::on_seeds;
 use common::translate;
+use schedule::by_hand::WORKED_EXAMPLE;
 use schedule::lent::{fields, often_small, small_shape, Memory};
 use schedule::{write, write_damaged, Options, Random};
 use second::{Program, Record, Records, LENT_RECORDS, LENT_WORDS};
@@ -73,6 +74,42 @@ fn program_after(file: &[u8]) -> Program {
         let _ = program.apply(record);
     }
     program
+}
+
+/// A take of worker 0 in a pool of 1, 4, 2 and 10, then more bytes.
+fn opened_and_then(more: &[u8]) -> Vec<u8> {
+    [b"OP\x01\x04\x00\x02\x00\x0A\x00TA\x00", more].concat()
+}
+
+#[test]
+fn every_mark() {
+    let mut known = Vec::new();
+    for mark in 0..=u16::MAX {
+        let file = opened_and_then(&mark.to_le_bytes());
+        let (served, _) = fresh(37, 1).serve(&mut Shape::default(), &file, 200);
+        match served.stop {
+            Stop::Halted(Refusal::CutRecord) => known.push(mark.to_le_bytes()),
+            stop => assert_eq!(stop, Stop::Halted(Refusal::UnknownMark)),
+        }
+    }
+    known.sort_unstable();
+    assert_eq!(known, [*b"OP", *b"PU", *b"TA", *b"TU"]);
+}
+
+#[test]
+fn cut_at_every_byte_into_every_room() {
+    let (file, lines) = WORKED_EXAMPLE;
+    for have in 0..=file.len() {
+        for room in 0..=lines.len() + LINE {
+            fresh(37, 1).serve(&mut Shape::default(), &file[..have], room);
+        }
+    }
+    let mut lent = fresh(37, 1);
+    let (served, written) = lent.serve(&mut Shape::default(), file, lines.len() + LINE);
+    assert_eq!(
+        (served.stop, &written[..]),
+        (Stop::Drained, lines.as_bytes())
+    );
 }
 
 #[test]
