@@ -83,7 +83,7 @@ enum {
 enum {
     WUBRAKEN_BAD_SHAPE = 1,    /* a field of the shape is outside its limits */
     WUBRAKEN_TOO_SHORT = 2,    /* the store or the table is too short for the shape */
-    WUBRAKEN_OUT_OF_RANGE = 3, /* the store or the table holds what no pool holds */
+    WUBRAKEN_OUT_OF_RANGE = 3, /* a word of the store or a field of the table is out of its range */
     WUBRAKEN_NO_WORKER = 4,    /* the shape has no such worker */
     WUBRAKEN_BAD_ARRIVAL = 5,  /* path, order or distance is outside its limits */
     WUBRAKEN_TOO_LATE = 6,     /* the time is past the last bucket */

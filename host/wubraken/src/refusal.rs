@@ -12,7 +12,7 @@ pub enum Refusal {
     BadShape = 1,
     /// The store or the table is too short for the shape.
     TooShort = 2,
-    /// The store or the table holds what no pool holds.
+    /// A word of the store or a field of the table is out of its range.
     OutOfRange = 3,
     /// The shape has no such worker.
     NoWorker = 4,
@@ -69,7 +69,7 @@ impl fmt::Display for Refusal {
         f.write_str(match self {
             Self::BadShape => "the shape is outside its limits",
             Self::TooShort => "the store or the table is too short for the shape",
-            Self::OutOfRange => "a field of the store or the table is out of range",
+            Self::OutOfRange => "a word of the store or a field of the table is out of its range",
             Self::NoWorker => "there is no such worker",
             Self::BadArrival => "path, order or distance is outside its limits",
             Self::TooLate => "the time is past the last bucket",

@@ -9,11 +9,10 @@ use std::mem::size_of_val;
 use std::ptr;
 use std::slice;
 
-use common::draw::any_arrival;
-use common::guarded::{GARBAGE, GARBAGE_RECORD};
+use common::draw::{any_arrival, any_memory, Lent};
 use common::seeds::on_seeds;
 use common::translate;
-use schedule::lent::{fields, small_shape, Memory};
+use schedule::lent::small_shape;
 use schedule::{write_damaged, Options, Random};
 use wubraken::{Pool, Shape, Worker};
 
@@ -75,29 +74,6 @@ impl Fenced {
     }
 }
 
-/// In range, damaged or too short, with garbage behind or nothing.
-fn any_memory(random: &mut Random, small: second::Shape) -> (Vec<u64>, Vec<Worker>) {
-    let mut memory = Memory::in_range(random, small);
-    if random.one_in(4) {
-        let field = random.choose(&fields(small));
-        *memory.at(field) = u64::MAX;
-    }
-    let mut store = memory.store;
-    let mut table: Vec<_> = memory
-        .workers
-        .into_iter()
-        .map(translate::worker_back)
-        .collect();
-    match random.below(8) {
-        0 => store.truncate(random.below(store.len() as u32) as usize),
-        1 => table.truncate(random.below(table.len() as u32) as usize),
-        2 => store.push(GARBAGE),
-        3 => table.push(GARBAGE_RECORD),
-        _ => {}
-    }
-    (store, table)
-}
-
 /// Every call, one after the other; all that they answer.
 fn all_calls<S: AsMut<[u64]>, T: AsMut<[Worker]>>(
     random: &mut Random,
@@ -145,7 +121,7 @@ fn one_round(
     let at_the_end = random.one_in(2);
     let small = small_shape(random);
     let shape = translate::shape_back(small);
-    let (store, table) = any_memory(random, small);
+    let Lent { store, table, .. } = any_memory(random, small);
     let mut file = Vec::new();
     let records = random.below(40).into();
     write_damaged(random.draw(), records, Options::default(), &mut file).unwrap();

@@ -6,12 +6,11 @@ mod common;
 use std::collections::BTreeSet;
 
 use common::both::Both;
-use common::draw::any_arrival;
-use common::guarded::{GARBAGE, GARBAGE_RECORD};
+use common::draw::{any_arrival, any_memory};
 use common::seeds::on_seeds;
 use common::translate;
 use schedule::by_hand::WORKED_EXAMPLE;
-use schedule::lent::{fields, often_small, small_shape, Memory};
+use schedule::lent::small_shape;
 use schedule::{write, write_damaged, Options, Random};
 use second::{Program, Record, Records, LENT_RECORDS, LENT_WORDS};
 use wubraken::{Refusal, Shape, Stop, Worker, LINE};
@@ -101,7 +100,8 @@ fn cut_at_every_byte_into_every_room() {
     let (file, lines) = WORKED_EXAMPLE;
     for have in 0..=file.len() {
         for room in 0..=lines.len() + LINE {
-            fresh(37, 1).serve(&mut Shape::default(), &file[..have], room);
+            let (served, _) = fresh(37, 1).serve(&mut Shape::default(), &file[..have], room);
+            assert_eq!((served.read, served.stop) == (0, Stop::Full), room < LINE);
         }
     }
     let mut lent = fresh(37, 1);
@@ -197,40 +197,6 @@ fn any_shape(random: &mut Random, small: second::Shape) -> Shape {
     }
 }
 
-/// Store and table as drawn, with some fields out of range or none, and so long:
-/// too short, exact, or with garbage behind.
-fn any_memory(random: &mut Random, small: second::Shape) -> (Both, bool) {
-    let mut memory = Memory::in_range(random, small);
-    let is_damaged = random.one_in(4);
-    if is_damaged {
-        let field = random.choose(&fields(small));
-        let outside: Vec<u64> = memory.range(field).outside().collect();
-        *memory.at(field) = random.choose(&outside);
-    }
-    let mut store = memory.store;
-    let mut table: Vec<_> = memory
-        .workers
-        .into_iter()
-        .map(translate::worker_back)
-        .collect();
-    let is_short = random.one_in(16);
-    if is_short {
-        match random.one_in(2) {
-            true => store.truncate(random.below(store.len() as u32) as usize),
-            false => table.truncate(random.below(table.len() as u32) as usize),
-        }
-    } else {
-        let spare = random.choose(&[0, 1, 60, 300]);
-        store.resize(store.len() + often_small(random, spare) as usize, GARBAGE);
-        let spare = random.choose(&[0, 1, 61, 100]);
-        table.resize(
-            table.len() + often_small(random, spare) as usize,
-            GARBAGE_RECORD,
-        );
-    }
-    (Both::new(&store, &table), is_damaged || is_short)
-}
-
 #[test]
 fn any_memory_at_all() {
     on_seeds("any memory", |random| {
@@ -239,9 +205,10 @@ fn any_memory_at_all() {
         for _ in 0..1_500 {
             let small = small_shape(random);
             let mut shape = any_shape(random, small);
-            let (mut lent, is_wrong) = any_memory(random, small);
+            let memory = any_memory(random, small);
+            let mut lent = Both::new(&memory.store, &memory.table);
             let file = any_records(random, translate::shape_back(small), 60);
-            let is_sound = !is_wrong && shape == translate::shape_back(small);
+            let is_sound = memory.is_sound && shape == translate::shape_back(small);
             let output = run_in_pieces(random, &mut lent, &mut shape, &file);
 
             let output = String::from_utf8(output).unwrap();

@@ -55,12 +55,7 @@ impl Both {
     pub fn with_spare(memory: &Memory, words: usize, records: usize) -> Self {
         let mut store = memory.store.clone();
         store.extend(vec![GARBAGE; words]);
-        let mut table: Vec<Worker> = memory
-            .workers
-            .iter()
-            .copied()
-            .map(translate::worker_back)
-            .collect();
+        let mut table = translate::table_back(&memory.workers);
         table.extend(vec![GARBAGE_RECORD; records]);
         Self::new(&store, &table)
     }

@@ -70,6 +70,10 @@ pub fn worker_back(worker: second::Worker) -> Worker {
     }
 }
 
+pub fn table_back(workers: &[second::Worker]) -> Vec<Worker> {
+    workers.iter().copied().map(worker_back).collect()
+}
+
 /// The answer, with 0 in every field that it does not carry.
 pub fn answer(answer: Answer) -> raw::Answer {
     let of = |kind| raw::Answer {
