@@ -49,7 +49,7 @@ fn run_in_pieces(random: &mut Random, lent: &mut Both, shape: &mut Shape, file: 
     }
 }
 
-/// The lent memory of the program `turns` before an opening.
+/// Zeros, as `turns` lends before an opening.
 fn fresh(words: usize, records: usize) -> Both {
     Both::new(&vec![0; words], &vec![Worker::default(); records])
 }
