@@ -3,6 +3,8 @@
 
 pub mod both;
 pub mod draw;
+#[cfg(target_os = "linux")]
+pub mod fenced;
 pub mod guarded;
 pub mod seeds;
 pub mod translate;
