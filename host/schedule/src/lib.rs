@@ -1,7 +1,9 @@
-//! Turn files for the arrival pool: seeded random ones, and those written by hand.
+//! Turn files for the arrival pool, seeded random ones and those written by hand,
+//! and random lent memory.
 #![forbid(unsafe_code)]
 
 pub mod by_hand;
+pub mod lent;
 pub mod orders;
 pub mod script;
 

@@ -26,7 +26,7 @@ mod worker;
 pub mod word;
 
 pub use energy::energy;
-pub use lines::Lines;
+pub use lines::{push_line, Lines};
 pub use pool::{dequeue_start, enqueue_start, open, step};
 pub use program::{run, run_standard, Program, LENT_RECORDS, LENT_WORDS};
 pub use ranges::in_range;

@@ -42,7 +42,8 @@ impl<W: Write> Lines<W> {
     }
 }
 
-fn push_line(line: &mut Vec<u8>, answer: &Answer) {
+/// Appends the line of an answer.
+pub fn push_line(line: &mut Vec<u8>, answer: &Answer) {
     match *answer {
         Ok(Response::On) => line.extend(b"on"),
         Ok(Response::Open) => line.extend(b"open"),

@@ -3,6 +3,8 @@
 mod common;
 
 use common::*;
+use schedule::lent::{fields, often_small, small_shape, Memory};
+use schedule::Random;
 use second::{field, in_range, word, Response, Worker};
 
 const WORKERS: usize = 3;
@@ -340,101 +342,32 @@ fn marking_what_is_marked() {
     assert_eq!((lent.stage(0), lent.workers[0].own), (1, 1));
 }
 
-/// splitmix64
-struct Random(u64);
-
-impl Random {
-    fn next(&mut self) -> u64 {
-        self.0 = self.0.wrapping_add(0x9E37_79B9_7F4A_7C15);
-        let mut z = self.0;
-        z = (z ^ (z >> 30)).wrapping_mul(0xBF58_476D_1CE4_E5B9);
-        z = (z ^ (z >> 27)).wrapping_mul(0x94D0_49BB_1331_11EB);
-        z ^ (z >> 31)
-    }
-
-    fn below(&mut self, bound: u64) -> u64 {
-        self.next() % bound
-    }
-
-    /// Mostly small, often at the bound, sometimes anything in between.
-    fn up_to(&mut self, most: u64) -> u64 {
-        match self.below(4) {
-            0 => most,
-            1 => self.next() % (most + 1),
-            _ => self.below(9).min(most),
-        }
-    }
+/// The memory with garbage behind.
+fn lend(memory: &Memory) -> Lent {
+    let mut lent = Lent::garbage(memory.shape);
+    lent.store[..memory.store.len()].copy_from_slice(&memory.store);
+    lent.workers[..memory.workers.len()].copy_from_slice(&memory.workers);
+    lent
 }
 
-/// Memory with every field somewhere in its range.
-fn any_in_range(random: &mut Random) -> Lent {
-    let nodes = 1 + random.below(4);
-    let buckets = 1 + random.below(3);
-    let workers = 1 + random.below(3);
-    let mut lent = Lent::open(shape(workers as u32, nodes as u32, buckets as u32, 10));
-    lent.store[0] = word::current(random.below(buckets), random.up_to(COUNT - 1));
-    lent.store[1] = random.up_to(COUNT - 1);
-    lent.store[2] = random.below(nodes);
-    for bucket in 0..buckets as usize {
-        *lent.head(bucket) = 2 * random.below(nodes + 1);
-    }
-    for node in 0..nodes as usize {
-        let reclamation = random.up_to(COUNT + 1);
-        let distance = random.up_to(1_024).max(u64::from(reclamation > 0));
-        let words = [
-            random.below(2 * nodes + 2),
-            random.up_to(COUNT - 1),
-            random.up_to(COUNT - 1),
-            random.up_to(65_535),
-            random.up_to(63),
-            distance,
-            random.up_to(COUNT - 1),
-            reclamation,
-        ];
-        for (field, value) in words.into_iter().enumerate() {
-            *lent.node_word(node, field) = value;
-        }
-    }
-    for worker in 0..workers as usize {
-        let stage = match random.below(14) {
-            12 if buckets == 1 => 13,
-            stage => stage,
-        };
-        lent.workers[worker] = Worker {
-            stage,
-            kind: match stage {
-                0..=3 => random.below(2),
-                4..=7 => 0,
-                _ => 1,
-            },
-            own: random.below(nodes),
-            bucket: random.below(if stage == 12 { buckets - 1 } else { buckets }),
-            left: random.below(buckets + nodes),
-            right: random.below(match stage {
-                2 | 3 | 10 | 11 => nodes,
-                _ => nodes + 1,
-            }),
-            link_seen: random.below(2 * nodes + 2),
-            current_seen: word::current(random.below(buckets), random.up_to(COUNT - 1)),
-            ticket: random.up_to(COUNT - 1),
-        };
-    }
-    lent
+fn any_in_range(random: &mut Random) -> Memory {
+    let shape = small_shape(random);
+    Memory::in_range(random, shape)
 }
 
 /// No call on memory in range panics, is refused by 3, or leaves the ranges but
 /// by the one leak.
 #[test]
 fn any_memory_in_range() {
-    let mut random = Random(1);
+    let mut random = Random::new(1);
     for _ in 0..60_000 {
-        let lent = any_in_range(&mut random);
+        let lent = lend(&any_in_range(&mut random));
         assert!(in_range(lent.shape, &lent.store, &lent.workers));
         for worker in 0..lent.shape.workers as usize {
             for call in 0..3 {
                 let mut after = lent.clone();
                 let answer = match call {
-                    0 => after.put(worker, random.up_to(30) as u32),
+                    0 => after.put(worker, often_small(&mut random, 30) as u32),
                     1 => after.take(worker),
                     _ => after.turn(worker),
                 };
@@ -449,40 +382,22 @@ fn any_memory_in_range() {
     }
 }
 
-/// The field of a record by its number.
-fn record_field(record: &mut Worker, field: u64) -> &mut u64 {
-    match field {
-        0 => &mut record.stage,
-        1 => &mut record.kind,
-        2 => &mut record.own,
-        3 => &mut record.bucket,
-        4 => &mut record.left,
-        5 => &mut record.right,
-        6 => &mut record.link_seen,
-        7 => &mut record.current_seen,
-        _ => &mut record.ticket,
-    }
-}
-
-/// Any content at all: one field or many far out of range are refused by 3.
+/// One field or many out of range are refused by 3.
 #[test]
 fn any_memory_at_all() {
-    let mut random = Random(2);
+    let mut random = Random::new(2);
     for round in 0..60_000 {
-        let mut lent = any_in_range(&mut random);
-        let words = lent.shape.store_words();
-        let damage = if round % 2 == 0 { 1 } else { words };
+        let mut memory = any_in_range(&mut random);
+        let fields = fields(memory.shape);
+        let damage = if round % 2 == 0 { 1 } else { fields.len() };
         for _ in 0..damage {
-            let value = random.next() | 1 << 63;
-            if random.below(2) == 0 {
-                lent.store[random.below(words as u64) as usize] = value;
-            } else {
-                let worker = random.below(lent.shape.workers.into()) as usize;
-                *record_field(&mut lent.workers[worker], random.below(9)) = value;
-            }
+            let field = random.choose(&fields);
+            let outside: Vec<u64> = memory.range(field).outside().collect();
+            *memory.at(field) = random.choose(&outside);
         }
+        let mut lent = lend(&memory);
         let worker = random.below(4) as usize;
-        assert_eq!(lent.put(worker, random.next() as u32), refused(3));
+        assert_eq!(lent.put(worker, random.draw() as u32), refused(3));
         assert_eq!(lent.take(worker), refused(3));
         assert_eq!(lent.turn(worker), refused(3));
     }

@@ -1,0 +1,105 @@
+/* The worked example, call by call: an arrival is put in and taken out again.
+ * Given a turn file, all of its records instead. Prints one line a record. */
+#include <inttypes.h>
+#include <stdio.h>
+#include <string.h>
+
+#include "wubraken.h"
+
+enum { WORDS = 4355, RECORDS = 64 };
+
+static uint64_t store[WORDS];
+static wubraken_worker table[RECORDS];
+
+static void print(wubraken_answer answer)
+{
+    switch (answer.kind) {
+    case WUBRAKEN_OPEN:
+        puts("open");
+        break;
+    case WUBRAKEN_BEGUN:
+        printf("begun %" PRIu64 "\n", answer.ticket);
+        break;
+    case WUBRAKEN_ON:
+        puts("on");
+        break;
+    case WUBRAKEN_STORED:
+        printf("stored %" PRIu64 "\n", answer.ticket);
+        break;
+    case WUBRAKEN_TOOK:
+        printf("took %" PRIu64 " %" PRIu64 " %" PRIu64 " %" PRIu64 "\n",
+               answer.time, answer.path, answer.order, answer.energy);
+        break;
+    case WUBRAKEN_EMPTY:
+        puts("empty");
+        break;
+    default:
+        printf("no %" PRIu64 "\n", answer.number);
+    }
+}
+
+/* Steps a worker to the end of its call. */
+static void finish(wubraken_shape shape, uint64_t worker)
+{
+    wubraken_answer answer;
+    do {
+        answer = wubraken_step(shape, worker, store, WORDS, table, RECORDS);
+        print(answer);
+    } while (answer.kind == WUBRAKEN_ON);
+}
+
+static void call_by_call(void)
+{
+    const wubraken_shape shape = {1, 4, 2, 10};
+    const wubraken_arrival arrival = {5, 7, 1, 3};
+
+    print(wubraken_open(shape, store, WORDS, table, RECORDS));
+    print(wubraken_enqueue(shape, 0, arrival, store, WORDS, table, RECORDS));
+    finish(shape, 0);
+    print(wubraken_dequeue(shape, 0, store, WORDS, table, RECORDS));
+    finish(shape, 0);
+}
+
+/* Stretch by stretch; what is left of a cut record waits for the rest. */
+static void turn_file(FILE *file)
+{
+    static uint8_t input[4096], out[4096];
+    wubraken_shape shape = {0, 0, 0, 0};
+    size_t have = 0, more = 1;
+
+    for (;;) {
+        wubraken_served served = wubraken_serve(shape, input, have, out, sizeof out,
+                                                store, WORDS, table, RECORDS);
+        fwrite(out, 1, served.written, stdout);
+        shape = served.shape;
+        have -= served.read;
+        memmove(input, input + served.read, have);
+        if (served.stop == WUBRAKEN_FULL)
+            continue;
+        if (served.stop == WUBRAKEN_UNKNOWN_MARK || more == 0) {
+            if (served.stop != WUBRAKEN_DRAINED)
+                printf("no %" PRIu64 "\n", served.stop);
+            return;
+        }
+        more = fread(input + have, 1, sizeof input - have, file);
+        have += more;
+    }
+}
+
+int main(int arguments, char **argument)
+{
+    FILE *file;
+
+    if (arguments < 2) {
+        call_by_call();
+        return 0;
+    }
+    file = fopen(argument[1], "rb");
+    if (file == NULL) {
+        perror(argument[1]);
+        return 1;
+    }
+    turn_file(file);
+    fclose(file);
+    return 0;
+}

@@ -1,0 +1,162 @@
+/* Wubraken: a pool of arrivals over memory that the caller lends.
+ *
+ * The pool keeps nothing of its own: every call gets the shape, a store of
+ * words and a table with one record a worker. A call of a worker begins with
+ * wubraken_enqueue or wubraken_dequeue and goes on by wubraken_step, one shared
+ * word a step, until the step answers STORED, TOOK or EMPTY.
+ *
+ * What the caller owes: pointers are aligned, and not null even for a length of
+ * 0; the buffers of one call lie apart; nobody else uses them during the call.
+ * Nothing more. Any shape, length, content and argument may be handed in; what
+ * cannot be done is refused by a number and changes nothing.
+ *
+ * Link target/staticlib/libwubraken.a (x86-64, System V).
+ */
+#ifndef WUBRAKEN_H
+#define WUBRAKEN_H
+
+#include <stddef.h>
+#include <stdint.h>
+
+#ifdef __cplusplus
+extern "C" {
+#endif
+
+/* What a pool is made for. Lend wubraken_words(shape) words and shape.workers
+ * records, or more: what lies beyond is never changed. */
+typedef struct {
+    uint64_t workers; /* 1 to 64 */
+    uint64_t nodes;   /* 1 to 4,096: arrivals that it can hold */
+    uint64_t buckets; /* 1 to 256 */
+    uint64_t width;   /* 1 to 65,535: samples of time in one bucket */
+} wubraken_shape;
+
+typedef struct {
+    uint32_t time;     /* samples, below buckets * width */
+    uint32_t path;     /* 0 to 65,535 */
+    uint32_t order;    /* reflections, 0 to 63 */
+    uint32_t distance; /* metres, 1 to 1,024 */
+} wubraken_arrival;
+
+/* A worker's record. The caller lends it and need not look inside.
+ *
+ * A node's number is below `nodes`; `nodes` itself stands for the end of a list.
+ * A cell is a word that leads to a node: cell c below `buckets` is the head of
+ * bucket c, cell buckets + n is the link of node n. */
+typedef struct {
+    uint64_t stage;   /* 0 idle; 1 to 3 search; 4 to 7 enqueue; 8 to 13 dequeue */
+    uint64_t kind;    /* 0 enqueue, 1 dequeue */
+    uint64_t own;     /* node being put in, or marked to be taken */
+    uint64_t bucket;  /* bucket at work in */
+    uint64_t left;    /* cell before the place searched for */
+    uint64_t right;   /* node behind that place, or the end */
+    uint64_t seen;    /* link as last read */
+    uint64_t current; /* store word 0 as last read or written */
+    uint64_t ticket;  /* place of the call among all calls begun */
+} wubraken_worker;
+
+/* The words of the store, for a debugger:
+ *
+ *   0                      current bucket << 32 | epoch
+ *   1                      calls begun
+ *   2                      node handed out last
+ *   3 + b                  head of bucket b: a link, never marked
+ *   3 + buckets + 8 n + f  field f of node n:
+ *       0 link      successor << 1 | mark; marked: taken, and to be unlinked
+ *       1 time      2 ticket    3 path      4 order     5 distance
+ *       6 epoch     of word 0 when the node was about to be linked
+ *       7 standing  0 never used, 1 in use, 2 + s unlinked when s calls had begun
+ */
+
+/* Kinds of answers. */
+enum {
+    WUBRAKEN_OPEN = 0,   /* the pool is open and empty */
+    WUBRAKEN_BEGUN = 1,  /* a call has begun: ticket */
+    WUBRAKEN_ON = 2,     /* the call goes on */
+    WUBRAKEN_STORED = 3, /* an enqueue has ended: ticket */
+    WUBRAKEN_TOOK = 4,   /* a dequeue has ended: time, path, order, distance, energy */
+    WUBRAKEN_EMPTY = 5,  /* a dequeue has ended, and found the pool empty */
+    WUBRAKEN_REFUSED = 6 /* nothing was done: number */
+};
+
+/* Why a call is refused. Of several reasons the lowest number is answered. */
+enum {
+    WUBRAKEN_BAD_SHAPE = 1,    /* a field of the shape is outside its limits */
+    WUBRAKEN_TOO_SHORT = 2,    /* the store or the table is too short for the shape */
+    WUBRAKEN_OUT_OF_RANGE = 3, /* a word of the store or a field of the table is out of its range */
+    WUBRAKEN_NO_WORKER = 4,    /* the shape has no such worker */
+    WUBRAKEN_BAD_ARRIVAL = 5,  /* path, order or distance is outside its limits */
+    WUBRAKEN_TOO_LATE = 6,     /* the time is past the last bucket */
+    WUBRAKEN_UNKNOWN_MARK = 7, /* a turn file has two letters that begin no record */
+    WUBRAKEN_CUT_RECORD = 8,   /* a turn file ends inside a record */
+    WUBRAKEN_BUSY = 9,         /* the worker has a call in progress */
+    WUBRAKEN_IDLE = 10,        /* the worker has no call in progress */
+    WUBRAKEN_EXHAUSTED = 11,   /* tickets or epochs are used up: open the pool again */
+    WUBRAKEN_NO_NODE = 12      /* every node is in use or may still be stood on */
+};
+
+/* Fields that an answer does not carry are 0. */
+typedef struct {
+    uint64_t kind;
+    uint64_t number;
+    uint64_t ticket;
+    uint64_t time, path, order, distance;
+    uint64_t energy; /* 2^24 / distance^2, rounded down */
+} wubraken_answer;
+
+/* Words to lend for a shape; 0 if the shape is outside its limits. */
+uint64_t wubraken_words(wubraken_shape shape);
+
+/* Opens a pool, whatever the memory held. Refusals: 1, 2. */
+wubraken_answer wubraken_open(wubraken_shape shape,
+                              uint64_t *store, size_t words,
+                              wubraken_worker *table, size_t records);
+
+/* A worker begins to put an arrival in. Refusals: 1 to 6, 9, 11, 12. */
+wubraken_answer wubraken_enqueue(wubraken_shape shape, uint64_t worker, wubraken_arrival arrival,
+                                 uint64_t *store, size_t words,
+                                 wubraken_worker *table, size_t records);
+
+/* A worker begins to take the earliest arrival out. Refusals: 1 to 4, 9, 11. */
+wubraken_answer wubraken_dequeue(wubraken_shape shape, uint64_t worker,
+                                 uint64_t *store, size_t words,
+                                 wubraken_worker *table, size_t records);
+
+/* A worker's call goes on by one shared word. Refusals: 1 to 4, 10, 11. */
+wubraken_answer wubraken_step(wubraken_shape shape, uint64_t worker,
+                              uint64_t *store, size_t words,
+                              wubraken_worker *table, size_t records);
+
+/* Why wubraken_serve stopped; otherwise by WUBRAKEN_UNKNOWN_MARK or
+ * WUBRAKEN_CUT_RECORD, for which no line is written. A record may be cut only
+ * because the rest of it has not been handed in yet. */
+enum {
+    WUBRAKEN_DRAINED = 0, /* all of the input is worked through */
+    WUBRAKEN_FULL = 1     /* fewer than WUBRAKEN_LINE bytes of room are left */
+};
+
+/* No line is longer. */
+enum { WUBRAKEN_LINE = 89 };
+
+typedef struct {
+    wubraken_shape shape; /* that of the last opening not refused; else as handed in */
+    uint64_t read;        /* bytes of input worked through */
+    uint64_t written;     /* bytes of lines in `out` */
+    uint64_t stop;
+} wubraken_served;
+
+/* Works through the records of a turn file and writes one line a record, as the
+ * single calls would answer them. It looks through the lent memory once, not
+ * once a record. To go on, hand in the shape it answered and the input from
+ * `read` on. */
+wubraken_served wubraken_serve(wubraken_shape shape,
+                               const uint8_t *input, size_t bytes,
+                               uint8_t *out, size_t room,
+                               uint64_t *store, size_t words,
+                               wubraken_worker *table, size_t records);
+
+#ifdef __cplusplus
+}
+#endif
+
+#endif

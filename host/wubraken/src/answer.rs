@@ -1,0 +1,115 @@
+//! What the pool answers.
+
+use crate::raw::{self, kind, stop};
+use crate::Refusal;
+
+/// The arrival that a dequeue took out.
+#[derive(Clone, Copy, Debug, PartialEq, Eq, Hash)]
+pub struct Taken {
+    pub time: u64,
+    pub path: u64,
+    pub order: u64,
+    pub distance: u64,
+    /// 2^24 / distance², rounded down.
+    pub energy: u64,
+}
+
+/// What a step led to.
+#[derive(Clone, Copy, Debug, PartialEq, Eq, Hash)]
+#[must_use]
+pub enum Step {
+    /// The call goes on.
+    On,
+    /// The enqueue with this ticket has ended.
+    Stored(u64),
+    /// The dequeue has ended with an arrival.
+    Took(Taken),
+    /// The dequeue has ended, and found the pool empty.
+    Empty,
+}
+
+/// Why a stretch of a turn file was left.
+#[derive(Clone, Copy, Debug, PartialEq, Eq, Hash)]
+pub enum Stop {
+    /// All of the input is worked through.
+    Drained,
+    /// Fewer than [`LINE`](crate::LINE) bytes of room are left.
+    Full,
+    /// What follows is no record: [`Refusal::UnknownMark`], or
+    /// [`Refusal::CutRecord`], which may only mean that the rest is to come. No
+    /// line is written for it.
+    Halted(Refusal),
+}
+
+/// How far a stretch of a turn file was worked through.
+#[derive(Clone, Copy, Debug, PartialEq, Eq, Hash)]
+#[must_use]
+pub struct Served {
+    /// Bytes of input worked through.
+    pub read: usize,
+    /// Bytes of lines written.
+    pub written: usize,
+    pub stop: Stop,
+}
+
+/// The answer to an opening.
+pub(crate) fn opened(answer: raw::Answer) -> Result<(), Refusal> {
+    match answer.kind {
+        kind::OPEN => Ok(()),
+        _ => Err(refused(answer)),
+    }
+}
+
+/// The answer to a start: the call's ticket.
+pub(crate) fn begun(answer: raw::Answer) -> Result<u64, Refusal> {
+    match answer.kind {
+        kind::BEGUN => Ok(answer.ticket),
+        _ => Err(refused(answer)),
+    }
+}
+
+/// The answer to a step.
+pub(crate) fn stepped(answer: raw::Answer) -> Result<Step, Refusal> {
+    match answer.kind {
+        kind::ON => Ok(Step::On),
+        kind::STORED => Ok(Step::Stored(answer.ticket)),
+        kind::TOOK => Ok(Step::Took(Taken {
+            time: answer.time,
+            path: answer.path,
+            order: answer.order,
+            distance: answer.distance,
+            energy: answer.energy,
+        })),
+        kind::EMPTY => Ok(Step::Empty),
+        _ => Err(refused(answer)),
+    }
+}
+
+pub(crate) fn served(served: raw::Served) -> Served {
+    Served {
+        read: served.read as usize,
+        written: served.written as usize,
+        stop: match served.stop {
+            stop::DRAINED => Stop::Drained,
+            stop::FULL => Stop::Full,
+            number => Stop::Halted(refusal(number)),
+        },
+    }
+}
+
+fn refused(answer: raw::Answer) -> Refusal {
+    match answer.kind {
+        kind::REFUSED => refusal(answer.number),
+        _ => another_library(),
+    }
+}
+
+fn refusal(number: u64) -> Refusal {
+    Refusal::from_number(number).unwrap_or_else(|| another_library())
+}
+
+/// The proved library gives no other answer.
+#[cold]
+fn another_library() -> ! {
+    panic!("the linked libwubraken.a is not the one of this crate")
+}

@@ -1,0 +1,50 @@
+//! Wubraken, a pool of arrivals over memory that the host lends.
+//!
+//! The workers of a ray tracer put arrivals in and take the earliest out. A
+//! worker's call begins with [`Pool::enqueue`] or [`Pool::dequeue`] and goes on by
+//! [`Pool::step`], one shared word a step; the host deals the steps in any order.
+//! Whatever that order, the finished calls answer like a plain priority queue:
+//! the linked library is proved, and this crate only hands it slices.
+//!
+//! ```
+//! use wubraken::{Arrival, Pool, Shape, Step};
+//!
+//! fn main() -> Result<(), wubraken::Refusal> {
+//!     let shape = Shape { workers: 2, nodes: 100, buckets: 16, width: 48 };
+//!     let mut pool = Pool::new(shape)?;
+//!
+//!     let arrival = Arrival { time: 5, path: 7, order: 1, distance: 3 };
+//!     let ticket = pool.enqueue(0, arrival)?;
+//!     while pool.step(0)? != Step::Stored(ticket) {}
+//!
+//!     pool.dequeue(1)?;
+//!     let taken = loop {
+//!         match pool.step(1)? {
+//!             Step::Took(taken) => break taken,
+//!             other => assert_eq!(other, Step::On),
+//!         }
+//!     };
+//!     assert_eq!((taken.time, taken.energy), (5, 1_864_135));
+//!     Ok(())
+//! }
+//! ```
+//!
+//! [`Pool::serve`] works through a whole stretch of a turn file at once.
+//!
+//! The library is linked from the repository's `target/staticlib`, where
+//! `rt staticlib wubraken` writes it, or from the directory `WUBRAKEN_LIB_DIR`.
+
+mod answer;
+mod pool;
+mod refusal;
+mod types;
+
+pub mod raw;
+
+pub use answer::{Served, Step, Stop, Taken};
+pub use pool::Pool;
+pub use refusal::Refusal;
+pub use types::{Arrival, Shape, Worker};
+
+/// No line that [`Pool::serve`] writes is longer.
+pub const LINE: usize = 89;

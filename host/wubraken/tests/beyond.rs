@@ -1,0 +1,148 @@
+//! Words beyond a shape's layout and records beyond its workers are not touched,
+//! not even read: the lengths count them, but they lie behind a fence.
+#![cfg(target_os = "linux")]
+
+mod common;
+
+use common::draw::any_arrival;
+use common::fenced::Fenced;
+use common::seeds::on_seeds;
+use common::translate;
+use schedule::lent::{small_shape, Memory};
+use schedule::Random;
+use second::Record;
+use wubraken::raw::{
+    kind, stop, wubraken_dequeue, wubraken_enqueue, wubraken_open, wubraken_serve, wubraken_step,
+};
+use wubraken::{Shape, Worker};
+
+const SPARE: usize = 5;
+const MEMORIES: usize = 2_000;
+
+/// Pointers and lengths as C hands them in.
+#[derive(Clone, Copy)]
+struct Lent {
+    store: *mut u64,
+    words: usize,
+    table: *mut Worker,
+    records: usize,
+}
+
+/// Runs calls on memory in range that ends where its layout does.
+fn on_each_memory(test: &str, calls: impl Fn(&mut Random, Shape, Lent)) {
+    on_seeds(test, |random| {
+        let (mut store_pages, mut table_pages) = (Fenced::new(), Fenced::new());
+        for _ in 0..MEMORIES {
+            let small = small_shape(random);
+            let memory = Memory::in_range(random, small);
+            let store = store_pages.lend(&memory.store, true);
+            let table = table_pages.lend(&translate::table_back(&memory.workers), true);
+            let lent = Lent {
+                words: store.len() + SPARE,
+                store: store.as_mut_ptr(),
+                records: table.len() + SPARE,
+                table: table.as_mut_ptr(),
+            };
+            calls(random, translate::shape_back(small), lent);
+        }
+    });
+}
+
+impl Lent {
+    fn open(self, shape: Shape) {
+        // SAFETY: what is not there is not touched; that is what is tested.
+        let answer =
+            unsafe { wubraken_open(shape, self.store, self.words, self.table, self.records) };
+        assert_eq!(answer.kind, kind::OPEN);
+    }
+
+    /// The numbers that a worker's calls are refused by.
+    fn refusals(self, random: &mut Random, shape: Shape, worker: u64) -> [u64; 3] {
+        let (store, words, table, records) = (self.store, self.words, self.table, self.records);
+        let arrival = any_arrival(random, shape);
+        // SAFETY: as above.
+        unsafe {
+            [
+                wubraken_step(shape, worker, store, words, table, records),
+                wubraken_enqueue(shape, worker, arrival, store, words, table, records),
+                wubraken_dequeue(shape, worker, store, words, table, records),
+            ]
+            .map(|answer| answer.number)
+        }
+    }
+
+    /// The lines of a turn file.
+    fn serve(self, shape: Shape, file: &[u8]) -> String {
+        let mut out = [0; 4_096];
+        // SAFETY: as above.
+        let served = unsafe {
+            wubraken_serve(
+                shape,
+                file.as_ptr(),
+                file.len(),
+                out.as_mut_ptr(),
+                out.len(),
+                self.store,
+                self.words,
+                self.table,
+                self.records,
+            )
+        };
+        assert_eq!(served.stop, stop::DRAINED);
+        String::from_utf8(out[..served.written as usize].to_vec()).unwrap()
+    }
+}
+
+/// A start of each kind and some turns of a worker.
+fn records_of(random: &mut Random, shape: Shape, worker: u8) -> Vec<u8> {
+    let arrival = translate::arrival(any_arrival(random, shape));
+    let mut file = Vec::new();
+    Record::Step { worker }.encode(&mut file);
+    Record::EnqueueStart { worker, arrival }.encode(&mut file);
+    Record::DequeueStart { worker }.encode(&mut file);
+    Record::Step { worker }.encode(&mut file);
+    file
+}
+
+#[test]
+fn single_calls() {
+    on_each_memory("beyond, single calls", |random, shape, lent| {
+        for _ in 0..4 {
+            for worker in 0..shape.workers {
+                assert!(!lent.refusals(random, shape, worker).contains(&4));
+            }
+        }
+        lent.open(shape);
+        let no_record = lent.records as u64;
+        assert_eq!(lent.refusals(random, shape, no_record), [4; 3]);
+    });
+}
+
+#[test]
+fn stretches() {
+    on_each_memory("beyond, stretches", |random, shape, lent| {
+        let mut file = Vec::new();
+        for _ in 0..4 {
+            for worker in 0..shape.workers as u8 {
+                file.extend(records_of(random, shape, worker));
+            }
+        }
+        assert!(!lent.serve(shape, &file).contains("no 4"));
+        Record::Open(translate::shape(shape)).encode(&mut file);
+        assert!(lent.serve(shape, &file).ends_with("open\n"));
+    });
+}
+
+/// A worker past the shape's, whose record is lent all the same.
+#[test]
+#[ignore = "the library copies that record out and back"]
+fn records_of_no_worker() {
+    on_each_memory("beyond, no worker", |random, shape, lent| {
+        lent.open(shape);
+        for worker in shape.workers..lent.records as u64 {
+            assert_eq!(lent.refusals(random, shape, worker), [4; 3]);
+            let file = records_of(random, shape, worker as u8);
+            assert_eq!(lent.serve(shape, &file), "no 4\n".repeat(4));
+        }
+    });
+}

@@ -1,0 +1,118 @@
+//! Sizes and offsets of what crosses the boundary, and the header that says them.
+
+use std::mem::{align_of, size_of};
+
+use wubraken::raw::{kind, stop, Answer, Served};
+use wubraken::{Arrival, Refusal, Shape, Worker, LINE};
+
+const HEADER: &str = include_str!("../../include/wubraken.h");
+
+/// Fields of a struct of the header, by name and type, in their order.
+fn declared(name: &str) -> Vec<(String, String)> {
+    let (before, _) = HEADER.split_once(&format!("}} {name};")).unwrap();
+    let (_, body) = before.rsplit_once("typedef struct {").unwrap();
+    let mut fields = Vec::new();
+    for statement in without_comments(body).split(';') {
+        if let Some((kind, names)) = statement.trim().split_once(' ') {
+            let names = names.split(',').map(|name| name.trim().to_string());
+            fields.extend(names.map(|name| (name, kind.to_string())));
+        }
+    }
+    fields
+}
+
+fn without_comments(text: &str) -> String {
+    let mut parts = text.split("/*");
+    let first = parts.next().unwrap_or_default().to_string();
+    let rest = parts.map(|part| part.split_once("*/").unwrap().1);
+    rest.fold(first, |all, part| all + part)
+}
+
+/// An enumerator of the header.
+fn enumerator(name: &str) -> u64 {
+    let text = without_comments(HEADER);
+    let (_, rest) = text.split_once(&format!("WUBRAKEN_{name} = ")).unwrap();
+    let digits: String = rest.chars().take_while(char::is_ascii_digit).collect();
+    digits.parse().unwrap()
+}
+
+/// The place of each field in a value, and what the header calls it.
+macro_rules! check {
+    ($type:ident $header:literal $size:literal $value:expr, $($field:ident: $kind:literal at $offset:literal),+) => {{
+        let value: $type = $value;
+        let start = &value as *const $type as usize;
+        assert_eq!(size_of::<$type>(), $size);
+        $(assert_eq!(&value.$field as *const _ as usize - start, $offset);)+
+        let fields = [$((stringify!($field).to_string(), $kind.to_string())),+];
+        assert_eq!(declared($header), fields);
+    }};
+}
+
+#[test]
+fn structs() {
+    check!(Shape "wubraken_shape" 32 Shape::default(),
+        workers: "uint64_t" at 0, nodes: "uint64_t" at 8,
+        buckets: "uint64_t" at 16, width: "uint64_t" at 24);
+    check!(Arrival "wubraken_arrival" 16 Arrival::default(),
+        time: "uint32_t" at 0, path: "uint32_t" at 4,
+        order: "uint32_t" at 8, distance: "uint32_t" at 12);
+    check!(Worker "wubraken_worker" 72 Worker::default(),
+        stage: "uint64_t" at 0, kind: "uint64_t" at 8, own: "uint64_t" at 16,
+        bucket: "uint64_t" at 24, left: "uint64_t" at 32, right: "uint64_t" at 40,
+        seen: "uint64_t" at 48, current: "uint64_t" at 56, ticket: "uint64_t" at 64);
+    check!(Answer "wubraken_answer" 64 Answer::default(),
+        kind: "uint64_t" at 0, number: "uint64_t" at 8, ticket: "uint64_t" at 16,
+        time: "uint64_t" at 24, path: "uint64_t" at 32, order: "uint64_t" at 40,
+        distance: "uint64_t" at 48, energy: "uint64_t" at 56);
+    let served = Served {
+        shape: Shape::default(),
+        read: 0,
+        written: 0,
+        stop: 0,
+    };
+    check!(Served "wubraken_served" 56 served,
+        shape: "wubraken_shape" at 0, read: "uint64_t" at 32,
+        written: "uint64_t" at 40, stop: "uint64_t" at 48);
+    assert_eq!(
+        [
+            align_of::<Shape>(),
+            align_of::<Worker>(),
+            align_of::<Answer>()
+        ],
+        [8; 3]
+    );
+    assert_eq!((align_of::<Arrival>(), align_of::<Served>()), (4, 8));
+}
+
+/// `BadShape` is `BAD_SHAPE` in C.
+fn in_c(name: &str) -> String {
+    let mut c = String::new();
+    for letter in name.chars() {
+        if letter.is_uppercase() && !c.is_empty() {
+            c.push('_');
+        }
+        c.push(letter.to_ascii_uppercase());
+    }
+    c
+}
+
+#[test]
+fn numbers() {
+    for refusal in Refusal::ALL {
+        assert_eq!(enumerator(&in_c(&format!("{refusal:?}"))), refusal.number());
+    }
+    for (name, number) in [
+        ("OPEN", kind::OPEN),
+        ("BEGUN", kind::BEGUN),
+        ("ON", kind::ON),
+        ("STORED", kind::STORED),
+        ("TOOK", kind::TOOK),
+        ("EMPTY", kind::EMPTY),
+        ("REFUSED", kind::REFUSED),
+        ("DRAINED", stop::DRAINED),
+        ("FULL", stop::FULL),
+        ("LINE", LINE as u64),
+    ] {
+        assert_eq!(enumerator(name), number, "{name}");
+    }
+}
