@@ -1,0 +1,79 @@
+//! The words of the command line.
+
+use std::path::PathBuf;
+
+pub const HELP: &str = "\
+usage: bench [options]                     (from the top of the repository)
+
+Times the proved pool against its peers. Every ratio is within one run: the
+contestants take turns, and the best of several rounds counts.
+
+options:
+  --quick          everything small, only to see that it runs
+  --records N      records of a schedule       (default 10,000,000)
+  --rounds N       rounds of each contest      (default 7)
+  --svg PATH       where the picture goes      (default target/bench/growth.svg)
+  --turns PATH     the program under test      (default target/bin/turns)
+  --second PATH    the second program          (default host/target/release/second)
+  --tbb PATH       host/bench/tbb_hold.cpp compiled    (default target/bench/tbb_hold)
+  --help           prints this text
+";
+
+#[derive(Clone, Debug)]
+pub struct Arguments {
+    pub rounds: usize,
+    /// Records of a schedule.
+    pub records: u64,
+    /// Holds of a contest in the hold model.
+    pub holds: usize,
+    /// Records of a stretch that is nearly all turns.
+    pub turns_records: usize,
+    pub svg: PathBuf,
+    pub turns: PathBuf,
+    pub second: PathBuf,
+    pub tbb: PathBuf,
+}
+
+impl Arguments {
+    fn full() -> Self {
+        Self {
+            rounds: 7,
+            records: 10_000_000,
+            holds: 50_000,
+            turns_records: 4_000_000,
+            svg: "target/bench/growth.svg".into(),
+            turns: "target/bin/turns".into(),
+            second: "host/target/release/second".into(),
+            tbb: "target/bench/tbb_hold".into(),
+        }
+    }
+
+    fn quicken(&mut self) {
+        self.rounds = 3;
+        self.records = 1_000_000;
+        self.holds = 10_000;
+        self.turns_records = 500_000;
+    }
+
+    /// None for words that make no sense.
+    pub fn parse(words: &[String]) -> Option<Self> {
+        let mut arguments = Self::full();
+        if words.iter().any(|word| word == "--quick") {
+            arguments.quicken();
+        }
+        let mut words = words.iter().filter(|word| *word != "--quick");
+        while let Some(name) = words.next() {
+            let value = words.next()?;
+            match name.as_str() {
+                "--records" => arguments.records = value.parse().ok().filter(|&n| n > 0)?,
+                "--rounds" => arguments.rounds = value.parse().ok().filter(|&n| n > 0)?,
+                "--svg" => arguments.svg = value.into(),
+                "--turns" => arguments.turns = value.into(),
+                "--second" => arguments.second = value.into(),
+                "--tbb" => arguments.tbb = value.into(),
+                _ => return None,
+            }
+        }
+        Some(arguments)
+    }
+}

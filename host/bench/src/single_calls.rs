@@ -1,0 +1,179 @@
+//! Single calls: each looks at all lent memory, so one pass over it is the
+//! measure.
+
+use std::time::Duration;
+
+use wubraken::{Arrival, Pool, Shape, Step, Worker};
+
+use crate::arguments::Arguments;
+use crate::report::{heading, row, Target};
+use crate::timing::{best, keep, nanoseconds_each, time};
+
+pub fn run(arguments: &Arguments) {
+    heading(
+        "Single calls: nanoseconds a call, and for one pass over the lent words",
+        "(calls: put an arrival and take it again, start by start and turn by turn; every call looks\n \
+         at every field of store and table, as refusal 3 asks. A pass adds up all words and finds the\n \
+         greatest, or only adds up. ratio: how many passes a call takes)",
+    );
+    for (name, shape) in [("smallest", SMALLEST), ("largest", LARGEST)] {
+        let mut calls = Calls::new(shape);
+        let [mut first, mut second] = [Lent::of(&calls.pool), Lent::of(&calls.pool)];
+        let cycles = calls.cycles_in_a_millisecond();
+        let passes = cycles * calls.in_a_cycle;
+        let [call, greatest, sum] = best(
+            arguments.rounds,
+            [
+                &mut || calls.time(cycles),
+                &mut || first.time(passes, sum_and_greatest),
+                &mut || second.time(passes, sum),
+            ],
+        )
+        .map(|time| nanoseconds_each(time, passes));
+        for (pass, time, target) in [
+            ("sum and greatest", greatest, Target::AtMost(1.5)),
+            ("sum", sum, Target::AtMost(1.5)),
+        ] {
+            let name = format!("{name}, pass: {pass}");
+            row(&name, [call, time], "ns", call / time, target);
+        }
+    }
+}
+
+const SMALLEST: Shape = Shape {
+    workers: 1,
+    nodes: 1,
+    buckets: 1,
+    width: 1,
+};
+
+const LARGEST: Shape = Shape {
+    workers: 64,
+    nodes: 4_096,
+    buckets: 256,
+    width: 65_535,
+};
+
+/// Nanoseconds of one single call on a fresh pool.
+pub fn nanoseconds(shape: Shape, rounds: usize) -> f64 {
+    let mut calls = Calls::new(shape);
+    let cycles = calls.cycles_in_a_millisecond();
+    let [time] = best(rounds, [&mut || calls.time(cycles)]);
+    nanoseconds_each(time, cycles * calls.in_a_cycle)
+}
+
+/// A pool in which one arrival is put and taken, again and again.
+struct Calls {
+    pool: Pool,
+    /// Starts and turns of a put and a take.
+    in_a_cycle: usize,
+}
+
+impl Calls {
+    fn new(shape: Shape) -> Self {
+        let pool = Pool::new(shape).expect("the shape is within its limits");
+        let mut calls = Self {
+            pool,
+            in_a_cycle: 0,
+        };
+        calls.in_a_cycle = calls.cycle();
+        calls
+    }
+
+    /// Answers the number of calls.
+    fn cycle(&mut self) -> usize {
+        let arrival = Arrival {
+            time: 0,
+            path: 7,
+            order: 1,
+            distance: 3,
+        };
+        self.pool.enqueue(0, arrival).expect("a node is free");
+        let put = self.end();
+        self.pool.dequeue(0).expect("the worker is idle");
+        put + self.end() + 2
+    }
+
+    /// Turns until the call has ended.
+    fn end(&mut self) -> usize {
+        let mut turns = 1;
+        while let Step::On = self.pool.step(0).expect("a call is in progress") {
+            turns += 1;
+        }
+        turns
+    }
+
+    fn time(&mut self, cycles: usize) -> Duration {
+        time(|| {
+            for _ in 0..cycles {
+                keep(self.cycle() as u64);
+            }
+        })
+    }
+
+    fn cycles_in_a_millisecond(&mut self) -> usize {
+        let one = self.time(1).min(self.time(1));
+        (1_000_000 / one.as_nanos().max(1)).clamp(1, 10_000) as usize
+    }
+}
+
+/// A copy of the memory that a pool was lent.
+struct Lent {
+    store: Vec<u64>,
+    table: Vec<Worker>,
+}
+
+impl Lent {
+    fn of(pool: &Pool) -> Self {
+        Self {
+            store: pool.store().to_vec(),
+            table: pool.table().to_vec(),
+        }
+    }
+
+    fn time(&mut self, passes: usize, pass: fn(&[u64], &[Worker]) -> u64) -> Duration {
+        time(|| {
+            for place in 0..passes {
+                // So that no pass is like the one before.
+                let place = place % self.store.len();
+                self.store[place] ^= 1;
+                keep(pass(&self.store, &self.table));
+            }
+        })
+    }
+}
+
+#[inline(never)]
+fn sum_and_greatest(store: &[u64], table: &[Worker]) -> u64 {
+    let seen =
+        |(sum, greatest): (u64, u64), word: u64| (sum.wrapping_add(word), greatest.max(word));
+    let over_store = store.iter().fold((0, 0), |found, &word| seen(found, word));
+    let over_table = table.iter().fold(over_store, |found, record| {
+        fields(record).into_iter().fold(found, seen)
+    });
+    over_table.0 ^ over_table.1
+}
+
+#[inline(never)]
+fn sum(store: &[u64], table: &[Worker]) -> u64 {
+    let over_store = store
+        .iter()
+        .fold(0, |sum: u64, &word| sum.wrapping_add(word));
+    table.iter().fold(over_store, |sum, record| {
+        fields(record).into_iter().fold(sum, u64::wrapping_add)
+    })
+}
+
+fn fields(record: &Worker) -> [u64; 9] {
+    [
+        record.stage,
+        record.kind,
+        record.own,
+        record.bucket,
+        record.left,
+        record.right,
+        record.seen,
+        record.current,
+        record.ticket,
+    ]
+}
