@@ -1,6 +1,6 @@
 // The hold model of hold_model.rs on oneTBB's concurrent_priority_queue.
 //   tbb_hold PENDING HOLDS SPREAD LIMIT RUNS THREADS
-// prints the nanoseconds of all holds, and the fold of the times that the first
+// prints the nanoseconds of each run's holds, and the fold of the times that the first
 // thread took. The random numbers are those of host/schedule, run 0 from seed 0.
 #include <atomic>
 #include <chrono>
@@ -65,7 +65,6 @@ int main(int count, char **words) {
     uint64_t runs = number(5);
     size_t threads = number(6);
 
-    std::chrono::nanoseconds total{0};
     std::vector<uint64_t> folds(threads);
     for (uint64_t run = 0; run < runs; run++) {
         Random random{run};
@@ -102,7 +101,8 @@ int main(int count, char **words) {
         for (std::thread &other : others) {
             other.join();
         }
-        total += std::chrono::steady_clock::now() - start;
+        std::chrono::nanoseconds elapsed = std::chrono::steady_clock::now() - start;
+        std::printf("%lld\n", (long long)elapsed.count());
     }
-    std::printf("%lld %llu\n", (long long)total.count(), (unsigned long long)folds[0]);
+    std::printf("%llu\n", (unsigned long long)folds[0]);
 }

@@ -26,8 +26,8 @@ pub struct Arguments {
     pub records: u64,
     /// Holds of a contest in the hold model.
     pub holds: usize,
-    /// Records of a stretch that is nearly all turns.
-    pub turns_records: usize,
+    /// Stretches that are nearly all turns.
+    pub pieces_of_turns: usize,
     pub svg: PathBuf,
     pub turns: PathBuf,
     pub second: PathBuf,
@@ -40,7 +40,7 @@ impl Arguments {
             rounds: 7,
             records: 10_000_000,
             holds: 50_000,
-            turns_records: 4_000_000,
+            pieces_of_turns: 20,
             svg: "target/bench/growth.svg".into(),
             turns: "target/bin/turns".into(),
             second: "host/target/release/second".into(),
@@ -52,7 +52,7 @@ impl Arguments {
         self.rounds = 3;
         self.records = 1_000_000;
         self.holds = 10_000;
-        self.turns_records = 500_000;
+        self.pieces_of_turns = 5;
     }
 
     /// None for words that make no sense.

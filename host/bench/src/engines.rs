@@ -67,7 +67,7 @@ impl Engine for Batch {
 
 impl Engine for Program {
     fn serve(&mut self, input: &[u8], lines: &mut dyn FnMut(&[u8])) {
-        Program::serve(self, input, &mut Blocks(lines)).expect("blocks are always taken");
+        Program::serve(self, input, Blocks(lines)).expect("blocks are always taken");
     }
 }
 

@@ -43,9 +43,9 @@ impl Ord for Pending {
     }
 }
 
-/// How long the holds of some runs take, and the fold of the times taken.
-pub fn hold(model: &Model, runs: &[Draws]) -> (Duration, u64) {
-    let mut total = Duration::ZERO;
+/// How long the holds of each run take, and the fold of the times taken.
+pub fn hold(model: &Model, runs: &[Draws]) -> (Vec<Duration>, u64) {
+    let mut elapsed = Vec::new();
     let mut sum = 0;
     for run in runs {
         let mut ticket = 0;
@@ -70,12 +70,12 @@ pub fn hold(model: &Model, runs: &[Draws]) -> (Duration, u64) {
                 heap.push(Reverse(taken));
             }
         }
-        total += start.elapsed();
+        elapsed.push(start.elapsed());
         let left = heap
             .iter()
             .map(|Reverse(it)| it.path + it.order + it.distance);
         keep(left.map(u64::from).sum());
     }
     keep(sum);
-    (total, sum)
+    (elapsed, sum)
 }

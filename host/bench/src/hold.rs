@@ -1,7 +1,7 @@
 //! The contest in the hold model.
 
 use std::thread;
-use std::time::{Duration, Instant};
+use std::time::Duration;
 
 use second::{Program, Shape};
 
@@ -11,7 +11,7 @@ use crate::heap;
 use crate::hold_model::{fold, Draws, Model, Session};
 use crate::report::heading;
 use crate::tbb;
-use crate::timing::{best, nanoseconds_each};
+use crate::timing::{best, nanoseconds_each, time};
 
 const PENDING: [usize; 3] = [64, 512, 4_000];
 const WORKERS: [u32; 2] = [1, 4];
@@ -74,7 +74,7 @@ fn contest(arguments: &Arguments, model: &Model) {
             &mut || time_holding(&mut batch, &sessions),
             &mut || time_holding(&mut library, &sessions),
             &mut || heap::hold(model, &draws).0,
-            &mut || tbb().map_or(Duration::MAX, |held| held.0),
+            &mut || tbb().map_or(Vec::new(), |held| held.0),
         ],
     );
 
@@ -89,7 +89,7 @@ fn contest(arguments: &Arguments, model: &Model) {
     );
     for other in [second, heap, tbb] {
         match other {
-            Duration::MAX => print!("{:>10}{:>7}", "-", "-"),
+            Duration::ZERO => print!("{:>10}{:>7}", "-", "-"),
             time => {
                 let time = nanoseconds_each(time, holds);
                 print!("{time:>10.1}{:>7.2}", time / pool);
@@ -125,14 +125,12 @@ fn check_times(sessions: &[Session], others: u64) {
     assert_eq!(ours, others, "another order of times");
 }
 
-/// How long the holds of all sessions take, without the filling.
-pub fn time_holding(engine: &mut impl Engine, sessions: &[Session]) -> Duration {
-    let mut total = Duration::ZERO;
+/// How long the holds of each session take, without the filling.
+pub fn time_holding(engine: &mut impl Engine, sessions: &[Session]) -> Vec<Duration> {
+    let mut times = Vec::new();
     for session in sessions {
         engine.run(&session.filling.bytes);
-        let start = Instant::now();
-        engine.run(&session.holding.bytes);
-        total += start.elapsed();
+        times.push(time(|| engine.run(&session.holding.bytes)));
     }
-    total
+    times
 }

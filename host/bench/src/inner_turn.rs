@@ -17,10 +17,12 @@ pub fn run(arguments: &Arguments) {
         ("walking along a list (stage 2)", walking()),
         ("past empty buckets (stages 9, 12)", passing()),
     ] {
-        let stretch = stretch.repeated(arguments.turns_records);
-        contest(arguments, name, &stretch);
+        contest(arguments, name, &stretch.repeated(PIECE));
     }
 }
+
+/// Records timed at a time.
+const PIECE: usize = 100_000;
 
 /// Equal times in one bucket: each put walks past all before it.
 fn walking() -> Stretch {
@@ -53,13 +55,15 @@ fn contest(arguments: &Arguments, name: &str, stretch: &Stretch) {
     let mut library = Program::new();
     let input = &stretch.bytes;
     assert_same_lines(name, &batch.lines(input), &library.lines(input));
+    let pieces = arguments.pieces_of_turns;
     let [ours, others] = best(
         arguments.rounds,
-        [&mut || time(|| batch.run(input)), &mut || {
-            time(|| library.run(input))
-        }],
+        [
+            &mut || (0..pieces).map(|_| time(|| batch.run(input))).collect(),
+            &mut || (0..pieces).map(|_| time(|| library.run(input))).collect(),
+        ],
     );
-    let each = [ours, others].map(|time| nanoseconds_each(time, stretch.records));
+    let each = [ours, others].map(|time| nanoseconds_each(time, pieces * stretch.records));
     row(name, each, "ns", each[1] / each[0], Target::AtLeast(1.0));
     let share = 100.0 * stretch.turns as f64 / stretch.records as f64;
     println!("    {share:.1} per cent of its records are turns");

@@ -4,9 +4,8 @@ use std::fs::{self, File};
 use std::io;
 use std::path::{Path, PathBuf};
 use std::process::{Command, Stdio};
+use std::thread;
 use std::time::Duration;
-
-use crate::timing::time;
 
 /// Why something is not measured.
 pub struct Unmeasured(pub String);
@@ -60,15 +59,27 @@ impl<'a> Pair<'a> {
         Ok(command)
     }
 
-    /// From its start to its end, with nobody to read its lines.
+    /// Its time on the processor, with nobody to read its lines.
     fn time(&self, program: &Path) -> Duration {
         let mut command = self.command(program).expect("the input is there");
-        command.stdout(Stdio::null());
-        time(|| {
-            let status = command.status().expect("the program can be run");
-            assert!(status.success(), "{} fails", program.display());
-        })
+        let child = command.stdout(Stdio::null()).spawn();
+        let mut child = child.expect("the program can be run");
+        let time = processor_time(child.id()).expect("Linux keeps account in /proc");
+        let status = child.wait().expect("the program has ended");
+        assert!(status.success(), "{} fails", program.display());
+        time
     }
+}
+
+/// Waits for a process to end; its account stays until its parent asks for it.
+fn processor_time(process: u32) -> Option<Duration> {
+    let read = |name| fs::read_to_string(format!("/proc/{process}/{name}")).ok();
+    while !read("stat")?.rsplit(") ").next()?.starts_with('Z') {
+        thread::sleep(Duration::from_millis(1));
+    }
+    let account = read("schedstat")?;
+    let nanoseconds = account.split_whitespace().next()?.parse().ok()?;
+    Some(Duration::from_nanos(nanoseconds))
 }
 
 impl Drop for Pair<'_> {

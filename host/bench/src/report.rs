@@ -24,7 +24,9 @@ pub enum Target {
 }
 
 impl Target {
+    /// As it is printed, with two decimals.
     fn is_met(self, ratio: f64) -> bool {
+        let ratio = (100.0 * ratio).round() / 100.0;
         match self {
             Self::AtLeast(bound) => ratio >= bound,
             Self::AtMost(bound) => ratio <= bound,

@@ -3,7 +3,7 @@
 use std::io;
 use std::time::Duration;
 
-use schedule::Options;
+use schedule::{Generator, Options};
 use second::{Program, Shape, LENT_RECORDS, LENT_WORDS};
 
 use crate::arguments::Arguments;
@@ -16,14 +16,13 @@ pub fn run(arguments: &Arguments) -> io::Result<()> {
     heading(
         "Schedules: millions of records a second, ours and the second program's, same input",
         "(the batch entry against the second program's library, both in memory;\n \
-         the program turns against the second program, from a file to nowhere)",
+         the program turns against the second program, time on the processor)",
     );
     for (name, options) in schedules() {
-        let mut input = Vec::new();
-        schedule::write(1, arguments.records, options, &mut input)?;
+        let pieces = pieces(arguments.records, options);
         println!(" {name}, {} records", arguments.records);
-        in_memory(arguments, name, &input);
-        as_programs(arguments, name, &input)?;
+        in_memory(arguments, name, &pieces);
+        as_programs(arguments, name, &pieces.concat())?;
     }
     Ok(())
 }
@@ -46,24 +45,42 @@ fn schedules() -> [(&'static str, Options); 3] {
     ]
 }
 
+/// The turn file of a schedule, cut between records.
+fn pieces(records: u64, options: Options) -> Vec<Vec<u8>> {
+    const PIECE: u64 = 100_000;
+    let mut generator = Generator::new(1, options);
+    let mut pieces = Vec::new();
+    let mut left = records;
+    while left > 0 {
+        let mut piece = Vec::new();
+        for _ in 0..left.min(PIECE) {
+            generator.next_record().0.encode(&mut piece);
+        }
+        pieces.push(piece);
+        left = left.saturating_sub(PIECE);
+    }
+    pieces
+}
+
 /// Every round begins with no pool open, as a program does.
-fn in_memory(arguments: &Arguments, name: &str, input: &[u8]) {
+fn in_memory(arguments: &Arguments, name: &str, pieces: &[Vec<u8>]) {
     let ours = || Batch::lending(LENT_WORDS, LENT_RECORDS);
-    assert_same_lines(name, &ours().lines(input), &Program::new().lines(input));
+    let (mut batch, mut library) = (ours(), Program::new());
+    for piece in pieces {
+        assert_same_lines(name, &batch.lines(piece), &library.lines(piece));
+    }
     let [batch, library] = best(
         arguments.rounds,
-        [
-            &mut || {
-                let mut engine = ours();
-                time(|| engine.run(input))
-            },
-            &mut || {
-                let mut engine = Program::new();
-                time(|| engine.run(input))
-            },
-        ],
+        [&mut || time_pieces(&mut ours(), pieces), &mut || {
+            time_pieces(&mut Program::new(), pieces)
+        }],
     );
     show("batch entry", arguments.records, batch, library);
+}
+
+fn time_pieces(engine: &mut impl Engine, pieces: &[Vec<u8>]) -> Vec<Duration> {
+    let times = pieces.iter().map(|piece| time(|| engine.run(piece)));
+    times.collect()
 }
 
 fn as_programs(arguments: &Arguments, name: &str, input: &[u8]) -> io::Result<()> {
@@ -78,7 +95,9 @@ fn as_programs(arguments: &Arguments, name: &str, input: &[u8]) -> io::Result<()
     assert_same_lines(name, &turns, &second);
     let [turns, second] = best(
         arguments.rounds,
-        [&mut || pair.time_first(), &mut || pair.time_second()],
+        [&mut || vec![pair.time_first()], &mut || {
+            vec![pair.time_second()]
+        }],
     );
     show("program turns", arguments.records, turns, second);
     Ok(())

@@ -22,11 +22,11 @@ pub fn run(arguments: &Arguments) {
         let cycles = calls.cycles_in_a_millisecond();
         let passes = cycles * calls.in_a_cycle;
         let [call, greatest, sum] = best(
-            arguments.rounds,
+            SHORT * arguments.rounds,
             [
-                &mut || calls.time(cycles),
-                &mut || first.time(passes, sum_and_greatest),
-                &mut || second.time(passes, sum),
+                &mut || vec![calls.time(cycles)],
+                &mut || vec![first.time(passes, sum_and_greatest)],
+                &mut || vec![second.time(passes, sum)],
             ],
         )
         .map(|time| nanoseconds_each(time, passes));
@@ -39,6 +39,9 @@ pub fn run(arguments: &Arguments) {
         }
     }
 }
+
+/// A round takes about a millisecond, so there can be so many times more.
+const SHORT: usize = 10;
 
 const SMALLEST: Shape = Shape {
     workers: 1,
@@ -58,7 +61,7 @@ const LARGEST: Shape = Shape {
 pub fn nanoseconds(shape: Shape, rounds: usize) -> f64 {
     let mut calls = Calls::new(shape);
     let cycles = calls.cycles_in_a_millisecond();
-    let [time] = best(rounds, [&mut || calls.time(cycles)]);
+    let [time] = best(SHORT * rounds, [&mut || vec![calls.time(cycles)]]);
     nanoseconds_each(time, cycles * calls.in_a_cycle)
 }
 

@@ -6,9 +6,14 @@ use std::time::Duration;
 
 use crate::hold_model::Model;
 
-/// How long the holds of some runs take, and the fold of the times that the
-/// first thread took.
-pub fn hold(program: &Path, model: &Model, runs: usize, threads: usize) -> Option<(Duration, u64)> {
+/// How long the holds of each run take, and the fold of the times that the first
+/// thread took.
+pub fn hold(
+    program: &Path,
+    model: &Model,
+    runs: usize,
+    threads: usize,
+) -> Option<(Vec<Duration>, u64)> {
     let numbers = [
         model.pending as u64,
         model.holds as u64,
@@ -20,11 +25,11 @@ pub fn hold(program: &Path, model: &Model, runs: usize, threads: usize) -> Optio
     let words = numbers.iter().map(u64::to_string);
     let output = Command::new(program).args(words).output().ok()?;
     let text = String::from_utf8(output.stdout).ok()?;
-    let mut words = text.split_whitespace().map(str::parse);
-    match (words.next(), words.next(), output.status.success()) {
-        (Some(Ok(nanoseconds)), Some(Ok(fold)), true) => {
-            Some((Duration::from_nanos(nanoseconds), fold))
-        }
-        _ => None,
-    }
+    let numbers: Vec<u64> = text
+        .split_whitespace()
+        .map(|word| word.parse().ok())
+        .collect::<Option<_>>()?;
+    let (&fold, times) = numbers.split_last()?;
+    let times = times.iter().map(|&time| Duration::from_nanos(time));
+    Some((times.collect(), fold))
 }

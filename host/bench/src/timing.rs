@@ -3,19 +3,24 @@
 use std::sync::atomic::{AtomicU64, Ordering};
 use std::time::{Duration, Instant};
 
-/// Something to time. It answers how long it took: not all that it does counts.
-pub type Contestant<'a> = &'a mut dyn FnMut() -> Duration;
+/// Something to time, in pieces that are the same in each round. It answers how
+/// long they took: not all that it does counts.
+pub type Contestant<'a> = &'a mut dyn FnMut() -> Vec<Duration>;
 
-/// The best time of each contestant. They take turns, so that what else the
-/// machine does falls on all of them.
+/// The best time of each contestant: of every piece its best round. They take
+/// turns, and pieces are short, so that what else the machine does matters little.
 pub fn best<const N: usize>(rounds: usize, mut contestants: [Contestant<'_>; N]) -> [Duration; N] {
-    let mut best = [Duration::MAX; N];
+    let mut best = [(); N].map(|()| Vec::new());
     for _ in 0..rounds {
         for (best, contestant) in best.iter_mut().zip(&mut contestants) {
-            *best = contestant().min(*best);
+            let times = contestant();
+            best.resize(times.len(), Duration::MAX);
+            for (best, time) in best.iter_mut().zip(times) {
+                *best = time.min(*best);
+            }
         }
     }
-    best
+    best.map(|times| times.into_iter().sum())
 }
 
 /// How long an action takes.

@@ -21,7 +21,7 @@ pub fn run_standard() -> io::Result<()> {
 
 /// Answers every record of an input. Fails only if the output does.
 pub fn run(input: impl Read, output: impl Write) -> io::Result<()> {
-    Program::new().answer_all(input, output)
+    Program::new().serve(input, output)
 }
 
 /// The lent memory of the program and the shape it is open with.
@@ -45,6 +45,7 @@ impl Program {
     }
 
     /// One that lends other memory.
+    #[inline]
     pub fn lending(words: usize, records: usize) -> Self {
         Self {
             shape: Shape::default(),
@@ -70,13 +71,8 @@ impl Program {
         self.shape != Shape::default()
     }
 
-    /// Answers every record of an input in memory; compiled here, as
-    /// [`run_standard`] is.
-    pub fn serve(&mut self, input: &[u8], output: &mut dyn Write) -> io::Result<()> {
-        self.answer_all(input, output)
-    }
-
-    fn answer_all(&mut self, input: impl Read, output: impl Write) -> io::Result<()> {
+    /// Answers every record of an input, in the pool as it is.
+    pub fn serve(&mut self, input: impl Read, output: impl Write) -> io::Result<()> {
         let mut lines = Lines::new(output);
         for record in Records::new(input) {
             let answer = record.and_then(|record| self.apply(record));
