@@ -10,6 +10,7 @@ contestants take turns, and the best of several rounds counts.
 
 options:
   --quick          everything small, only to see that it runs
+  --only PART      one part: schedules, turn, hold, calls or growth
   --records N      records of a schedule       (default 10,000,000)
   --rounds N       rounds of each contest      (default 7)
   --svg PATH       where the picture goes      (default target/bench/growth.svg)
@@ -19,8 +20,27 @@ options:
   --help           prints this text
 ";
 
+/// The parts of the report, in their order.
+#[derive(Clone, Copy, Debug, PartialEq, Eq)]
+pub enum Part {
+    Schedules,
+    InnerTurn,
+    Hold,
+    SingleCalls,
+    Growth,
+}
+
+const PARTS: [(&str, Part); 5] = [
+    ("schedules", Part::Schedules),
+    ("turn", Part::InnerTurn),
+    ("hold", Part::Hold),
+    ("calls", Part::SingleCalls),
+    ("growth", Part::Growth),
+];
+
 #[derive(Clone, Debug)]
 pub struct Arguments {
+    pub parts: Vec<Part>,
     pub rounds: usize,
     /// Records of a schedule.
     pub records: u64,
@@ -37,6 +57,7 @@ pub struct Arguments {
 impl Arguments {
     fn full() -> Self {
         Self {
+            parts: PARTS.iter().map(|part| part.1).collect(),
             rounds: 7,
             records: 10_000_000,
             holds: 50_000,
@@ -65,6 +86,10 @@ impl Arguments {
         while let Some(name) = words.next() {
             let value = words.next()?;
             match name.as_str() {
+                "--only" => {
+                    let (_, part) = PARTS.iter().find(|part| part.0 == value)?;
+                    arguments.parts = vec![*part];
+                }
                 "--records" => arguments.records = value.parse().ok().filter(|&n| n > 0)?,
                 "--rounds" => arguments.rounds = value.parse().ok().filter(|&n| n > 0)?,
                 "--svg" => arguments.svg = value.into(),

@@ -15,7 +15,9 @@ pub trait Engine {
 
     /// Answers, and drops the lines.
     fn run(&mut self, input: &[u8]) {
-        self.serve(input, &mut |block| keep(block.len() as u64));
+        self.serve(input, &mut |block| {
+            keep(block.last().map_or(0, |&it| it.into()))
+        });
     }
 
     /// All lines of an input.

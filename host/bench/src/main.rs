@@ -1,5 +1,5 @@
 //! Times the proved pool against its peers.
-#![forbid(unsafe_code)]
+#![deny(unsafe_code)]
 
 mod arguments;
 mod engines;
@@ -20,7 +20,7 @@ mod timing;
 use std::io;
 use std::process::ExitCode;
 
-use arguments::{Arguments, HELP};
+use arguments::{Arguments, Part, HELP};
 
 fn main() -> ExitCode {
     let words: Vec<String> = std::env::args().skip(1).collect();
@@ -51,9 +51,14 @@ fn run(arguments: &Arguments) -> io::Result<()> {
         arguments.rounds
     );
     println!("Ratios against the second program are of speed: 1.0 or more is as fast, or faster.");
-    schedules::run(arguments)?;
-    inner_turn::run(arguments);
-    hold::run(arguments);
-    single_calls::run(arguments);
-    growth::run(arguments)
+    for part in &arguments.parts {
+        match part {
+            Part::Schedules => schedules::run(arguments)?,
+            Part::InnerTurn => inner_turn::run(arguments),
+            Part::Hold => hold::run(arguments),
+            Part::SingleCalls => single_calls::run(arguments),
+            Part::Growth => growth::run(arguments)?,
+        }
+    }
+    Ok(())
 }

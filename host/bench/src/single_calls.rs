@@ -13,29 +13,32 @@ pub fn run(arguments: &Arguments) {
     heading(
         "Single calls: nanoseconds a call, and for one pass over the lent words",
         "(calls: put an arrival and take it again, start by start and turn by turn; every call looks\n \
-         at every field of store and table, as refusal 3 asks. A pass adds up all words and finds the\n \
-         greatest, or only adds up. ratio: how many passes a call takes)",
+         at every field of store and table, as refusal 3 asks. A pass adds up all words, two at a\n \
+         time; or also finds the greatest; or compares them with a bound, up to the first above it.\n \
+         ratio: how many passes a call takes)",
     );
     for (name, shape) in [("smallest", SMALLEST), ("largest", LARGEST)] {
         let mut calls = Calls::new(shape);
-        let [mut first, mut second] = [Lent::of(&calls.pool), Lent::of(&calls.pool)];
+        let [mut first, mut second, mut third] = [(); 3].map(|()| Lent::of(&calls.pool));
         let cycles = calls.cycles_in_a_millisecond();
         let passes = cycles * calls.in_a_cycle;
-        let [call, greatest, sum] = best(
+        let [call, sum, greatest, bounded] = best(
             SHORT * arguments.rounds,
             [
                 &mut || vec![calls.time(cycles)],
-                &mut || vec![first.time(passes, sum_and_greatest)],
-                &mut || vec![second.time(passes, sum)],
+                &mut || vec![first.time(passes, Lent::sum)],
+                &mut || vec![second.time(passes, Lent::sum_and_greatest)],
+                &mut || vec![third.time(passes, Lent::is_bounded)],
             ],
         )
         .map(|time| nanoseconds_each(time, passes));
-        for (pass, time, target) in [
-            ("sum and greatest", greatest, Target::AtMost(1.5)),
-            ("sum", sum, Target::AtMost(1.5)),
+        for (pass, time) in [
+            ("sum", sum),
+            ("sum and greatest", greatest),
+            ("compared", bounded),
         ] {
-            let name = format!("{name}, pass: {pass}");
-            row(&name, [call, time], "ns", call / time, target);
+            let name = format!("{name} shape, {pass}");
+            row(&name, [call, time], "ns", call / time, Target::AtMost(1.5));
         }
     }
 }
@@ -124,47 +127,56 @@ impl Calls {
 struct Lent {
     store: Vec<u64>,
     table: Vec<Worker>,
+    /// No word is above it.
+    bound: u64,
 }
 
 impl Lent {
     fn of(pool: &Pool) -> Self {
-        Self {
+        let mut lent = Self {
             store: pool.store().to_vec(),
             table: pool.table().to_vec(),
-        }
+            bound: 0,
+        };
+        lent.bound = lent.words().max().unwrap_or(0) | 1;
+        lent
     }
 
-    fn time(&mut self, passes: usize, pass: fn(&[u64], &[Worker]) -> u64) -> Duration {
+    fn time(&mut self, passes: usize, pass: fn(&Self) -> u64) -> Duration {
         time(|| {
             for place in 0..passes {
                 // So that no pass is like the one before.
                 let place = place % self.store.len();
                 self.store[place] ^= 1;
-                keep(pass(&self.store, &self.table));
+                keep(pass(self));
             }
         })
     }
-}
 
-#[inline(never)]
-fn sum_and_greatest(store: &[u64], table: &[Worker]) -> u64 {
-    let seen =
-        |(sum, greatest): (u64, u64), word: u64| (sum.wrapping_add(word), greatest.max(word));
-    let over_store = store.iter().fold((0, 0), |found, &word| seen(found, word));
-    let over_table = table.iter().fold(over_store, |found, record| {
-        fields(record).into_iter().fold(found, seen)
-    });
-    over_table.0 ^ over_table.1
-}
+    fn words(&self) -> impl Iterator<Item = u64> + '_ {
+        let records = self.table.iter().flat_map(fields);
+        self.store.iter().copied().chain(records)
+    }
 
-#[inline(never)]
-fn sum(store: &[u64], table: &[Worker]) -> u64 {
-    let over_store = store
-        .iter()
-        .fold(0, |sum: u64, &word| sum.wrapping_add(word));
-    table.iter().fold(over_store, |sum, record| {
-        fields(record).into_iter().fold(sum, u64::wrapping_add)
-    })
+    #[inline(never)]
+    fn sum(&self) -> u64 {
+        self.words().fold(0, u64::wrapping_add)
+    }
+
+    #[inline(never)]
+    fn sum_and_greatest(&self) -> u64 {
+        let (sum, greatest) = self.words().fold((0u64, 0u64), |(sum, greatest), word| {
+            (sum.wrapping_add(word), greatest.max(word))
+        });
+        sum ^ greatest
+    }
+
+    #[inline(never)]
+    fn is_bounded(&self) -> u64 {
+        let is_bounded = self.words().all(|word| word <= self.bound);
+        assert!(is_bounded);
+        u64::from(is_bounded)
+    }
 }
 
 fn fields(record: &Worker) -> [u64; 9] {

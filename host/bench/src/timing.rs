@@ -1,6 +1,5 @@
 //! Best times, and results that the compiler must not drop.
 
-use std::sync::atomic::{AtomicU64, Ordering};
 use std::time::{Duration, Instant};
 
 /// Something to time, in pieces that are the same in each round. It answers how
@@ -35,9 +34,9 @@ pub fn nanoseconds_each(time: Duration, count: usize) -> f64 {
     time.as_nanos() as f64 / count as f64
 }
 
-static KEPT: AtomicU64 = AtomicU64::new(0);
-
-/// Uses a result.
+/// Uses a result, so that the compiler must have it.
+#[allow(unsafe_code)]
 pub fn keep(value: u64) {
-    KEPT.store(value, Ordering::Relaxed);
+    // SAFETY: a reference is good to read from. (black_box came with Rust 1.66.)
+    unsafe { std::ptr::read_volatile(&value) };
 }
