@@ -26,7 +26,7 @@ const WIDTH: f64 = 420.0;
 const HEIGHT: f64 = 260.0;
 const TOP: f64 = 60.0;
 /// Around the field of a panel: left, right, above, below.
-const MARGINS: [f64; 4] = [64.0, 16.0, 8.0, 44.0];
+const MARGINS: [f64; 4] = [64.0, 24.0, 8.0, 44.0];
 const COLOURS: [&str; 4] = ["#1f77b4", "#d62728", "#2ca02c", "#9467bd"];
 
 impl Picture {
