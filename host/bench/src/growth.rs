@@ -17,6 +17,7 @@ use crate::timing::{best, nanoseconds_each};
 /// One number is changed, the others stay.
 struct Series {
     name: &'static str,
+    others: &'static str,
     points: Vec<(u32, Model)>,
 }
 
@@ -36,15 +37,17 @@ pub fn run(arguments: &Arguments) -> io::Result<()> {
     );
     let mut panels = Vec::new();
     for series in all_series() {
+        let Series { name, others, .. } = series;
+        println!(" {name} ({others})");
         println!(
-            " {:<24}{:>8}{:>10}{:>10}{:>10}",
-            series.name, "turns", "pair", "a turn", "call"
+            "{:>10}{:>8}{:>10}{:>10}{:>10}",
+            "", "turns", "pair", "a turn", "call"
         );
         let points = series.points.iter();
         let measured: Vec<Measured> = points.map(|point| measure(arguments, point)).collect();
         for it in &measured {
             println!(
-                " {:>24}{:>8.1}{:>10.1}{:>10.1}{:>10.1}",
+                "{:>10}{:>8.1}{:>10.1}{:>10.1}{:>10.1}",
                 it.value,
                 it.turns,
                 it.pair,
@@ -52,7 +55,7 @@ pub fn run(arguments: &Arguments) -> io::Result<()> {
                 it.call
             );
         }
-        panels.push(panel(series.name, &measured));
+        panels.push(panel(format!("{name} ({others})"), &measured));
     }
     let picture = Picture {
         title: "How the cost grows",
@@ -88,18 +91,22 @@ fn all_series() -> [Series; 4] {
     [
         Series {
             name: "nodes",
+            others: "1 worker, 64 buckets, 12 arrivals",
             points: nodes.map(|it| (it, model(1, it, 64, 12))).to_vec(),
         },
         Series {
             name: "buckets",
+            others: "1 worker, 128 nodes, 64 arrivals",
             points: buckets.map(|it| (it, model(1, 128, it, 64))).to_vec(),
         },
         Series {
             name: "workers",
+            others: "1,024 nodes, 64 buckets, 256 arrivals",
             points: workers.map(|it| (it, model(it, 1_024, 64, 256))).to_vec(),
         },
         Series {
             name: "arrivals in one bucket",
+            others: "1 worker, one node more than arrivals",
             points: arrivals
                 .map(|it| (it, model(1, it + 1, 1, it as usize)))
                 .to_vec(),
@@ -139,7 +146,7 @@ fn lent_shape(shape: Shape) -> wubraken::Shape {
     }
 }
 
-fn panel(name: &'static str, measured: &[Measured]) -> Panel {
+fn panel(name: String, measured: &[Measured]) -> Panel {
     let curve = |name, of: fn(&Measured) -> f64| Curve {
         name,
         points: measured

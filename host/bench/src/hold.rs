@@ -27,14 +27,15 @@ pub fn run(arguments: &Arguments) {
     println!(
         " pending workers  turns      pool    second  ratio      heap  ratio    oneTBB  ratio"
     );
+    let mut has_tbb = true;
     for workers in WORKERS {
         for pending in PENDING {
-            contest(arguments, &model(workers, pending));
+            has_tbb &= contest(arguments, &model(workers, pending));
         }
     }
-    if !arguments.tbb.exists() {
+    if !has_tbb {
         let path = arguments.tbb.display();
-        println!(" oneTBB skipped: {path} is not there (it needs g++ and Debian's libtbb-dev)");
+        println!(" oneTBB skipped: {path} cannot be run (it needs g++ and Debian's libtbb-dev)");
     }
 }
 
@@ -52,7 +53,8 @@ fn model(workers: u32, pending: usize) -> Model {
     Model::new(shape, pending, buckets * WIDTH)
 }
 
-fn contest(arguments: &Arguments, model: &Model) {
+/// Whether oneTBB was there.
+fn contest(arguments: &Arguments, model: &Model) -> bool {
     let runs = (arguments.holds / model.holds).max(1);
     let sessions: Vec<Session> = (0..runs as u64).map(|run| model.session(run)).collect();
     let draws: Vec<Draws> = (0..runs as u64).map(|run| model.draws(run)).collect();
@@ -87,16 +89,13 @@ fn contest(arguments: &Arguments, model: &Model) {
         model.shape.workers,
         turns as f64 / holds as f64
     );
-    for other in [second, heap, tbb] {
-        match other {
-            Duration::ZERO => print!("{:>10}{:>7}", "-", "-"),
-            time => {
-                let time = nanoseconds_each(time, holds);
-                print!("{time:>10.1}{:>7.2}", time / pool);
-            }
-        }
+    let has_tbb = tbb > Duration::ZERO;
+    for other in [second, heap, tbb].iter().take(2 + usize::from(has_tbb)) {
+        let time = nanoseconds_each(*other, holds);
+        print!("{time:>10.1}{:>7.2}", time / pool);
     }
-    println!();
+    println!("{}", if has_tbb { "" } else { "   skipped" });
+    has_tbb
 }
 
 /// The two that read turn files.

@@ -11,7 +11,7 @@ pub struct Picture {
 
 pub struct Panel {
     /// Of the axis to the right.
-    pub name: &'static str,
+    pub name: String,
     pub curves: Vec<Curve>,
 }
 
@@ -161,7 +161,7 @@ impl Field {
             "<path d=\"M{left} {above}V{below}H{right}\" fill=\"none\" stroke=\"black\"/>"
         );
         let middle = (left + right) / 2.0;
-        text(svg, (middle, below + 34.0), "middle", 12, panel.name);
+        text(svg, (middle, below + 34.0), "middle", 12, &panel.name);
         text(svg, (left + 6.0, above + 10.0), "start", 11, unit);
     }
 }

@@ -40,7 +40,7 @@ fn push_account(text: &mut String, shape: Shape, trace: &Trace, overtaken: usize
     let (puts, takes) = (trace.put().len(), trace.taken().len());
     let _ = writeln!(
         text,
-        "turns: {} of {} workers, for {puts} puts, {takes} takes, and {} takes that found the pool empty",
+        "turns: {} (workers: {}), for {puts} puts, {takes} takes, and {} takes that found the pool empty",
         trace.turns,
         shape.workers,
         trace.empty_answers()
