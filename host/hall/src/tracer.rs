@@ -36,9 +36,12 @@ struct Host<'a> {
     job: &'a Job,
     pool: Pool,
     workers: Vec<Worker>,
-    /// Arrivals in the pool or with a worker.
-    left: usize,
     moment: usize,
+    /// The last moment at which a worker had something to put.
+    had_to_put: usize,
+    /// A take found the pool empty, and nobody had anything to put since its start;
+    /// what other takes may still hold is looked at when they answer.
+    nothing_left: bool,
     trace: Trace,
 }
 
@@ -47,6 +50,13 @@ struct Worker {
     /// Reflections that it has still to put.
     in_hand: Vec<Arrival>,
     call: Option<Begun>,
+}
+
+impl Worker {
+    /// A put counts until it has ended.
+    fn has_to_put(&self) -> bool {
+        !self.in_hand.is_empty() || self.call.map_or(false, |begun| begun.put.is_some())
+    }
 }
 
 /// A call in progress.
@@ -68,21 +78,28 @@ impl<'a> Host<'a> {
             job,
             pool,
             workers,
-            left: 1,
             moment: 0,
+            had_to_put: 0,
+            nothing_left: false,
             trace: Trace::default(),
         })
     }
 
-    /// The workers that have a call to end, or something to look for.
+    /// The workers that have a call to end, something to put or to look for.
     fn movable(&self) -> Vec<usize> {
-        let can_move = |&worker: &usize| self.left > 0 || self.workers[worker].call.is_some();
-        (0..self.workers.len()).filter(can_move).collect()
+        let can_move =
+            |worker: &Worker| worker.call.is_some() || worker.has_to_put() || !self.nothing_left;
+        let all = 0..self.workers.len();
+        all.filter(|&index| can_move(&self.workers[index]))
+            .collect()
     }
 
     /// One turn of a worker, or the start of its next call.
     fn act(&mut self, worker: usize) -> Result<(), Refusal> {
         self.moment += 1;
+        if self.workers.iter().any(Worker::has_to_put) {
+            self.had_to_put = self.moment;
+        }
         match self.workers[worker].call {
             Some(begun) => self.turn(worker, begun),
             None => match self.workers[worker].in_hand.pop() {
@@ -96,9 +113,10 @@ impl<'a> Host<'a> {
         self.trace.turns += 1;
         let event = match (self.pool.step(worker as u64)?, begun.put) {
             (Step::On, _) => return Ok(()),
-            (Step::Took(taken), _) => Event::Took(taken),
-            (_, Some(arrival)) => Event::Put(arrival),
-            (_, None) => Event::Empty,
+            (Step::Stored(_), Some(arrival)) => Event::Put(arrival),
+            (Step::Took(taken), None) => Event::Took(taken),
+            (Step::Empty, None) => Event::Empty,
+            (other, _) => panic!("{other:?} is the answer to another call"),
         };
         self.workers[worker].call = None;
         self.trace.calls.push(Call {
@@ -108,20 +126,21 @@ impl<'a> Host<'a> {
             end: self.moment,
             event,
         });
-        if let Event::Took(taken) = event {
-            self.reflect(worker, taken);
+        match event {
+            Event::Put(_) => {}
+            Event::Took(taken) => self.reflect(worker, taken),
+            Event::Empty => self.nothing_left |= begun.start > self.had_to_put,
         }
         Ok(())
     }
 
     fn reflect(&mut self, worker: usize, taken: Taken) {
-        self.left -= 1;
+        self.nothing_left = false;
         if taken.order < u64::from(self.job.order) {
             for image in Image::from_path(taken.path as u32).reflections() {
                 self.workers[worker]
                     .in_hand
                     .push(self.job.hall.arrival(image));
-                self.left += 1;
             }
         }
     }
@@ -136,7 +155,6 @@ impl<'a> Host<'a> {
             }
             Err(Refusal::BadArrival | Refusal::TooLate) => {
                 self.trace.out_of_reach += 1;
-                self.left -= 1;
                 Ok(())
             }
             // A take makes room; waiting might not, if all workers wait.
