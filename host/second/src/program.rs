@@ -21,13 +21,7 @@ pub fn run_standard() -> io::Result<()> {
 
 /// Answers every record of an input. Fails only if the output does.
 pub fn run(input: impl Read, output: impl Write) -> io::Result<()> {
-    let mut program = Program::new();
-    let mut lines = Lines::new(output);
-    for record in Records::new(input) {
-        let answer = record.and_then(|record| program.apply(record));
-        lines.write(&answer)?;
-    }
-    lines.finish()
+    Program::new().serve(input, output)
 }
 
 /// The lent memory of the program and the shape it is open with.
@@ -47,10 +41,16 @@ impl Default for Program {
 
 impl Program {
     pub fn new() -> Self {
+        Self::lending(LENT_WORDS, LENT_RECORDS)
+    }
+
+    /// One that lends other memory.
+    #[inline]
+    pub fn lending(words: usize, records: usize) -> Self {
         Self {
             shape: Shape::default(),
-            store: vec![0; LENT_WORDS].into_boxed_slice(),
-            workers: vec![Worker::default(); LENT_RECORDS].into_boxed_slice(),
+            store: vec![0; words].into_boxed_slice(),
+            workers: vec![Worker::default(); records].into_boxed_slice(),
         }
     }
 
@@ -69,6 +69,16 @@ impl Program {
     /// Whether an opening has been accepted.
     pub fn is_open(&self) -> bool {
         self.shape != Shape::default()
+    }
+
+    /// Answers every record of an input, in the pool as it is.
+    pub fn serve(&mut self, input: impl Read, output: impl Write) -> io::Result<()> {
+        let mut lines = Lines::new(output);
+        for record in Records::new(input) {
+            let answer = record.and_then(|record| self.apply(record));
+            lines.write(&answer)?;
+        }
+        lines.finish()
     }
 
     /// Answers one record.

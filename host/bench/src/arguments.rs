@@ -1,0 +1,104 @@
+//! The words of the command line.
+
+use std::path::PathBuf;
+
+pub const HELP: &str = "\
+usage: bench [options]                     (from the top of the repository)
+
+Times the proved pool against its peers. Every ratio is within one run: the
+contestants take turns, and the best of several rounds counts.
+
+options:
+  --quick          everything small, only to see that it runs
+  --only PART      one part: schedules, turn, hold, calls or growth
+  --records N      records of a schedule       (default 10,000,000)
+  --rounds N       rounds of each contest      (default 7)
+  --svg PATH       where the picture goes      (default target/bench/growth.svg)
+  --turns PATH     the program under test      (default target/bin/turns)
+  --second PATH    the second program          (default host/target/release/second)
+  --tbb PATH       host/bench/tbb_hold.cpp compiled    (default target/bench/tbb_hold)
+  --help           prints this text
+";
+
+/// The parts of the report, in their order.
+#[derive(Clone, Copy, Debug, PartialEq, Eq)]
+pub enum Part {
+    Schedules,
+    InnerTurn,
+    Hold,
+    SingleCalls,
+    Growth,
+}
+
+const PARTS: [(&str, Part); 5] = [
+    ("schedules", Part::Schedules),
+    ("turn", Part::InnerTurn),
+    ("hold", Part::Hold),
+    ("calls", Part::SingleCalls),
+    ("growth", Part::Growth),
+];
+
+#[derive(Clone, Debug)]
+pub struct Arguments {
+    pub parts: Vec<Part>,
+    pub rounds: usize,
+    /// Records of a schedule.
+    pub records: u64,
+    /// Holds of a contest in the hold model.
+    pub holds: usize,
+    /// Stretches that are nearly all turns.
+    pub pieces_of_turns: usize,
+    pub svg: PathBuf,
+    pub turns: PathBuf,
+    pub second: PathBuf,
+    pub tbb: PathBuf,
+}
+
+impl Arguments {
+    fn full() -> Self {
+        Self {
+            parts: PARTS.iter().map(|part| part.1).collect(),
+            rounds: 7,
+            records: 10_000_000,
+            holds: 50_000,
+            pieces_of_turns: 20,
+            svg: "target/bench/growth.svg".into(),
+            turns: "target/bin/turns".into(),
+            second: "host/target/release/second".into(),
+            tbb: "target/bench/tbb_hold".into(),
+        }
+    }
+
+    fn quicken(&mut self) {
+        self.rounds = 3;
+        self.records = 1_000_000;
+        self.holds = 10_000;
+        self.pieces_of_turns = 5;
+    }
+
+    /// None for words that make no sense.
+    pub fn parse(words: &[String]) -> Option<Self> {
+        let mut arguments = Self::full();
+        if words.iter().any(|word| word == "--quick") {
+            arguments.quicken();
+        }
+        let mut words = words.iter().filter(|word| *word != "--quick");
+        while let Some(name) = words.next() {
+            let value = words.next()?;
+            match name.as_str() {
+                "--only" => {
+                    let (_, part) = PARTS.iter().find(|part| part.0 == value)?;
+                    arguments.parts = vec![*part];
+                }
+                "--records" => arguments.records = value.parse().ok().filter(|&n| n > 0)?,
+                "--rounds" => arguments.rounds = value.parse().ok().filter(|&n| n > 0)?,
+                "--svg" => arguments.svg = value.into(),
+                "--turns" => arguments.turns = value.into(),
+                "--second" => arguments.second = value.into(),
+                "--tbb" => arguments.tbb = value.into(),
+                _ => return None,
+            }
+        }
+        Some(arguments)
+    }
+}

@@ -1,0 +1,164 @@
+//! How the cost grows with each number of a shape, and with the arrivals in a
+//! bucket.
+
+use std::fs;
+use std::io;
+
+use second::Shape;
+
+use crate::arguments::Arguments;
+use crate::hold;
+use crate::hold_model::{Model, Session};
+use crate::report::heading;
+use crate::single_calls;
+use crate::svg::{Curve, Panel, Picture};
+use crate::timing::{best, nanoseconds_each};
+
+/// One number is changed, the others stay.
+struct Series {
+    name: &'static str,
+    others: &'static str,
+    points: Vec<(u32, Model)>,
+}
+
+/// What was measured at one value.
+struct Measured {
+    value: u32,
+    turns: f64,
+    pair: f64,
+    call: f64,
+}
+
+pub fn run(arguments: &Arguments) -> io::Result<()> {
+    heading(
+        "Growth: nanoseconds in the hold model",
+        "(pair: one take and one put back, by the batch entry; turns: of a pair;\n \
+         call: one single call, which looks at all lent memory)",
+    );
+    let mut panels = Vec::new();
+    for series in all_series() {
+        let Series { name, others, .. } = series;
+        println!(" {name} ({others})");
+        println!(
+            "{:>10}{:>8}{:>10}{:>10}{:>10}",
+            "", "turns", "pair", "a turn", "call"
+        );
+        let points = series.points.iter();
+        let measured: Vec<Measured> = points.map(|point| measure(arguments, point)).collect();
+        for it in &measured {
+            println!(
+                "{:>10}{:>8.1}{:>10.1}{:>10.1}{:>10.1}",
+                it.value,
+                it.turns,
+                it.pair,
+                it.pair / it.turns,
+                it.call
+            );
+        }
+        panels.push(panel(format!("{name} ({others})"), &measured));
+    }
+    let picture = Picture {
+        title: "How the cost grows",
+        unit: "nanoseconds",
+        panels,
+    };
+    if let Some(directory) = arguments.svg.parent() {
+        fs::create_dir_all(directory)?;
+    }
+    fs::write(&arguments.svg, picture.svg())?;
+    println!(" picture: {}", arguments.svg.display());
+    Ok(())
+}
+
+/// All calendars are as long; increments go over a quarter of them.
+const SPAN: u32 = 65_536;
+
+fn model(workers: u32, nodes: u32, buckets: u32, pending: usize) -> Model {
+    let shape = Shape {
+        workers,
+        nodes,
+        buckets,
+        width: (SPAN / buckets).min(65_535),
+    };
+    Model::new(shape, pending, SPAN / 4)
+}
+
+fn all_series() -> [Series; 4] {
+    let nodes = [16, 64, 256, 1_024, 4_096];
+    let buckets = [1, 4, 16, 64, 256];
+    let workers = [1, 2, 4, 8, 16, 32, 64];
+    let arrivals = [1, 4, 16, 64, 256, 1_024, 4_000];
+    [
+        Series {
+            name: "nodes",
+            others: "1 worker, 64 buckets, 12 arrivals",
+            points: nodes.map(|it| (it, model(1, it, 64, 12))).to_vec(),
+        },
+        Series {
+            name: "buckets",
+            others: "1 worker, 128 nodes, 64 arrivals",
+            points: buckets.map(|it| (it, model(1, 128, it, 64))).to_vec(),
+        },
+        Series {
+            name: "workers",
+            others: "1,024 nodes, 64 buckets, 256 arrivals",
+            points: workers.map(|it| (it, model(it, 1_024, 64, 256))).to_vec(),
+        },
+        Series {
+            name: "arrivals in one bucket",
+            others: "1 worker, one node more than arrivals",
+            points: arrivals
+                .map(|it| (it, model(1, it + 1, 1, it as usize)))
+                .to_vec(),
+        },
+    ]
+}
+
+/// Long lists make long calls; fewer of them will do.
+fn measure(arguments: &Arguments, &(value, model): &(u32, Model)) -> Measured {
+    let in_a_list = (model.pending as u32 / model.shape.buckets).max(10) as usize;
+    let holds = (arguments.holds * 10 / in_a_list).max(200);
+    let model = model.at_most(holds);
+    let runs = (holds / model.holds).max(1) as u64;
+    let sessions: Vec<Session> = (0..runs).map(|run| model.session(run)).collect();
+    let (mut batch, mut library) = hold::engines(model.shape);
+    hold::check_lines(&sessions, &mut batch, &mut library);
+    let [time] = best(
+        arguments.rounds,
+        [&mut || hold::time_holding(&mut batch, &sessions)],
+    );
+    let pairs = runs as usize * model.holds;
+    let turns: usize = sessions.iter().map(|session| session.holding.turns).sum();
+    Measured {
+        value,
+        turns: turns as f64 / pairs as f64,
+        pair: nanoseconds_each(time, pairs),
+        call: single_calls::nanoseconds(lent_shape(model.shape), arguments.rounds),
+    }
+}
+
+fn lent_shape(shape: Shape) -> wubraken::Shape {
+    wubraken::Shape {
+        workers: shape.workers.into(),
+        nodes: shape.nodes.into(),
+        buckets: shape.buckets.into(),
+        width: shape.width.into(),
+    }
+}
+
+fn panel(name: String, measured: &[Measured]) -> Panel {
+    let curve = |name, of: fn(&Measured) -> f64| Curve {
+        name,
+        points: measured
+            .iter()
+            .map(|it| (f64::from(it.value), of(it)))
+            .collect(),
+    };
+    Panel {
+        name,
+        curves: vec![
+            curve("take and put, batch entry", |it| it.pair),
+            curve("one single call", |it| it.call),
+        ],
+    }
+}

@@ -1,0 +1,64 @@
+//! Times the proved pool against its peers.
+#![deny(unsafe_code)]
+
+mod arguments;
+mod engines;
+mod growth;
+mod heap;
+mod hold;
+mod hold_model;
+mod inner_turn;
+mod programs;
+mod recorder;
+mod report;
+mod schedules;
+mod single_calls;
+mod svg;
+mod tbb;
+mod timing;
+
+use std::io;
+use std::process::ExitCode;
+
+use arguments::{Arguments, Part, HELP};
+
+fn main() -> ExitCode {
+    let words: Vec<String> = std::env::args().skip(1).collect();
+    if words.iter().any(|word| word == "--help") {
+        print!("{HELP}");
+        return ExitCode::SUCCESS;
+    }
+    let arguments = match Arguments::parse(&words) {
+        Some(arguments) => arguments,
+        None => {
+            eprint!("{HELP}");
+            return ExitCode::from(2);
+        }
+    };
+    match run(&arguments) {
+        Ok(()) => ExitCode::SUCCESS,
+        Err(error) => {
+            eprintln!("bench: {error}");
+            ExitCode::FAILURE
+        }
+    }
+}
+
+fn run(arguments: &Arguments) -> io::Result<()> {
+    println!("Machine: {}", report::machine());
+    println!(
+        "Best of {} rounds, in which the contestants take turns.",
+        arguments.rounds
+    );
+    println!("Ratios against the second program are of speed: 1.0 or more is as fast, or faster.");
+    for part in &arguments.parts {
+        match part {
+            Part::Schedules => schedules::run(arguments)?,
+            Part::InnerTurn => inner_turn::run(arguments),
+            Part::Hold => hold::run(arguments),
+            Part::SingleCalls => single_calls::run(arguments),
+            Part::Growth => growth::run(arguments)?,
+        }
+    }
+    Ok(())
+}

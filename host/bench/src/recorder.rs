@@ -1,0 +1,84 @@
+//! Turn files written along a run of the pool.
+
+use second::{Answer, Arrival, Program, Record, Response, Shape};
+
+/// Writes records and follows the pool they lead to.
+pub struct Recorder {
+    program: Program,
+    stretch: Stretch,
+}
+
+/// A part of a turn file.
+#[derive(Clone, Default)]
+pub struct Stretch {
+    pub bytes: Vec<u8>,
+    pub records: usize,
+    /// Records that are turns.
+    pub turns: usize,
+}
+
+impl Recorder {
+    /// Begins with an opening.
+    pub fn open(shape: Shape) -> Self {
+        let mut recorder = Self {
+            program: Program::lending(shape.store_words(), shape.workers as usize),
+            stretch: Stretch::default(),
+        };
+        let opened = recorder.record(Record::Open(shape));
+        assert_eq!(opened, Ok(Response::Open));
+        recorder
+    }
+
+    pub fn record(&mut self, record: Record) -> Answer {
+        record.encode(&mut self.stretch.bytes);
+        self.stretch.records += 1;
+        self.stretch.turns += usize::from(matches!(record, Record::Step { .. }));
+        self.program.apply(record)
+    }
+
+    /// A whole call of the first worker.
+    pub fn call(&mut self, start: Record) -> Response {
+        self.record(start).expect("the call can start");
+        loop {
+            match self.record(turn(0)).expect("the call is in progress") {
+                Response::On => {}
+                end => return end,
+            }
+        }
+    }
+
+    /// What was written since the last time.
+    pub fn cut(&mut self) -> Stretch {
+        std::mem::take(&mut self.stretch)
+    }
+}
+
+impl Stretch {
+    /// The same stretch again and again, up to about so many records.
+    pub fn repeated(&self, records: usize) -> Self {
+        let times = (records / self.records).max(1);
+        Self {
+            bytes: self.bytes.repeat(times),
+            records: self.records * times,
+            turns: self.turns * times,
+        }
+    }
+}
+
+pub fn put(worker: u8, time: u32) -> Record {
+    let arrival = Arrival {
+        time,
+        path: 7,
+        order: 1,
+        distance: 3,
+    };
+    Record::EnqueueStart { worker, arrival }
+}
+
+pub fn take(worker: u8) -> Record {
+    Record::DequeueStart { worker }
+}
+
+pub fn turn(worker: u8) -> Record {
+    Record::Step { worker }
+}

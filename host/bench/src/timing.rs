@@ -1,0 +1,42 @@
+//! Best times, and results that the compiler must not drop.
+
+use std::time::{Duration, Instant};
+
+/// Something to time, in pieces that are the same in each round. It answers how
+/// long they took: not all that it does counts.
+pub type Contestant<'a> = &'a mut dyn FnMut() -> Vec<Duration>;
+
+/// The best time of each contestant: of every piece its best round. They take
+/// turns, and pieces are short, so that what else the machine does matters little.
+pub fn best<const N: usize>(rounds: usize, mut contestants: [Contestant<'_>; N]) -> [Duration; N] {
+    let mut best = [(); N].map(|()| Vec::new());
+    for _ in 0..rounds {
+        for (best, contestant) in best.iter_mut().zip(&mut contestants) {
+            let times = contestant();
+            best.resize(times.len(), Duration::MAX);
+            for (best, time) in best.iter_mut().zip(times) {
+                *best = time.min(*best);
+            }
+        }
+    }
+    best.map(|times| times.into_iter().sum())
+}
+
+/// How long an action takes.
+pub fn time(action: impl FnOnce()) -> Duration {
+    let start = Instant::now();
+    action();
+    start.elapsed()
+}
+
+/// Nanoseconds for each of so many things.
+pub fn nanoseconds_each(time: Duration, count: usize) -> f64 {
+    time.as_nanos() as f64 / count as f64
+}
+
+/// Uses a result, so that the compiler must have it.
+#[allow(unsafe_code)]
+pub fn keep(value: u64) {
+    // SAFETY: a reference is good to read from. (black_box came with Rust 1.66.)
+    unsafe { std::ptr::read_volatile(&value) };
+}

@@ -1,0 +1,27 @@
+//! The echoes of a shoebox hall, traced by workers that share one pool.
+//!
+//! A worker takes the earliest arrival, mirrors its source once more at each
+//! wall it may, and puts the new arrivals back, until nothing is left. The
+//! workers are simulated: one host deals their turns, at random from a seed.
+//!
+//! An arrival is never earlier than the one it was reflected from ([`Hall`] says
+//! why), but taking one and putting back its reflections are several calls. So
+//! a worker alone takes in the order of time, while of several workers one may
+//! take an arrival that lies behind reflections which another has still in hand.
+//! What is promised to all: each call takes effect at one moment between its
+//! start and its end; so nothing is lost or taken twice, a reflection is taken
+//! after its parent, and no take passes over an arrival that was in the pool,
+//! earlier, all the while.
+#![forbid(unsafe_code)]
+
+mod arguments;
+mod geometry;
+mod report;
+mod trace;
+mod tracer;
+
+pub use arguments::{Arguments, HELP};
+pub use geometry::{Hall, Image, GREATEST_ORDER, SAMPLES_PER_SECOND};
+pub use report::report;
+pub use trace::{Call, Event, Trace};
+pub use tracer::{trace, Job};

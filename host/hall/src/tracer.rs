@@ -1,0 +1,183 @@
+//! The workers, and the host that deals their turns.
+
+use schedule::Random;
+use wubraken::{Arrival, Pool, Refusal, Shape, Step, Taken};
+
+use crate::geometry::{Hall, Image};
+use crate::trace::{Call, Event, Trace};
+
+/// What to trace, with which pool.
+#[derive(Clone, Copy, Debug)]
+pub struct Job {
+    pub hall: Hall,
+    /// No reflections beyond this order.
+    pub order: u32,
+    pub shape: Shape,
+    /// Of the order of turns.
+    pub seed: u64,
+}
+
+/// Traces a hall until nothing is left; a refusal is one that no worker expects.
+pub fn trace(job: &Job) -> Result<Trace, Refusal> {
+    let mut host = Host::new(job)?;
+    let mut random = Random::new(job.seed);
+    loop {
+        let movable = host.movable();
+        if movable.is_empty() {
+            break;
+        }
+        host.act(random.choose(&movable))?;
+    }
+    host.trace.epochs = host.pool.store()[0] & u64::from(u32::MAX);
+    Ok(host.trace)
+}
+
+struct Host<'a> {
+    job: &'a Job,
+    pool: Pool,
+    workers: Vec<Worker>,
+    moment: usize,
+    /// The last moment at which a worker had something to put.
+    had_to_put: usize,
+    /// A take found the pool empty, and nobody had anything to put since its start;
+    /// what other takes may still hold is looked at when they answer.
+    nothing_left: bool,
+    trace: Trace,
+}
+
+#[derive(Clone, Default)]
+struct Worker {
+    /// Reflections that it has still to put.
+    in_hand: Vec<Arrival>,
+    call: Option<Begun>,
+}
+
+impl Worker {
+    /// A put counts until it has ended.
+    fn has_to_put(&self) -> bool {
+        !self.in_hand.is_empty() || self.call.map_or(false, |begun| begun.put.is_some())
+    }
+}
+
+/// A call in progress.
+#[derive(Clone, Copy)]
+struct Begun {
+    ticket: u64,
+    start: usize,
+    /// None for a take.
+    put: Option<Arrival>,
+}
+
+impl<'a> Host<'a> {
+    /// The direct sound is in the first worker's hand.
+    fn new(job: &'a Job) -> Result<Self, Refusal> {
+        let pool = Pool::new(job.shape)?;
+        let mut workers = vec![Worker::default(); job.shape.workers as usize];
+        workers[0].in_hand.push(job.hall.arrival(Image::DIRECT));
+        Ok(Self {
+            job,
+            pool,
+            workers,
+            moment: 0,
+            had_to_put: 0,
+            nothing_left: false,
+            trace: Trace::default(),
+        })
+    }
+
+    /// The workers that have a call to end, something to put or to look for.
+    fn movable(&self) -> Vec<usize> {
+        let can_move =
+            |worker: &Worker| worker.call.is_some() || worker.has_to_put() || !self.nothing_left;
+        let all = 0..self.workers.len();
+        all.filter(|&index| can_move(&self.workers[index]))
+            .collect()
+    }
+
+    /// One turn of a worker, or the start of its next call.
+    fn act(&mut self, worker: usize) -> Result<(), Refusal> {
+        self.moment += 1;
+        if self.workers.iter().any(Worker::has_to_put) {
+            self.had_to_put = self.moment;
+        }
+        match self.workers[worker].call {
+            Some(begun) => self.turn(worker, begun),
+            None => match self.workers[worker].in_hand.pop() {
+                Some(arrival) => self.start_put(worker, arrival),
+                None => self.start_take(worker),
+            },
+        }
+    }
+
+    fn turn(&mut self, worker: usize, begun: Begun) -> Result<(), Refusal> {
+        self.trace.turns += 1;
+        let event = match (self.pool.step(worker as u64)?, begun.put) {
+            (Step::On, _) => return Ok(()),
+            (Step::Stored(_), Some(arrival)) => Event::Put(arrival),
+            (Step::Took(taken), None) => Event::Took(taken),
+            (Step::Empty, None) => Event::Empty,
+            (other, _) => panic!("{other:?} is the answer to another call"),
+        };
+        self.workers[worker].call = None;
+        self.trace.calls.push(Call {
+            worker: worker as u64,
+            ticket: begun.ticket,
+            start: begun.start,
+            end: self.moment,
+            event,
+        });
+        match event {
+            Event::Put(_) => {}
+            Event::Took(taken) => self.reflect(worker, taken),
+            Event::Empty => self.nothing_left |= begun.start > self.had_to_put,
+        }
+        Ok(())
+    }
+
+    fn reflect(&mut self, worker: usize, taken: Taken) {
+        self.nothing_left = false;
+        if taken.order < u64::from(self.job.order) {
+            for image in Image::from_path(taken.path as u32).reflections() {
+                self.workers[worker]
+                    .in_hand
+                    .push(self.job.hall.arrival(image));
+            }
+        }
+    }
+
+    fn start_put(&mut self, worker: usize, arrival: Arrival) -> Result<(), Refusal> {
+        match self.pool.enqueue(worker as u64, arrival) {
+            Ok(ticket) => {
+                let node = self.pool.table()[worker].own;
+                self.trace.nodes.insert(node);
+                self.begin(worker, ticket, Some(arrival));
+                Ok(())
+            }
+            Err(Refusal::BadArrival | Refusal::TooLate) => {
+                self.trace.out_of_reach += 1;
+                Ok(())
+            }
+            // A take makes room; waiting might not, if all workers wait.
+            Err(Refusal::NoNode) => {
+                self.trace.no_node += 1;
+                self.workers[worker].in_hand.push(arrival);
+                self.start_take(worker)
+            }
+            Err(unexpected) => Err(unexpected),
+        }
+    }
+
+    fn start_take(&mut self, worker: usize) -> Result<(), Refusal> {
+        let ticket = self.pool.dequeue(worker as u64)?;
+        self.begin(worker, ticket, None);
+        Ok(())
+    }
+
+    fn begin(&mut self, worker: usize, ticket: u64, put: Option<Arrival>) {
+        self.workers[worker].call = Some(Begun {
+            ticket,
+            start: self.moment,
+            put,
+        });
+    }
+}

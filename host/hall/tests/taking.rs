@@ -1,0 +1,161 @@
+//! What the workers take, under many orders of turns.
+
+use compare::{find_order, End, Kind, Line};
+use hall::{trace, Arguments, Call, Event, Image, Trace};
+use wubraken::Arrival;
+
+fn run(arguments: Arguments) -> Trace {
+    trace(&arguments.job()).unwrap()
+}
+
+/// Few and many workers and nodes, with several orders of turns.
+fn runs() -> Vec<Trace> {
+    let mut runs = Vec::new();
+    for workers in [1, 2, 3, 8, 64] {
+        for nodes in [1, 5, 12, 500] {
+            for seed in 0..5 {
+                runs.push(run(Arguments {
+                    seed,
+                    workers,
+                    nodes,
+                    order: 3,
+                    ..Arguments::default()
+                }));
+            }
+        }
+    }
+    runs
+}
+
+fn key(arrival: Arrival) -> [u64; 4] {
+    [arrival.time, arrival.path, arrival.order, arrival.distance].map(u64::from)
+}
+
+/// Whatever the order of turns, it is the same hall.
+#[test]
+fn each_arrival_put_is_taken_exactly_once() {
+    let reference = run(Arguments {
+        workers: 1,
+        nodes: 500,
+        order: 3,
+        ..Arguments::default()
+    });
+    let mut expected: Vec<_> = reference.put().into_iter().map(key).collect();
+    expected.sort_unstable();
+    assert!(expected.len() > 25);
+    for trace in runs() {
+        let mut put: Vec<_> = trace.put().into_iter().map(key).collect();
+        let taken = trace.taken();
+        let taken = taken
+            .iter()
+            .map(|it| [it.time, it.path, it.order, it.distance]);
+        let mut taken: Vec<_> = taken.collect();
+        put.sort_unstable();
+        taken.sort_unstable();
+        assert_eq!(put, expected);
+        assert_eq!(taken, expected);
+    }
+}
+
+#[test]
+fn one_worker_takes_in_the_order_of_time() {
+    for order in [0, 2, 6] {
+        let trace = run(Arguments {
+            workers: 1,
+            nodes: 4_096,
+            order,
+            span: 1_000,
+            ..Arguments::default()
+        });
+        assert_eq!(trace.no_node, 0);
+        let times: Vec<u64> = trace.taken().iter().map(|taken| taken.time).collect();
+        assert!(times.windows(2).all(|pair| pair[0] <= pair[1]));
+    }
+}
+
+/// An order of turns in which a worker overtakes another's reflections, so that
+/// the tests of several workers are about something.
+#[test]
+fn several_workers_may_not() {
+    let times: Vec<u64> = run(Arguments::default())
+        .taken()
+        .iter()
+        .map(|taken| taken.time)
+        .collect();
+    assert!(times.windows(2).any(|pair| pair[0] > pair[1]));
+}
+
+#[test]
+fn a_reflection_is_taken_after_its_parent() {
+    for trace in runs() {
+        let paths = trace.taken().into_iter().map(|taken| taken.path as u32);
+        let paths: Vec<u32> = paths.collect();
+        for (place, &path) in paths.iter().enumerate() {
+            for reflection in Image::from_path(path).reflections() {
+                let before = &paths[..place];
+                assert!(!before.contains(&reflection.path()));
+            }
+        }
+    }
+}
+
+#[test]
+fn the_energy_is_of_the_distance() {
+    for taken in run(Arguments::default()).taken() {
+        assert_eq!(taken.energy, (1 << 24) / (taken.distance * taken.distance));
+    }
+}
+
+/// The calls have an order in which a plain queue gives the same answers.
+#[test]
+fn there_is_a_sequential_order() {
+    for workers in [1, 2, 3] {
+        for nodes in [3, 12] {
+            for seed in 0..20 {
+                let trace = run(Arguments {
+                    seed,
+                    workers,
+                    nodes,
+                    ..Arguments::default()
+                });
+                let mut calls: Vec<_> = trace.calls.iter().map(seen_from_outside).collect();
+                calls.sort_by_key(|call| call.start);
+                assert!(find_order(&calls).is_some(), "seed {seed}");
+            }
+        }
+    }
+}
+
+fn seen_from_outside(call: &Call) -> compare::Call {
+    let (kind, answer) = match call.event {
+        Event::Put(arrival) => (
+            Kind::Put(second::Arrival {
+                time: arrival.time,
+                path: arrival.path,
+                order: arrival.order,
+                distance: arrival.distance,
+            }),
+            Line::Stored(call.ticket),
+        ),
+        Event::Took(taken) => (
+            Kind::Take,
+            Line::Took(compare::Taken {
+                time: taken.time,
+                path: taken.path,
+                order: taken.order,
+                energy: taken.energy,
+            }),
+        ),
+        Event::Empty => (Kind::Take, Line::Empty),
+    };
+    compare::Call {
+        ticket: call.ticket,
+        worker: call.worker as u8,
+        kind,
+        start: call.start,
+        end: Some(End {
+            at: call.end,
+            answer,
+        }),
+    }
+}
