@@ -3,6 +3,7 @@ ghost use mathlib.Core.Path.{_≡_};
 ghost use Prim.Native.Nat.{_-_, _≤_};
 ghost use lib.ListN.{length};
 ghost use Rattle.batch.specs.Ending.{Sound};
+ghost use Rattle.turns.specs.Moving.{moved};
 use arrival::Response;
 use arrival::Shape;
 use arrival::Worker;
@@ -45,7 +46,7 @@ fn fresh_desk(store: &[u64]) -> Desk
 // Moves the bytes from `at` to `have` to the front: how many they are.
 fn keep_rest(input: &mut [u8], at: usize, have: usize) -> usize
     requires { ⌜ (at ≤ have) × (have ≤ length (now input)) ⌝ }
-    ensures { λ r. ⌜ (r ≡ have - at) × (length (now (input .exit)) ≡ length (now (input .entry))) ⌝ }
+    ensures { λ r. ⌜ (r ≡ have - at) × (length (now (input .exit)) ≡ length (now (input .entry))) × (now (input .exit) ≡ moved at (have - at) (now (input .entry))) ⌝ }
 {
     let n = have - at;
     let mut i: usize = 0;

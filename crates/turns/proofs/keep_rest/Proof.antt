@@ -1,14 +1,16 @@
--- The bytes moved stay inside the buffer. Assumes nothing.
-use mathlib.Core.Path.{_≡_, refl}
-use Prim.Native.Nat.{_≤_, _-_}
+-- Byte by byte; what is read has not been written over. Assumes nothing.
+use mathlib.Core.Path.{_≡_, refl, ap, _∙_}
+use mathlib.Core.List.{List}
+use Prim.Native.Nat.{ℕ, _+_, _≤_, _-_}
 use native.Mathlib.Omega.{arith}
-use lib.ListN.{length, length-set}
+use lib.ListN.{length, getD, set, length-set}
+use Rattle.turns.specs.Moving.{moved, none-moved, moved-more}
 use borrow.Author.Needs.{needs}
 use Rattle.turns.proofs.keep_rest.Statement.{statement}
 use Rattle.turns.proofs.keep_rest.Tie as tie
 
 abbrev Inv-loop : tie.InvT-loop
-Inv-loop input₀ at have n i₀ input i = (i ≤ n) × (length input ≡ length input₀)
+Inv-loop input₀ at have n i₀ input i = (i ≤ n) × (length input ≡ length input₀) × (input ≡ moved at i input₀)
 
 abbrev μ-loop : tie.MeasureT-loop
 μ-loop input₀ at have n i₀ input i = n - i
@@ -17,7 +19,7 @@ sub-n : tie.Need-sub-n Inv-loop μ-loop
 sub-n c = search needs
 
 loop-holds : tie.Need-loop-holds Inv-loop μ-loop
-loop-holds c = (omega arith, refl)
+loop-holds c = (omega arith, refl, none-moved _ _)
 
 add-input : tie.Need-add-input Inv-loop μ-loop
 add-input c = search needs
@@ -35,13 +37,19 @@ loop-less : tie.Need-loop-less Inv-loop μ-loop
 loop-less c = search needs
 
 loop-again : tie.Need-loop-again Inv-loop μ-loop
-loop-again c = (omega arith, simp length-set (c .before .before .loop .inv .1))
+loop-again c =
+    let a = c .before .before .before .args in
+    let now = c .before .before .loop in
+    (omega arith, simp length-set (now .inv .1), ap (λ (xs : List ℕ). set xs (now .i) (getD xs (a .at + now .i) 0)) (now .inv .2) ∙ moved-more (a .at) (a .input .now) (now .i) (omega arith))
 
 same-length : tie.Need-same-length Inv-loop μ-loop
 same-length c = c .before .loop .inv .1
 
 returns : tie.Need-returns Inv-loop μ-loop
-returns c = (refl, c .before .loop .inv .1)
+returns c =
+    let a = c .before .before .args in
+    let e : c .before .loop .i ≡ a .have - a .at = omega arith in
+    (refl, c .before .loop .inv .1, c .before .loop .inv .2 ∙ ap (λ k. moved (a .at) k (a .input .now)) e)
 
 pub keep-rest-spec : {M : Type 1} → statement M
 keep-rest-spec =
