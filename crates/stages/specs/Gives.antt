@@ -7,32 +7,25 @@ use lib.Dec.{eqb}
 use Rattle.arrival.specs.declared.Shape.{Shape}
 use Rattle.arrival.specs.declared.Worker.{Worker}
 use Rattle.arrival.specs.declared.Response.{Response}
-use Rattle.arrival.specs.declared.Response.the-variants.{On, Refused}
+use Rattle.arrival.specs.declared.Response.the-variants.{On}
 use Rattle.arrival.specs.Queue.{taken}
 use Rattle.calendar.specs.Layout.{Write, writeAll, itemAt}
 use Rattle.calendar.specs.Outcome.{Outcome, on, answer, withStage}
 use Rattle.calendar.specs.SearchSteps.{found, settle}
 use Rattle.calendar.specs.DequeueSteps.{walk, moreBuckets}
-use Rattle.words.specs.Done.{Done, done}
-use Rattle.stages.specs.declared.Stepped.{Stepped}
-
--- the store s with what the code hands back
-abbrev pub gives : List ℕ → Stepped → Done
-gives s r = record { store = s; worker = r .worker; response = r .response }
+use Rattle.words.specs.Done.{Done, done, gives}
+use Rattle.words.specs.declared.replies.Reply.{Reply}
 
 -- the code's share of an outcome: its record and response
-abbrev pub share : Outcome → Stepped
+abbrev pub share : Outcome → Reply
 share o = record { worker = o .worker; response = o .response }
 
--- goes on at stage k; answers; is refused by number k
-abbrev pub goesOn : ℕ → Worker → Stepped
+-- goes on at stage k; answers
+abbrev pub goesOn : ℕ → Worker → Reply
 goesOn k w = record { worker = withStage k w; response = On }
 
-abbrev pub answers : Worker → Response → Stepped
+abbrev pub answers : Worker → Response → Reply
 answers w a = record { worker = withStage 0 w; response = a }
-
-abbrev pub refuses : Worker → ℕ → Stepped
-refuses w k = record { worker = w; response = Refused k }
 
 -- a take's walk writes nothing
 pub walk-gives : (sh : Shape) (s : List ℕ) (w : Worker) → gives s (share (walk sh w)) ≡ done sh s (walk sh w)

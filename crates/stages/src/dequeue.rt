@@ -2,10 +2,9 @@
 ghost use mathlib.Core.Path.{_≡_};
 ghost use Prim.Native.Nat.{_<_};
 ghost use Rattle.calendar.specs.DequeueSteps.{walk, step-8, step-9, step-10, step-11, step-12, step-13};
-ghost use Rattle.words.specs.Done.{done};
-ghost use Rattle.stages.specs.Gives.{gives, share};
+ghost use Rattle.words.specs.Done.{done, gives};
+ghost use Rattle.stages.specs.Gives.{share};
 ghost use Rattle.stages.specs.Ready.{Ready};
-use super::Stepped;
 use super::answer;
 use super::go_on;
 use arrival::Response;
@@ -16,8 +15,9 @@ use words::get_field;
 use words::get_word;
 use words::put_cell;
 use words::put_word;
+use words::replies::Reply;
 
-pub fn step_8(shape: Shape, mut w: Worker, store: &[u64]) -> Stepped
+pub fn step_8(shape: Shape, mut w: Worker, store: &[u64]) -> Reply
     requires { ⌜ Ready shape (now store) w ⌝ }
     ensures { λ r. ⌜ gives (now (store .entry)) r ≡ done shape (now (store .entry)) (step-8 shape (now (store .entry)) w) ⌝ }
 {
@@ -28,7 +28,7 @@ pub fn step_8(shape: Shape, mut w: Worker, store: &[u64]) -> Stepped
 }
 
 // Right has been set: at the end of the list on to the next bucket, or to 13 in the last.
-fn walk_right(shape: Shape, w: Worker) -> Stepped
+fn walk_right(shape: Shape, w: Worker) -> Reply
     requires { ⌜ w .bucket < 65536 ⌝ }
     ensures { λ r. ⌜ r ≡ share (walk shape w) ⌝ }
 {
@@ -43,7 +43,7 @@ fn walk_right(shape: Shape, w: Worker) -> Stepped
     }
 }
 
-pub fn step_9(shape: Shape, mut w: Worker, store: &[u64]) -> Stepped
+pub fn step_9(shape: Shape, mut w: Worker, store: &[u64]) -> Reply
     requires { ⌜ Ready shape (now store) w ⌝ }
     ensures { λ r. ⌜ gives (now (store .entry)) r ≡ done shape (now (store .entry)) (step-9 shape (now (store .entry)) w) ⌝ }
 {
@@ -52,7 +52,7 @@ pub fn step_9(shape: Shape, mut w: Worker, store: &[u64]) -> Stepped
     walk_right(shape, w)
 }
 
-pub fn step_10(shape: Shape, mut w: Worker, store: &[u64]) -> Stepped
+pub fn step_10(shape: Shape, mut w: Worker, store: &[u64]) -> Reply
     requires { ⌜ Ready shape (now store) w ⌝ }
     requires { ⌜ w .right < shape .nodes ⌝ }
     ensures { λ r. ⌜ gives (now (store .entry)) r ≡ done shape (now (store .entry)) (step-10 shape (now (store .entry)) w) ⌝ }
@@ -72,7 +72,7 @@ pub fn step_10(shape: Shape, mut w: Worker, store: &[u64]) -> Stepped
     }
 }
 
-pub fn step_11(shape: Shape, mut w: Worker, store: &mut [u64]) -> Stepped
+pub fn step_11(shape: Shape, mut w: Worker, store: &mut [u64]) -> Reply
     requires { ⌜ Ready shape (now store) w ⌝ }
     requires { ⌜ w .right < shape .nodes ⌝ }
     ensures { λ r. ⌜ gives (now (store .exit)) r ≡ done shape (now (store .entry)) (step-11 shape (now (store .entry)) w) ⌝ }
@@ -87,7 +87,7 @@ pub fn step_11(shape: Shape, mut w: Worker, store: &mut [u64]) -> Stepped
     }
 }
 
-pub fn step_12(shape: Shape, mut w: Worker, store: &mut [u64]) -> Stepped
+pub fn step_12(shape: Shape, mut w: Worker, store: &mut [u64]) -> Reply
     requires { ⌜ Ready shape (now store) w ⌝ }
     ensures { λ r. ⌜ gives (now (store .exit)) r ≡ done shape (now (store .entry)) (step-12 shape (now (store .entry)) w) ⌝ }
 {
@@ -103,7 +103,7 @@ pub fn step_12(shape: Shape, mut w: Worker, store: &mut [u64]) -> Stepped
     }
 }
 
-pub fn step_13(shape: Shape, w: Worker, store: &[u64]) -> Stepped
+pub fn step_13(shape: Shape, w: Worker, store: &[u64]) -> Reply
     requires { ⌜ Ready shape (now store) w ⌝ }
     ensures { λ r. ⌜ gives (now (store .entry)) r ≡ done shape (now (store .entry)) (step-13 shape (now (store .entry)) w) ⌝ }
 {

@@ -1,14 +1,11 @@
 // Stages 4 to 7: a put after its search.
 ghost use mathlib.Core.Path.{_≡_};
 ghost use Rattle.calendar.specs.EnqueueSteps.{step-4, step-5, step-6};
-ghost use Rattle.words.specs.Done.{done};
-ghost use Rattle.stages.specs.Gives.{gives};
+ghost use Rattle.words.specs.Done.{done, gives};
 ghost use Rattle.stages.specs.Local.{localStep-7};
 ghost use Rattle.stages.specs.Ready.{Ready};
-use super::Stepped;
 use super::answer;
 use super::go_on;
-use super::refuse;
 use arrival::Response;
 use arrival::Shape;
 use arrival::Worker;
@@ -17,8 +14,10 @@ use words::get_word;
 use words::put_cell;
 use words::put_field;
 use words::put_word;
+use words::replies::Reply;
+use words::replies::refuse;
 
-pub fn step_4(shape: Shape, mut w: Worker, store: &mut [u64]) -> Stepped
+pub fn step_4(shape: Shape, mut w: Worker, store: &mut [u64]) -> Reply
     requires { ⌜ Ready shape (now store) w ⌝ }
     ensures { λ r. ⌜ gives (now (store .exit)) r ≡ done shape (now (store .entry)) (step-4 shape (now (store .entry)) w) ⌝ }
 {
@@ -30,7 +29,7 @@ pub fn step_4(shape: Shape, mut w: Worker, store: &mut [u64]) -> Stepped
     go_on(5, w)
 }
 
-pub fn step_5(shape: Shape, w: Worker, store: &mut [u64]) -> Stepped
+pub fn step_5(shape: Shape, w: Worker, store: &mut [u64]) -> Reply
     requires { ⌜ Ready shape (now store) w ⌝ }
     ensures { λ r. ⌜ gives (now (store .exit)) r ≡ done shape (now (store .entry)) (step-5 shape (now (store .entry)) w) ⌝ }
 {
@@ -42,7 +41,7 @@ pub fn step_5(shape: Shape, w: Worker, store: &mut [u64]) -> Stepped
     }
 }
 
-pub fn step_6(shape: Shape, mut w: Worker, store: &[u64]) -> Stepped
+pub fn step_6(shape: Shape, mut w: Worker, store: &[u64]) -> Reply
     requires { ⌜ Ready shape (now store) w ⌝ }
     ensures { λ r. ⌜ gives (now (store .entry)) r ≡ done shape (now (store .entry)) (step-6 shape (now (store .entry)) w) ⌝ }
 {
@@ -56,7 +55,7 @@ pub fn step_6(shape: Shape, mut w: Worker, store: &[u64]) -> Stepped
 }
 
 // The one stage with a refusal of its own: 11, where the epoch is the last and the swap would succeed.
-pub fn step_7(shape: Shape, w: Worker, store: &mut [u64]) -> Stepped
+pub fn step_7(shape: Shape, w: Worker, store: &mut [u64]) -> Reply
     requires { ⌜ Ready shape (now store) w ⌝ }
     ensures { λ r. ⌜ gives (now (store .exit)) r ≡ localStep-7 shape (now (store .entry)) w ⌝ }
 {

@@ -1,57 +1,44 @@
 // The by-value turn: one worker's record and the lent store, a function for each stage.
 ghost use mathlib.Core.Path.{_≡_};
 ghost use Prim.Native.Nat.{_≤_};
-ghost use Rattle.stages.specs.Gives.{gives, goesOn, answers, refuses};
+ghost use Rattle.words.specs.Done.{gives, refuses};
+ghost use Rattle.stages.specs.Gives.{goesOn, answers};
 ghost use Rattle.stages.specs.Local.{localStep};
 ghost use Rattle.stages.specs.Ready.{Ready};
 use arrival::Response;
 use arrival::Shape;
 use arrival::Worker;
+use words::replies::Reply;
+use words::replies::refuse;
 
 pub mod dequeue;
 pub mod enqueue;
 pub mod search;
 
-// A worker's record after its turn, and the response.
-pub struct Stepped {
-    pub worker: Worker,
-    pub response: Response,
-}
-
 // The call goes on at stage k.
-pub fn go_on(k: u64, mut w: Worker) -> Stepped
+pub fn go_on(k: u64, mut w: Worker) -> Reply
     ensures { λ r. ⌜ r ≡ goesOn k w ⌝ }
 {
     w.stage = k;
-    Stepped {
+    Reply {
         worker: w,
         response: Response::On,
     }
 }
 
 // The call is answered.
-pub fn answer(mut w: Worker, response: Response) -> Stepped
+pub fn answer(mut w: Worker, response: Response) -> Reply
     ensures { λ r. ⌜ r ≡ answers w response ⌝ }
 {
     w.stage = 0;
-    Stepped {
+    Reply {
         worker: w,
         response,
     }
 }
 
-// The turn is refused by number k.
-pub fn refuse(w: Worker, k: u64) -> Stepped
-    ensures { λ r. ⌜ r ≡ refuses w k ⌝ }
-{
-    Stepped {
-        worker: w,
-        response: Response::Refused(k),
-    }
-}
-
 // One turn, by the record's stage.
-pub fn step(shape: Shape, w: Worker, store: &mut [u64]) -> Stepped
+pub fn step(shape: Shape, w: Worker, store: &mut [u64]) -> Reply
     requires { ⌜ (w .stage ≤ 13 → Ready shape (now store) w) ⌝ }
     ensures { λ r. ⌜ gives (now (store .exit)) r ≡ localStep shape (now (store .entry)) w ⌝ }
 {

@@ -3,10 +3,8 @@ ghost use mathlib.Core.Path.{_≡_};
 ghost use mathlib.Core.List.{[]};
 ghost use Prim.Native.Nat.{_<_};
 ghost use Rattle.calendar.specs.SearchSteps.{found, settle, step-1, step-2, step-3};
-ghost use Rattle.words.specs.Done.{done};
-ghost use Rattle.stages.specs.Gives.{gives};
+ghost use Rattle.words.specs.Done.{done, gives};
 ghost use Rattle.stages.specs.Ready.{Ready, Holds};
-use super::Stepped;
 use super::answer;
 use super::go_on;
 use arrival::Response;
@@ -19,9 +17,10 @@ use words::get_word;
 use words::item_at;
 use words::put_cell;
 use words::put_field;
+use words::replies::Reply;
 
 // The end of a search: a put goes to 4, a take answers the arrival in its own node.
-fn end_search(shape: Shape, w: Worker, store: &[u64]) -> Stepped
+fn end_search(shape: Shape, w: Worker, store: &[u64]) -> Reply
     requires { ⌜ Holds shape (now store) (w .own) ⌝ }
     ensures { λ r. ⌜ gives (now (store .entry)) r ≡ done shape (now (store .entry)) (found shape (now (store .entry)) [] w) ⌝ }
 {
@@ -40,7 +39,7 @@ fn end_search(shape: Shape, w: Worker, store: &[u64]) -> Stepped
 }
 
 // Right has been set: at the end of the list the search ends in this turn.
-fn settle_right(shape: Shape, w: Worker, store: &[u64]) -> Stepped
+fn settle_right(shape: Shape, w: Worker, store: &[u64]) -> Reply
     requires { ⌜ Holds shape (now store) (w .own) ⌝ }
     ensures { λ r. ⌜ gives (now (store .entry)) r ≡ done shape (now (store .entry)) (settle shape (now (store .entry)) [] w) ⌝ }
 {
@@ -51,7 +50,7 @@ fn settle_right(shape: Shape, w: Worker, store: &[u64]) -> Stepped
     }
 }
 
-pub fn step_1(shape: Shape, mut w: Worker, store: &[u64]) -> Stepped
+pub fn step_1(shape: Shape, mut w: Worker, store: &[u64]) -> Reply
     requires { ⌜ Ready shape (now store) w ⌝ }
     ensures { λ r. ⌜ gives (now (store .entry)) r ≡ done shape (now (store .entry)) (step-1 shape (now (store .entry)) w) ⌝ }
 {
@@ -61,7 +60,7 @@ pub fn step_1(shape: Shape, mut w: Worker, store: &[u64]) -> Stepped
     settle_right(shape, w, store)
 }
 
-pub fn step_2(shape: Shape, mut w: Worker, store: &[u64]) -> Stepped
+pub fn step_2(shape: Shape, mut w: Worker, store: &[u64]) -> Reply
     requires { ⌜ Ready shape (now store) w ⌝ }
     requires { ⌜ w .right < shape .nodes ⌝ }
     ensures { λ r. ⌜ gives (now (store .entry)) r ≡ done shape (now (store .entry)) (step-2 shape (now (store .entry)) w) ⌝ }
@@ -83,7 +82,7 @@ pub fn step_2(shape: Shape, mut w: Worker, store: &[u64]) -> Stepped
     }
 }
 
-pub fn step_3(shape: Shape, mut w: Worker, store: &mut [u64]) -> Stepped
+pub fn step_3(shape: Shape, mut w: Worker, store: &mut [u64]) -> Reply
     requires { ⌜ Ready shape (now store) w ⌝ }
     requires { ⌜ w .right < shape .nodes ⌝ }
     ensures { λ r. ⌜ gives (now (store .exit)) r ≡ done shape (now (store .entry)) (step-3 shape (now (store .entry)) w) ⌝ }

@@ -15,15 +15,7 @@ use Rattle.calendar.specs.Layout.{started}
 use Rattle.calendar.specs.Refusals.{firstOf, badArrival, tooLate, busy, noTicket}
 use Rattle.calendar.specs.Starts.{enqueueStart, dequeueStart}
 use Rattle.words.specs.Done.{Done, done, refused, unlessRefused}
-use Rattle.starts.specs.declared.Started.{Started}
 use Rattle.starts.specs.Free.{firstFreeBelow}
-
--- the store s with what the code hands back
-abbrev pub gives : List ℕ → Started → Done
-gives s r = record { store = s; worker = r .worker; response = r .response }
-
-abbrev pub refuses : Worker → ℕ → Started
-refuses w k = record { worker = w; response = Refused k }
 
 -- 5, 6, 9 and 11, before a node is looked for; word 1 is `started`
 abbrev pub earlyRefusal : Shape → Arrival → Worker → ℕ → ℕ

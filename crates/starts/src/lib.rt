@@ -3,9 +3,9 @@ ghost use mathlib.Core.Path.{_≡_};
 ghost use Prim.Native.Nat.{_<_, _≤_};
 ghost use Rattle.calendar.specs.Layout.{writeAll, started, lastNode};
 ghost use Rattle.calendar.specs.Starts.{fill, enqueueStart, dequeueStart};
-ghost use Rattle.words.specs.Done.{done};
+ghost use Rattle.words.specs.Done.{done, gives, refuses};
 ghost use Rattle.words.specs.Laid.{Laid};
-ghost use Rattle.starts.specs.Local.{gives, refuses, earlyRefusal, localEnqueue, localDequeue};
+ghost use Rattle.starts.specs.Local.{earlyRefusal, localEnqueue, localDequeue};
 use arrival::Arrival;
 use arrival::Item;
 use arrival::Response;
@@ -16,24 +16,11 @@ use free::first_free;
 use words::get_word;
 use words::put_field;
 use words::put_word;
+use words::replies::Reply;
+use words::replies::refuse;
 
 pub mod free;
 pub mod opening;
-
-// A worker's record after its start, and the response.
-pub struct Started {
-    pub worker: Worker,
-    pub response: Response,
-}
-
-fn refuse(w: Worker, k: u64) -> Started
-    ensures { λ r. ⌜ r ≡ refuses w k ⌝ }
-{
-    Started {
-        worker: w,
-        response: Response::Refused(k),
-    }
-}
 
 // Node n gets the arrival and its ticket, and is in use.
 fn fill_node(shape: Shape, n: u64, x: Item, store: &mut [u64])
@@ -56,7 +43,7 @@ pub fn begin_enqueue(
     arrival: Arrival,
     mut w: Worker,
     store: &mut [u64],
-) -> Started
+) -> Reply
     requires { ⌜ Laid shape (now store) ⌝ }
     requires { ⌜ (started shape (now store) < 4294967296) × (n < shape .nodes) × (1 ≤ shape .width) ⌝ }
     ensures { λ r. ⌜ gives (now (store .exit)) r ≡ done shape (now (store .entry)) (enqueueStart shape (now (store .entry)) n arrival w) ⌝ }
@@ -78,14 +65,14 @@ pub fn begin_enqueue(
     w.own = n;
     w.bucket = bucket_of(shape, time);
     w.ticket = ticket;
-    Started {
+    Reply {
         worker: w,
         response: Response::Begun(ticket),
     }
 }
 
 // A take start.
-pub fn begin_dequeue(shape: Shape, mut w: Worker, store: &mut [u64]) -> Started
+pub fn begin_dequeue(shape: Shape, mut w: Worker, store: &mut [u64]) -> Reply
     requires { ⌜ Laid shape (now store) ⌝ }
     requires { ⌜ started shape (now store) < 4294967296 ⌝ }
     ensures { λ r. ⌜ gives (now (store .exit)) r ≡ done shape (now (store .entry)) (dequeueStart shape (now (store .entry)) w) ⌝ }
@@ -95,7 +82,7 @@ pub fn begin_dequeue(shape: Shape, mut w: Worker, store: &mut [u64]) -> Started
     w.stage = 8;
     w.kind = 1;
     w.ticket = ticket;
-    Started {
+    Reply {
         worker: w,
         response: Response::Begun(ticket),
     }
@@ -129,7 +116,7 @@ pub fn start_enqueue(
     arrival: Arrival,
     w: Worker,
     store: &mut [u64],
-) -> Started
+) -> Reply
     requires { ⌜ Laid shape (now store) ⌝ }
     requires { ⌜ (started shape (now store) < 4294967296) × (lastNode shape (now store) < shape .nodes) × (low ≤ 4294967296) × (1 ≤ shape .width) × (shape .width ≤ 65535) ⌝ }
     ensures { λ r. ⌜ gives (now (store .exit)) r ≡ localEnqueue shape low (now (store .entry)) arrival w ⌝ }
@@ -147,7 +134,7 @@ pub fn start_enqueue(
 }
 
 // A take start with its refusals.
-pub fn start_dequeue(shape: Shape, w: Worker, store: &mut [u64]) -> Started
+pub fn start_dequeue(shape: Shape, w: Worker, store: &mut [u64]) -> Reply
     requires { ⌜ Laid shape (now store) ⌝ }
     requires { ⌜ started shape (now store) < 4294967296 ⌝ }
     ensures { λ r. ⌜ gives (now (store .exit)) r ≡ localDequeue shape (now (store .entry)) w ⌝ }

@@ -9,6 +9,7 @@ use Rattle.arrival.specs.declared.Response.{Response}
 use Rattle.arrival.specs.declared.Response.the-variants.{Refused}
 use Rattle.calendar.specs.Layout.{writeAll}
 use Rattle.calendar.specs.Outcome.{Outcome}
+use Rattle.words.specs.declared.replies.Reply.{Reply}
 
 pub record Done : Type 0 where
   pub store : List ℕ
@@ -18,6 +19,13 @@ pub record Done : Type 0 where
 -- the outcome's writes on store s
 abbrev pub done : Shape → List ℕ → Outcome → Done
 done sh s o = record { store = writeAll sh s (o .writes); worker = o .worker; response = o .response }
+
+-- the store s with what the code hands back
+abbrev pub gives : List ℕ → Reply → Done
+gives s r = record { store = s; worker = r .worker; response = r .response }
+
+abbrev pub refuses : Worker → ℕ → Reply
+refuses w k = record { worker = w; response = Refused k }
 
 -- refused by number k
 abbrev pub refused : List ℕ → Worker → ℕ → Done

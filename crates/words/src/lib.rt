@@ -6,6 +6,8 @@ ghost use Rattle.words.specs.Laid.{Laid};
 use arrival::Item;
 use arrival::Shape;
 
+pub mod replies;
+
 // How many words the layout has.
 pub fn layout_words(shape: Shape) -> usize
     requires { ⌜ (shape .buckets ≤ 256) × (shape .nodes ≤ 4096) ⌝ }
