@@ -19,7 +19,8 @@ use words::put_cell;
 use words::put_field;
 use words::replies::Reply;
 
-// The end of a search: a put goes to 4, a take answers the arrival in its own node.
+// The end of a search: a put goes to 4, a take answers the arrival in its own node. It is called on copies: it is large and takes them by address, and
+// the caller's own then stay in registers.
 fn end_search(shape: Shape, w: Worker, store: &[u64]) -> Reply
     requires { ⌜ Holds shape (now store) (w .own) ⌝ }
     ensures { λ r. ⌜ gives (now (store .entry)) r ≡ done shape (now (store .entry)) (found shape (now (store .entry)) [] w) ⌝ }
@@ -44,7 +45,9 @@ fn settle_right(shape: Shape, w: Worker, store: &[u64]) -> Reply
     ensures { λ r. ⌜ gives (now (store .entry)) r ≡ done shape (now (store .entry)) (settle shape (now (store .entry)) [] w) ⌝ }
 {
     if w.right == shape.nodes {
-        end_search(shape, w, store)
+        let same = shape;
+        let ended = w;
+        end_search(same, ended, store)
     } else {
         go_on(2, w)
     }
@@ -78,7 +81,9 @@ pub fn step_2(shape: Shape, mut w: Worker, store: &[u64]) -> Reply
         w.right = link / 2;
         settle_right(shape, w, store)
     } else {
-        end_search(shape, w, store)
+        let same = shape;
+        let ended = w;
+        end_search(same, ended, store)
     }
 }
 
