@@ -7,7 +7,7 @@ use Prim.Native.Nat.{ℕ, zero, suc, _≤_, _<_}
 use native.Mathlib.Omega.{arith}
 use lib.Dec.{eqb, ltb}
 use lib.ListN.{length, set}
-use borrow.Author.Tests.{ltb-false, leb-false, le-leb, lt-leb, le-ltb, eq-eqb, ne-eqb}
+use borrow.Author.Tests.{eqb-true, ltb-false, leb-false, le-leb, lt-leb, le-ltb, eq-eqb, ne-eqb}
 use Rattle.arrival.specs.declared.Shape.{Shape}
 use Rattle.arrival.specs.declared.Arrival.{Arrival}
 use Rattle.arrival.specs.declared.Worker.{Worker}
@@ -166,6 +166,24 @@ open-passed sh words records e =
     let (store, table) = neither _ _ short in
     (limits sh (holds _ one), ltb-false _ _ store, ltb-false _ _ table)
 
+-- a flag that is down where 1 or 2 applies
+abbrev pub Tight : Shape → ℕ → ℕ → Bool → Type 0
+Tight sh words records sound = sound ≡ true → openGate sh words records ≡ 0
+
+-- an opening's refusals are among the gate's
+pub gate-opens : (sh : Shape) (words records i : ℕ) (sound : Bool) → gateOf sh words records i sound ≡ 0 → openGate sh words records ≡ 0
+unfolding gateOf openGate
+gate-opens sh words records i sound e =
+    let (one, short-of, three, last) = four (badShape sh) (short sh words records) (not sound) (noWorker sh i) e in
+    rw (one, short-of)
+
+-- a worker that exists passes where the flag is up and 1 and 2 do not apply
+pub passes : (sh : Shape) (words records i : ℕ) (sound : Bool) → openGate sh words records ≡ 0 → sound ≡ true → i < sh .workers → gateOf sh words records i sound ≡ 0
+unfolding gateOf openGate
+passes sh words records i sound e up h =
+    let (one, short-of) = two (badShape sh) (short sh words records) e in
+    rw (one, short-of, up, lt-leb (sh .workers) i h)
+
 -- ── the flag by a look at every field ──
 -- `ok` says that the workers' records are in range; down where the memory is too short to be looked at
 unfoldable pub soundOf : Shape → List ℕ → ℕ → Bool → Bool
@@ -183,6 +201,14 @@ shape-tests sh l =
       le-leb 1 (sh .width) (l .some-width),
       le-leb (sh .width) 65535 (l .width),
     )
+
+pub sound-opens : (sh : Shape) (s : List ℕ) (records : ℕ) (ok : Bool) → soundOf sh s records ok ≡ true → openGate sh (length s) records ≡ 0
+unfolding soundOf
+sound-opens sh s records ok = go (eqb (openGate sh (length s) records) 0) refl
+  where
+    go : (b : Bool) → eqb (openGate sh (length s) records) 0 ≡ b → cond b (storeInRange sh s && ok) false ≡ true → openGate sh (length s) records ≡ 0
+    go true e up = eqb-true (openGate sh (length s) records) 0 e
+    go false e up = absurd (let z : _≡_ {A = ℕ} 0 1 = cc in omega arith)
 
 lent-passes : (sh : Shape) (m : Memory) → Lent sh (m .store) (m .table) → openGate sh (length (m .store)) (length (m .table)) ≡ 0
 unfolding openGate

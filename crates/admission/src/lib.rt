@@ -3,7 +3,7 @@ ghost use mathlib.Core.Path.{_≡_};
 ghost use mathlib.Core.Bool.{true};
 ghost use lib.ListN.{length};
 ghost use Rattle.calendar.specs.Ranges.{shapeInRange};
-ghost use Rattle.admission.specs.Gate.{short, gateOf, openGate, soundOf};
+ghost use Rattle.admission.specs.Gate.{short, gateOf, openGate, soundOf, Tight};
 use arrival::Shape;
 use ranges::shape_in_range;
 use ranges::store_in_range;
@@ -18,7 +18,7 @@ fn is_short(shape: Shape, words: usize, records: usize) -> bool
 }
 
 // Refusals 1 to 4, or 0.
-pub fn gate(shape: Shape, words: usize, records: usize, i: u64, sound: bool) -> u64
+fn first_refusal(shape: Shape, words: usize, records: usize, i: u64, sound: bool) -> u64
     ensures { λ r. ⌜ r ≡ gateOf shape words records i sound ⌝ }
 {
     if !shape_in_range(shape) {
@@ -34,6 +34,17 @@ pub fn gate(shape: Shape, words: usize, records: usize, i: u64, sound: bool) -> 
         return 4;
     }
     0
+}
+
+// The same, at one look where the flag is up: it is down where 1 or 2 applies.
+pub fn gate(shape: Shape, words: usize, records: usize, i: u64, sound: bool) -> u64
+    requires { ⌜ Tight shape words records sound ⌝ }
+    ensures { λ r. ⌜ r ≡ gateOf shape words records i sound ⌝ }
+{
+    if sound & (i < shape.workers) {
+        return 0;
+    }
+    first_refusal(shape, words, records, i, sound)
 }
 
 // An opening's refusal, or 0.

@@ -41,7 +41,7 @@ use Rattle.turn_file.specs.Buffer.{written, after, written-length}
 use Rattle.batch.specs.Serving.{opening, acting, Progress, hasRoom, wrote, servedAll}
 use Rattle.batch.specs.Taken.{least-taken, over-taken, over-length}
 use Rattle.admission.specs.Watched.{Watched, opened-sound}
-use Rattle.admission.specs.Gate.{gateOf, openGate, open-gate-is, usable, refused-is, enqueue-is, dequeue-is, step-is, back}
+use Rattle.admission.specs.Gate.{gateOf, openGate, Tight, gate-opens, open-gate-is, usable, refused-is, enqueue-is, dequeue-is, step-is, back}
 use Rattle.batch.specs.Rounds.{Going, going, go-on, drained, halted, full, at-work, enqueue-watched, dequeue-watched, step-watched}
 
 -- What the loop keeps: `words`, `records` and `last` are what it computed from what is lent, and t is its array, of which the first records are lent.
@@ -51,6 +51,7 @@ pub record Round (bytes : List ℕ) (p₀ : Progress) (words records last : ℕ)
   pub array : length t ≡ 64
   pub lent : records ≤ 64
   pub buffer : last + 89 ≡ length lines
+  pub tight : Tight sh words records sound
 
 -- the line l of a record, written, as `write_line` tells
 abbrev pub Line : List ℕ → ℕ → Response → List ℕ → ℕ → Type 0
@@ -119,15 +120,16 @@ module _ {bytes : List ℕ} {p₀ : Progress} {words records last : ℕ} {sh : S
     -- an action a with what it leaves
     acted : (a : Action) → Act a next ≡ recordAt bytes at → (s′ : List ℕ) (t′ : List Worker) → length t′ ≡ 64
         → record { memory = record { store = s′; table = take records t′ }; response = l } ≡ act sh (record { store = s; table = take records t }) a
-        → (sound′ : Bool) → Watched sh (act sh (record { store = s; table = take records t }) a .memory) sound′ → Round bytes p₀ words records last sh s′ t′ next lines′ to′ sound′
+        → (sound′ : Bool) → Watched sh (act sh (record { store = s; table = take records t }) a .memory) sound′ → Tight sh words records sound′ → Round bytes p₀ words records last sh s′ t′ next lines′ to′ sound′
     unfolding acting
-    acted a e s′ t′ array is sound′ w = record {
+    acted a e s′ t′ array is sound′ w tight = record {
       going = go-on bytes p₀ (at-work sh s (take records t) at lines to) sound (R .going) room (acts a) next e (at-work sh s′ (take records t′) next lines′ to′) there sound′
           (subst⁻¹ (λ (r : Result). Watched sh (r .memory) sound′) is w);
       store = R .store ∙ sym (ap (λ (r : Result). length (r .memory .store)) is ∙ act-same-size sh m a .store);
       array = array;
       lent = R .lent;
       buffer = length-kept;
+      tight = tight;
     }
       where
         there : at-work sh s′ (take records t′) next lines′ to′ ≡ wrote (at-work sh s (take records t) at lines to) next (acting a (record { shape = sh; memory = record { store = s; table = take records t } }))
@@ -144,7 +146,7 @@ module _ {bytes : List ℕ} {p₀ : Progress} {words records last : ℕ} {sh : S
         let g = is ∙ gate-here (actor a) in
         let r = refused-is sh m sound W a (λ z. n (g ∙ z)) in
         acted a e s t (R .array) (ap (λ (x : Response). record { memory = m; response = x }) (said ∙ ap Refused g) ∙ r) sound
-        (subst (λ (x : Result). Watched sh (x .memory) sound) r W)
+        (subst (λ (x : Result). Watched sh (x .memory) sound) r W) (R .tight)
 
     module _ (i k : ℕ) (is : k ≡ gateOf sh words records i sound) (z : k ≡ 0) (s′ : List ℕ) (w′ : Worker) where
       -- the record stored in the array, and what that is of the lent ones
@@ -162,12 +164,12 @@ module _ {bytes : List ℕ} {p₀ : Progress} {words records last : ℕ} {sh : S
           let U = in-use i k is z in
           let among = least-taken records t (sh .workers) (omega (arith, U .lent .table, counted)) in
           let same = ap (λ (n : ℕ). localEnqueue sh n s a (worker t i)) (least ∙ sym among) ∙ ap (localEnqueue sh (leastTicket (take records t) (sh .workers)) s a) (sym (own i k is z)) in
-          acted (Enqueue i a) e s′ (set t i w′) array-kept (stored _ (d ∙ same) ∙ enqueue-is sh m sound W i a g) sound (enqueue-watched sh m i sound W g a)
+          acted (Enqueue i a) e s′ (set t i w′) array-kept (stored _ (d ∙ same) ∙ enqueue-is sh m sound W i a g) sound (enqueue-watched sh m i sound W g a) (R .tight)
 
       pub dequeued : Act (Dequeue i) next ≡ recordAt bytes at → record { store = s′; worker = w′; response = l } ≡ localDequeue sh s (worker t i) → Round bytes p₀ words records last sh s′ (set t i w′) next lines′ to′ sound
       dequeued e d =
           let g = passes i k is z in
-          acted (Dequeue i) e s′ (set t i w′) array-kept (stored _ (d ∙ ap (localDequeue sh s) (sym (own i k is z))) ∙ dequeue-is sh m sound W i g) sound (dequeue-watched sh m i sound W g)
+          acted (Dequeue i) e s′ (set t i w′) array-kept (stored _ (d ∙ ap (localDequeue sh s) (sym (own i k is z))) ∙ dequeue-is sh m sound W i g) sound (dequeue-watched sh m i sound W g) (R .tight)
 
       pub stepped : Act (Step i) next ≡ recordAt bytes at → (leak : Bool) → leak ≡ leaks sh s (worker t i) → record { store = s′; worker = w′; response = l } ≡ localStep sh s (worker t i)
           → Round bytes p₀ words records last sh s′ (set t i w′) next lines′ to′ (not leak)
@@ -175,19 +177,20 @@ module _ {bytes : List ℕ} {p₀ : Progress} {words records last : ℕ} {sh : S
           let g = passes i k is z in
           let o = sym (own i k is z) in
           acted (Step i) e s′ (set t i w′) array-kept (stored _ (d ∙ ap (localStep sh s) o) ∙ step-is sh m sound W i g) (not leak)
-          (subst⁻¹ (λ b. Watched sh (act sh m (Step i) .memory) (not b)) (is-leak ∙ ap (leaks sh s) o) (step-watched sh m i sound W g))
+          (subst⁻¹ (λ b. Watched sh (act sh m (Step i) .memory) (not b)) (is-leak ∙ ap (leaks sh s) o) (step-watched sh m i sound W g)) (λ _. gate-opens sh words records i sound (sym is ∙ z))
 
     -- an opening with what it leaves
     opened-with : (sh′ : Shape) → Open sh′ next ≡ recordAt bytes at → (sh″ : Shape) (s′ : List ℕ) (t′ : List Worker) → length t′ ≡ 64 → sh″ ≡ cond (eqb (openRefusal sh′ s (take records t)) 0) sh′ sh
         → record { memory = record { store = s′; table = take records t′ }; response = l } ≡ open-pool sh′ (record { store = s; table = take records t })
-        → (sound′ : Bool) → Watched sh″ (record { store = s′; table = take records t′ }) sound′ → Round bytes p₀ words records last sh″ s′ t′ next lines′ to′ sound′
+        → (sound′ : Bool) → Watched sh″ (record { store = s′; table = take records t′ }) sound′ → Tight sh″ words records sound′ → Round bytes p₀ words records last sh″ s′ t′ next lines′ to′ sound′
     unfolding opening
-    opened-with sh′ e sh″ s′ t′ array shape is sound′ w = record {
+    opened-with sh′ e sh″ s′ t′ array shape is sound′ w tight = record {
       going = go-on bytes p₀ (at-work sh s (take records t) at lines to) sound (R .going) room (opens sh′) next e (at-work sh″ s′ (take records t′) next lines′ to′) there sound′ w;
       store = R .store ∙ sym (ap (λ (r : Result). length (r .memory .store)) is ∙ open-same-size sh′ m .store);
       array = array;
       lent = R .lent;
       buffer = length-kept;
+      tight = tight;
     }
       where
         there : at-work sh″ s′ (take records t′) next lines′ to′ ≡ wrote (at-work sh s (take records t) at lines to) next (opening sh′ (record { shape = sh; memory = record { store = s; table = take records t } }))
@@ -203,7 +206,7 @@ module _ {bytes : List ℕ} {p₀ : Progress} {words records last : ℕ} {sh : S
     not-opened sh′ e k is n said =
         let g = is ∙ open-gate-here sh′ in
         let none = ne-eqb (openRefusal sh′ s (take records t)) 0 (λ z. n (g ∙ z)) in
-        opened-with sh′ e sh s t (R .array) (rw none) (rw (none, said, g)) sound W
+        opened-with sh′ e sh s t (R .array) (rw none) (rw (none, said, g)) sound W (R .tight)
 
     pub opened : (sh′ : Shape) → Open sh′ next ≡ recordAt bytes at → (k : ℕ) → k ≡ openGate sh′ words records → k ≡ 0 → l ≡ Opened → (s′ : List ℕ) → s′ ≡ openStore sh′ s
         → (t′ : List Worker) → t′ ≡ replicate (sh′ .workers) blank ++ drop (sh′ .workers) t → Round bytes p₀ words records last sh′ s′ t′ next lines′ to′ true
@@ -213,9 +216,12 @@ module _ {bytes : List ℕ} {p₀ : Progress} {words records last : ℕ} {sh : S
         let L = lent-to sh′ k is z in
         let array = ap length table ∙ over-length blank t (sh′ .workers) (omega (arith, L .limits .workers, R .array)) ∙ R .array in
         let first = ap (take records) table ∙ over-taken blank records t (sh′ .workers) (omega (arith, L .table, counted)) (omega (arith, R .lent, R .array)) in
-        opened-with sh′ e sh′ s′ t′ array (rw all) (rw (all, said, store, first)) true (λ _. rw (store, first) (sym (opened-sound sh′ m (L .limits))))
+        opened-with sh′ e sh′ s′ t′ array (rw all) (rw (all, said, store, first)) true (λ _. rw (store, first) (sym (opened-sound sh′ m (L .limits)))) (λ _. sym is ∙ z)
 
   -- ── the ends ──
+  pub kept : (length t ≡ 64) × (records ≤ 64) × Watched sh (record { store = s; table = take records t }) sound × Tight sh (length s) records sound
+  kept = (R .array, R .lent, W, λ up. sym (ap (λ n. openGate sh n records) (R .store)) ∙ R .tight up)
+
   pub at-drained : to ≤ last → End ≡ recordAt bytes at → record { progress = at-work sh s (take records t) at lines to; stop = Drained } ≡ servedAll bytes p₀
   at-drained fits e = drained bytes p₀ (at-work sh s (take records t) at lines to) sound (R .going) (le-leb (to + 89) (length lines) (omega (arith, R .buffer))) e
 
@@ -250,7 +256,7 @@ no-room bytes sh s lent at lines to sound watched short =
     full bytes p p sound (going bytes p sound watched) (lt-leb (to + 89) (length lines) (omega arith))
 
 pub first-round : (bytes : List ℕ) (sh : Shape) (s : List ℕ) (records : ℕ) (t : List Worker) (at : ℕ) (lines : List ℕ) (to : ℕ) (sound : Bool)
-    → Watched sh (record { store = s; table = take records t }) sound → length t ≡ 64 → records ≤ 64 → (words last : ℕ) → words ≡ length s → last + 89 ≡ length lines
+    → Watched sh (record { store = s; table = take records t }) sound → length t ≡ 64 → records ≤ 64 → (words last : ℕ) → words ≡ length s → last + 89 ≡ length lines → Tight sh words records sound
     → Round bytes (at-work sh s (take records t) at lines to) words records last sh s t at lines to sound
-first-round bytes sh s records t at lines to sound watched array lent words last store long =
-    record { going = going bytes (at-work sh s (take records t) at lines to) sound watched; store = store; array = array; lent = lent; buffer = long }
+first-round bytes sh s records t at lines to sound watched array lent words last store long tight =
+    record { going = going bytes (at-work sh s (take records t) at lines to) sound watched; store = store; array = array; lent = lent; buffer = long; tight = tight }

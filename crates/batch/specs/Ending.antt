@@ -9,6 +9,7 @@ use Rattle.batch.specs.declared.Desk.{Desk}
 use Rattle.batch.specs.declared.Progress as declared
 use Rattle.batch.specs.Serving.{Progress, Stopped}
 use Rattle.admission.specs.Watched.{Watched}
+use Rattle.admission.specs.Gate.{Tight}
 use Rattle.batch.specs.Rounds.{at-work}
 
 -- the records that are lent
@@ -18,9 +19,9 @@ lentRecords d = take (d .records) (d .table)
 abbrev pub lentTo : Desk → List ℕ → Memory
 lentTo d s = record { store = s; table = lentRecords d }
 
--- a desk lends at most the 64 records of its array, and its flag tells whether the memory is in range
+-- a desk lends at most the 64 records of its array; its flag tells whether the memory is in range, and is down where it is too short
 abbrev pub Sound : Desk → List ℕ → Type 0
-Sound d s = (length (d .table) ≡ 64) × (d .records ≤ 64) × Watched (d .shape) (lentTo d s) (d .sound)
+Sound d s = (length (d .table) ≡ 64) × (d .records ≤ 64) × Watched (d .shape) (lentTo d s) (d .sound) × Tight (d .shape) (length s) (d .records) (d .sound)
 
 abbrev pub begins : Desk → List ℕ → ℕ → List ℕ → ℕ → Progress
 begins d s at lines to = at-work (d .shape) s (lentRecords d) at lines to

@@ -1,45 +1,22 @@
--- Refusals 1 to 4 in their order, by the flag. Assumes nothing.
-use mathlib.Core.Path.{sym, _∙_}
-use borrow.Author.Tests.{le-leb, lt-leb, not-false}
-use Rattle.admission.specs.Gate.{gateOf}
+-- One look where the flag is up, else every refusal in its order. Assumes nothing.
+use mathlib.Core.Path.{sym}
+use borrow.Author.Tests.{ltb-true}
+use Rattle.arrival.specs.Tests.{parts}
+use Rattle.admission.specs.Gate.{passes}
 use borrow.Author.Needs.{needs}
 use Rattle.admission.proofs.gate.Statement.{statement}
 use Rattle.admission.proofs.gate.Tie as tie
 
-shape-in-range-requires : tie.Need-shape-in-range-requires
-shape-in-range-requires c κs = search needs
-
 returns : tie.Need-returns
-unfolding gateOf
-returns c = rw (← c .before .shape-in-range .ensures, c .if1 .taken)
+returns c =
+    let (up, exists) = parts _ _ (c .if1 .taken) in
+    sym (passes _ _ _ _ _ (c .before .before .pre up) up (ltb-true _ _ exists))
 
-is-short-requires : tie.Need-is-short-requires
-is-short-requires c κs = sym (c .before .shape-in-range .ensures) ∙ not-false _ (c .if1 .left)
+first-refusal-requires : tie.Need-first-refusal-requires
+first-refusal-requires c κs = search needs
 
 returns-2 : tie.Need-returns-2
-unfolding gateOf
-returns-2 c = rw (← c .before .before .before .shape-in-range .ensures, c .before .before .if1 .left, ← c .before .is-short .ensures, c .if2 .taken)
-
-returns-3 : tie.Need-returns-3
-unfolding gateOf
-returns-3 c = rw (← c .before .before .before .before .shape-in-range .ensures, c .before .before .before .if1 .left, ← c .before .before .is-short .ensures, c .before .if2 .left, c .if3 .taken)
-
-returns-4 : tie.Need-returns-4
-unfolding gateOf
-returns-4 c = rw (← c .before .before .before .before .before .before .shape-in-range .ensures, c .before .before .before .before .before .if1 .left, ← c .before .before .before .before .is-short .ensures, c .before .before .before .if2 .left, c .before .before .if3 .left, le-leb _ _ (c .if4 .taken))
-
-returns-5 : tie.Need-returns-5
-unfolding gateOf
-returns-5 c = rw (← c .before .before .before .before .before .before .shape-in-range .ensures, c .before .before .before .before .before .if1 .left, ← c .before .before .before .before .is-short .ensures, c .before .before .before .if2 .left, c .before .before .if3 .left, lt-leb _ _ (c .if4 .left))
+returns-2 c = c .first-refusal .ensures
 
 pub gate-spec : {M : Type 1} → statement M
-gate-spec =
-    tie.close
-    (tie.spec
-    shape-in-range-requires
-    returns
-    is-short-requires
-    returns-2
-    returns-3
-    returns-4
-    returns-5)
+gate-spec = tie.close (tie.spec returns first-refusal-requires returns-2)

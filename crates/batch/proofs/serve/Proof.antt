@@ -7,7 +7,7 @@ use Rattle.calendar.specs.Ranges.{blank, worker}
 use Rattle.starts.specs.Least.{lower, leastTicket, least-none, least-more, least-bound}
 use Rattle.batch.specs.Rounds.{at-work}
 use Rattle.batch.specs.Arms.{Round, in-use, below-64, laid-out, ready, lent-to, laid-for}
-use Rattle.batch.specs.Arms.{turned-away, enqueued, dequeued, stepped, not-opened, opened, at-drained, at-halted, at-full}
+use Rattle.batch.specs.Arms.{turned-away, enqueued, dequeued, stepped, not-opened, opened, at-drained, at-halted, at-full, kept}
 use Rattle.batch.specs.Arms.{known-open, known-act, nearer-open, nearer-act, first-round, no-room}
 use borrow.Author.Needs.{needs}
 use Rattle.batch.proofs.serve.Statement.{statement}
@@ -37,7 +37,7 @@ returns c =
 loop-holds : tie.Need-loop-holds Inv-loop2 μ-loop2 Inv-loop μ-loop
 loop-holds c =
     let pre = c .before .before .before .before .before .before .pre in
-    (first-round _ _ _ _ _ _ _ _ _ (pre .2) (pre .0) (pre .1) _ _ refl (omega arith), refl, omega arith)
+    (first-round _ _ _ _ _ _ _ _ _ (pre .2) (pre .0) (pre .1) _ _ refl (omega arith) (pre .3), refl, omega arith)
 
 read-record-requires : tie.Need-read-record-requires Inv-loop2 μ-loop2 Inv-loop μ-loop
 read-record-requires c κs = search needs
@@ -383,7 +383,7 @@ returns-2 : tie.Need-returns-2 Inv-loop2 μ-loop2 Inv-loop μ-loop
 returns-2 c =
     let R = c .before .before .before .before .loop .inv .0 in
     let is = c .before .before .read-record .ensures in
-    (at-drained R (c .before .before .before .loop-test .taken) (sym (c .enum-told .given .1) ∙ is), (R .array, R .lent, R .going .watched), refl)
+    (at-drained R (c .before .before .before .loop-test .taken) (sym (c .enum-told .given .1) ∙ is), kept R, refl)
 
 enum-known-record-3 : tie.Need-enum-known-record-3 Inv-loop2 μ-loop2 Inv-loop μ-loop
 enum-known-record-3 c = search needs
@@ -398,7 +398,7 @@ returns-3 : tie.Need-returns-3 Inv-loop2 μ-loop2 Inv-loop μ-loop
 returns-3 c =
     let R = c .before .before .before .before .before .loop .inv .0 in
     let is = c .before .before .before .read-record .ensures in
-    (at-halted R (c .before .before .before .before .loop-test .taken) _ (sym (c .before .record3 .given .1) ∙ is), (R .array, R .lent, R .going .watched), refl)
+    (at-halted R (c .before .before .before .before .loop-test .taken) _ (sym (c .before .record3 .given .1) ∙ is), kept R, refl)
 
 same-length-5 : tie.Need-same-length-5 Inv-loop2 μ-loop2 Inv-loop μ-loop
 same-length-5 c = sym (c .before .loop .inv .0 .buffer) ∙ c .before .loop .inv .2
@@ -409,7 +409,7 @@ same-length-6 c = sym (c .before .loop .inv .0 .store) ∙ c .before .loop .inv 
 returns-4 : tie.Need-returns-4 Inv-loop2 μ-loop2 Inv-loop μ-loop
 returns-4 c =
     let R = c .before .loop .inv .0 in
-    (at-full R (c .loop-test .left), (R .array, R .lent, R .going .watched), refl)
+    (at-full R (c .loop-test .left), kept R, refl)
 
 pub serve-spec : {M : Type 1} → statement M
 serve-spec =

@@ -1,3 +1,5 @@
+use mathlib.Core.Path.{sym, _∙_}
+use Rattle.admission.specs.Gate.{sound-opens}
 use Rattle.wubraken.specs.Gate.{gateOn}
 use borrow.Author.Needs.{needs}
 use Rattle.wubraken.proofs.records.gate_on.Statement.{statement}
@@ -11,7 +13,7 @@ is-sound-requires : tie.Need-is-sound-requires
 is-sound-requires c κs = search needs
 
 gate-requires : tie.Need-gate-requires
-gate-requires c κs = search needs
+gate-requires c κs = λ up. sound-opens _ _ _ _ (sym (c .is-sound .ensures) ∙ up)
 
 returns : tie.Need-returns
 unfolding gateOn

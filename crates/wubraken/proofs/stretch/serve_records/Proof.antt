@@ -4,7 +4,7 @@ use lib.ListN.{length, take}
 use Prim.Native.Nat.{ℕ}
 use native.Mathlib.Omega.{arith}
 use Rattle.admission.specs.Watched.{Watched}
-use Rattle.admission.specs.Gate.{soundOf}
+use Rattle.admission.specs.Gate.{soundOf, sound-opens}
 use Rattle.wubraken.specs.Stretch.{Account, stretchOn, stopNumber, accountOf, held-watched}
 use Rattle.wubraken.specs.Results.{lent}
 use borrow.Author.Needs.{needs}
@@ -24,7 +24,17 @@ is-sound-requires : tie.Need-is-sound-requires
 is-sound-requires c κs = search needs
 
 serve-requires : tie.Need-serve-requires
-serve-requires c κs = let a = c .before .before .before .before .before .before .before .before .args in let long : length (a .table) ≡ 64 = search needs in (long, c .before .before .before .before .before .before .before .before .pre, subst⁻¹ (λ (b : Bool). Watched (a .shape) (record { store = a .store .now; table = take (a .n) (a .table) }) b) (c .before .before .is-sound .ensures ∙ ap (soundOf (a .shape) (a .store .now) (a .n)) (c .before .before .before .before .held-in-range .ensures)) (held-watched (a .shape) (a .store .now) (a .n) (a .table) (omega (arith, long, c .before .before .before .before .before .before .before .before .pre))))
+serve-requires c κs =
+    let a = c .before .before .before .before .before .before .before .before .args in
+    let long : length (a .table) ≡ 64 = search needs in
+    let sound = c .before .before .is-sound .ensures in
+    let same = sound ∙ ap (soundOf (a .shape) (a .store .now) (a .n)) (c .before .before .before .before .held-in-range .ensures) in (
+      long,
+      c .before .before .before .before .before .before .before .before .pre,
+      subst⁻¹ (λ (b : Bool). Watched (a .shape) (record { store = a .store .now; table = take (a .n) (a .table) }) b) same
+          (held-watched (a .shape) (a .store .now) (a .n) (a .table) (omega (arith, long, c .before .before .before .before .before .before .before .before .pre))),
+      λ up. sound-opens (a .shape) (a .store .now) (a .n) _ (sym sound ∙ up),
+    )
 
 stop-number-requires : tie.Need-stop-number-requires
 stop-number-requires c κs = search needs
