@@ -147,8 +147,8 @@ typedef struct {
 
 /* Works through the records of a turn file and writes one line a record, as the
  * single calls would answer them. It looks through the lent memory once, not
- * once a record. To go on, hand in the shape it answered and the input from
- * `read` on. */
+ * once a record, and works on a copy of the first 64 records, which it stores
+ * back. To go on, hand in the shape it answered and the input from `read` on. */
 wubraken_served wubraken_serve(wubraken_shape shape,
                                const uint8_t *input, size_t bytes,
                                uint8_t *out, size_t room,
