@@ -5,10 +5,11 @@
  * wubraken_enqueue or wubraken_dequeue and goes on by wubraken_step, one shared
  * word a step, until the step answers STORED, TOOK or EMPTY.
  *
- * What the caller owes: pointers are aligned, and not null even for a length of
- * 0; the buffers of one call lie apart; nobody else uses them during the call.
- * Nothing more. Any shape, length, content and argument may be handed in; what
- * cannot be done is refused by a number and changes nothing.
+ * What the caller owes: a pointer leads to as many elements as its length says,
+ * is aligned, and is not null even for a length of 0; the buffers of one call
+ * lie apart; nobody else uses them during the call. Nothing more. Any shape,
+ * length, content and argument may be handed in; what cannot be done is refused
+ * by a number and changes nothing.
  *
  * Link target/staticlib/libwubraken.a (x86-64, System V).
  */
@@ -49,9 +50,9 @@ typedef struct {
     uint64_t own;     /* node being put in, or marked to be taken */
     uint64_t bucket;  /* bucket at work in */
     uint64_t left;    /* cell before the place searched for */
-    uint64_t right;   /* node behind that place, or the end */
+    uint64_t right;   /* node behind that place, or looked at by a dequeue; or the end */
     uint64_t seen;    /* link as last read */
-    uint64_t current; /* store word 0 as last read or written */
+    uint64_t current; /* store word 0 as read at stages 4, 6, 8 or written at 12 */
     uint64_t ticket;  /* place of the call among all calls begun */
 } wubraken_worker;
 
@@ -101,7 +102,7 @@ typedef struct {
     uint64_t number;
     uint64_t ticket;
     uint64_t time, path, order, distance;
-    uint64_t energy; /* 2^24 / distance^2, rounded down */
+    uint64_t energy; /* 2^24 / distance^2, rounded down; 0 at distance 0 */
 } wubraken_answer;
 
 /* Words to lend for a shape; 0 if the shape is outside its limits. */
@@ -132,7 +133,7 @@ wubraken_answer wubraken_step(wubraken_shape shape, uint64_t worker,
  * because the rest of it has not been handed in yet. */
 enum {
     WUBRAKEN_DRAINED = 0, /* all of the input is worked through */
-    WUBRAKEN_FULL = 1     /* fewer than WUBRAKEN_LINE bytes of room are left */
+    WUBRAKEN_FULL = 1     /* fewer than WUBRAKEN_LINE bytes of room are left, with or without input */
 };
 
 /* No line is longer. */
@@ -147,8 +148,10 @@ typedef struct {
 
 /* Works through the records of a turn file and writes one line a record, as the
  * single calls would answer them. It looks through the lent memory once, not
- * once a record, and works on a copy of the first 64 records, which it stores
- * back. To go on, hand in the shape it answered and the input from `read` on. */
+ * once a record, and works on a copy of the lent records, at most 64, which it
+ * stores back: lend no more than the workers need, at least WUBRAKEN_LINE bytes
+ * of room, and some 20 KB of stack. To go on, hand in the shape it answered and
+ * the input from `read` on. */
 wubraken_served wubraken_serve(wubraken_shape shape,
                                const uint8_t *input, size_t bytes,
                                uint8_t *out, size_t room,

@@ -85,7 +85,7 @@ module _ (sh : Shape) (s : List ℕ) (t u : List Worker) (long : sh .workers ≤
   outcome-same (Dequeue i) h = rw (same i h)
   outcome-same (Step i) h = rw (same i h)
 
-  act-same : (a : Action) → act sh (record { store = s; table = t ++ u }) a ≡ keeping (act sh (record { store = s; table = t }) a) u
+  pub act-same : (a : Action) → act sh (record { store = s; table = t ++ u }) a ≡ keeping (act sh (record { store = s; table = t }) a) u
   unfolding act
   act-same a = rw (refusal-same a) (go (eqb (refusal sh m a) 0) refl)
     where
@@ -99,7 +99,7 @@ module _ (sh : Shape) (s : List ℕ) (t u : List Worker) (long : sh .workers ≤
           (set-append-left t u (actor a) (outcome sh m a .worker) (omega (arith, long, h)))
       go false e = refl
 
-  open-same : open-pool sh (record { store = s; table = t ++ u }) ≡ keeping (open-pool sh (record { store = s; table = t })) u
+  pub open-same : open-pool sh (record { store = s; table = t ++ u }) ≡ keeping (open-pool sh (record { store = s; table = t })) u
   unfolding open-pool openRefusal openTable
   open-same = rw (long-enough) (go (eqb (openRefusal sh s t) 0))
     where

@@ -5,6 +5,7 @@ use Prim.Native.Nat.{ℕ}
 use lib.ListN.{getD}
 use Rattle.arrival.specs.declared.Response.{Response}
 use Rattle.arrival.specs.declared.Response.the-variants.{Opened, Begun, On, Stored, Took, Empty, Refused}
+use Rattle.arrival.specs.Responses.{Said, said}
 use Rattle.wubraken.specs.declared.answers.Answer.{Answer}
 
 -- of one value at most
@@ -20,7 +21,7 @@ answerOf (Took time path order distance energy) = record { kind = 4; number = 0;
 answerOf Empty = brief 5 0 0
 answerOf (Refused number) = brief 6 number 0
 
--- by its kind
+-- read back by its kind
 abbrev pub responseOf : Answer → Response
 responseOf a =
     getD (Opened ∷ Begun (a .ticket) ∷ On ∷ Stored (a .ticket) ∷ Took (a .time) (a .path) (a .order) (a .distance) (a .energy) ∷ Empty ∷ []) (a .kind) (Refused (a .number))
@@ -33,3 +34,19 @@ answer-tells (Stored ticket) = refl
 answer-tells (Took time path order distance energy) = refl
 answer-tells Empty = refl
 answer-tells (Refused number) = refl
+
+-- the number and the values of document 01
+abbrev pub saidBy : Answer → Said
+saidBy a = record {
+  number = a .number;
+  values = getD ([] ∷ (a .ticket ∷ []) ∷ [] ∷ (a .ticket ∷ []) ∷ (a .time ∷ a .path ∷ a .order ∷ a .distance ∷ a .energy ∷ []) ∷ []) (a .kind) [];
+}
+
+pub answer-said : (r : Response) → saidBy (answerOf r) ≡ said r
+answer-said Opened = refl
+answer-said (Begun ticket) = refl
+answer-said On = refl
+answer-said (Stored ticket) = refl
+answer-said (Took time path order distance energy) = refl
+answer-said Empty = refl
+answer-said (Refused number) = refl

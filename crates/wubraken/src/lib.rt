@@ -1,5 +1,5 @@
-// The library for hosts: entry points over lent memory, whatever it holds, for C and Rust to call. Each copies one record out, calls a function by
-// value, and stores the record back.
+// The library for hosts: entry points over lent memory, whatever it holds, for C and Rust to call. A start or turn copies one record out, calls a function
+// by value, and stores the record back; a stretch does so with all records.
 ghost use mathlib.Core.Path.{_≡_};
 ghost use mathlib.Core.Bool.{cond};
 ghost use Rattle.arrival.specs.declared.Action.the-variants.{Enqueue, Dequeue, Step};

@@ -35,7 +35,7 @@ fn gate_on(shape: Shape, i: usize, n: usize, seen: Survey, store: &[u64]) -> u64
     gate(shape, store.len(), n, i as u64, sound)
 }
 
-// The answer where worker i has no record.
+// The answer where worker i's record was not looked at.
 pub fn turn_away(shape: Shape, i: usize, n: usize, seen: Survey, store: &mut [u64]) -> Answer
     ensures { λ r. ⌜ (r ≡ answerOf (Refused (gateOn shape (now (store .entry)) i n (seen .ok)))) × (now (store .exit) ≡ now (store .entry)) ⌝ }
 {

@@ -10,7 +10,7 @@ pub struct Taken {
     pub path: u64,
     pub order: u64,
     pub distance: u64,
-    /// 2^24 / distance², rounded down.
+    /// 2^24 / distance², rounded down; 0 at distance 0.
     pub energy: u64,
 }
 
@@ -33,7 +33,7 @@ pub enum Step {
 pub enum Stop {
     /// All of the input is worked through.
     Drained,
-    /// Fewer than [`LINE`](crate::LINE) bytes of room are left.
+    /// Fewer than [`LINE`](crate::LINE) bytes of room are left, with or without input.
     Full,
     /// What follows is no record: [`Refusal::UnknownMark`], or
     /// [`Refusal::CutRecord`], which may only mean that the rest is to come. No

@@ -34,6 +34,9 @@
 //! The library is linked from the repository's `target/staticlib`, where
 //! `rt staticlib wubraken` writes it, or from the directory `WUBRAKEN_LIB_DIR`.
 
+#[cfg(not(all(target_arch = "x86_64", target_pointer_width = "64")))]
+compile_error!("the proved library is compiled for 64-bit x86-64");
+
 mod answer;
 mod pool;
 mod refusal;

@@ -63,11 +63,11 @@ pub struct Worker {
     pub bucket: u64,
     /// The cell before the place searched for.
     pub left: u64,
-    /// The node behind that place, or the end.
+    /// The node behind that place, or looked at by a dequeue; or the end.
     pub right: u64,
     /// The link as last read.
     pub seen: u64,
-    /// Store word 0 as last read or written.
+    /// Store word 0 as read at stages 4, 6, 8 or written at 12.
     pub current: u64,
     /// The place of the call among all calls begun.
     pub ticket: u64,
