@@ -27,3 +27,4 @@ pub mod LedgerRun
 pub mod Opened
 pub mod Acting
 pub mod RecordsBeyond
+pub mod LowestFirst

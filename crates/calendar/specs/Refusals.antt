@@ -60,13 +60,12 @@ abbrev pub firstOf : List (ℕ × Bool) → ℕ
 firstOf [] = 0
 firstOf (x ∷ xs) = cond (x .1) (x .0) (firstOf xs)
 
--- The lowest number that applies is the answer.
-unfoldable pub openRefusal : Shape → List ℕ → List Worker → ℕ
-openRefusal sh s t = firstOf ((1, badShape sh) ∷ (2, tooShort sh s t) ∷ [])
+-- Which refusals an operation can get.
+abbrev pub openTests : Shape → List ℕ → List Worker → List (ℕ × Bool)
+openTests sh s t = (1, badShape sh) ∷ (2, tooShort sh s t) ∷ []
 
-unfoldable pub enqueueRefusal : Shape → List ℕ → List Worker → ℕ → Arrival → ℕ
-enqueueRefusal sh s t i a =
-    firstOf (
+abbrev pub enqueueTests : Shape → List ℕ → List Worker → ℕ → Arrival → List (ℕ × Bool)
+enqueueTests sh s t i a =
     (1, badShape sh)
     ∷ (2, tooShort sh s t)
     ∷ (3, outOfRange sh s t)
@@ -77,11 +76,9 @@ enqueueRefusal sh s t i a =
     ∷ (11, noTicket sh s)
     ∷ (12, noNode sh s t)
     ∷ []
-    )
 
-unfoldable pub dequeueRefusal : Shape → List ℕ → List Worker → ℕ → ℕ
-dequeueRefusal sh s t i =
-    firstOf (
+abbrev pub dequeueTests : Shape → List ℕ → List Worker → ℕ → List (ℕ × Bool)
+dequeueTests sh s t i =
     (1, badShape sh)
     ∷ (2, tooShort sh s t)
     ∷ (3, outOfRange sh s t)
@@ -89,11 +86,9 @@ dequeueRefusal sh s t i =
     ∷ (9, busy (worker t i))
     ∷ (11, noTicket sh s)
     ∷ []
-    )
 
-unfoldable pub stepRefusal : Shape → List ℕ → List Worker → ℕ → ℕ
-stepRefusal sh s t i =
-    firstOf (
+abbrev pub stepTests : Shape → List ℕ → List Worker → ℕ → List (ℕ × Bool)
+stepTests sh s t i =
     (1, badShape sh)
     ∷ (2, tooShort sh s t)
     ∷ (3, outOfRange sh s t)
@@ -101,4 +96,16 @@ stepRefusal sh s t i =
     ∷ (10, idle (worker t i))
     ∷ (11, noEpoch sh s (worker t i))
     ∷ []
-    )
+
+-- The lowest number that applies is the answer.
+unfoldable pub openRefusal : Shape → List ℕ → List Worker → ℕ
+openRefusal sh s t = firstOf (openTests sh s t)
+
+unfoldable pub enqueueRefusal : Shape → List ℕ → List Worker → ℕ → Arrival → ℕ
+enqueueRefusal sh s t i a = firstOf (enqueueTests sh s t i a)
+
+unfoldable pub dequeueRefusal : Shape → List ℕ → List Worker → ℕ → ℕ
+dequeueRefusal sh s t i = firstOf (dequeueTests sh s t i)
+
+unfoldable pub stepRefusal : Shape → List ℕ → List Worker → ℕ → ℕ
+stepRefusal sh s t i = firstOf (stepTests sh s t i)
