@@ -4,3 +4,4 @@ pub mod Energy
 pub mod Responses
 pub mod Queue
 pub mod QueueRun
+pub mod Storing

@@ -1,12 +1,9 @@
 // A stretch of a turn file against a pool: whole records in, lines out.
 ghost use mathlib.Core.Path.{_≡_};
-ghost use lib.ListN.{length};
 ghost use Rattle.calendar.specs.RangesKept.{leaks};
 ghost use Rattle.stages.specs.Ready.{Ready};
 ghost use Rattle.batch.specs.Serving.{servedAll};
-ghost use Rattle.admission.specs.Watched.{Watched};
-ghost use Rattle.batch.specs.Rounds.{at-work};
-ghost use Rattle.batch.specs.Ending.{lentTo, begins, ends, Sound};
+ghost use Rattle.batch.specs.Ending.{begins, ends, Sound};
 use admission::gate;
 use admission::open_gate;
 use arrival::Action;

@@ -1,21 +1,16 @@
 -- Bytes moved to the front of their own list, one by one. Assumes nothing.
 use mathlib.Core.Path.{_≡_, refl, sym, ap, _∙_}
-use mathlib.Core.List.{List, [], _∷_, _++_}
-use Prim.Native.Nat.{ℕ, zero, suc, _+_, _<_}
+use mathlib.Core.List.{List, _++_}
+use Prim.Native.Nat.{ℕ, _+_, _<_}
 use native.Mathlib.Omega.{arith}
 use native.Mathlib.Numerals.{add-one}
 use lib.ListN.{length, getD, set, take, drop, length-drop}
 use lib.Seq.{getD-append-add, getD-drop, length-take-le}
+use Rattle.arrival.specs.Storing.{store-next}
 
 -- the first n bytes are those from `at` on, the rest is as it was
 unfoldable pub moved : ℕ → ℕ → List ℕ → List ℕ
 moved at n xs = take n (drop at xs) ++ drop n xs
-
-put-next : (k : ℕ) (rs ys : List ℕ) → k < length rs → k < length ys → set (take k rs ++ drop k ys) k (getD rs k 0) ≡ take (suc k) rs ++ drop (suc k) ys
-put-next k [] ys h l = absurd (omega arith)
-put-next k (r ∷ rs) [] h l = absurd (omega arith)
-put-next zero (r ∷ rs) (y ∷ ys) h l = refl
-put-next (suc k) (r ∷ rs) (y ∷ ys) h l = ap (λ (us : List ℕ). r ∷ us) (put-next k rs ys (omega arith) (omega arith))
 
 module _ (at : ℕ) (xs : List ℕ) where
   pub none-moved : xs ≡ moved at 0 xs
@@ -26,7 +21,7 @@ module _ (at : ℕ) (xs : List ℕ) where
   pub moved-more : (i : ℕ) → at + i < length xs → set (moved at i xs) i (getD (moved at i xs) (at + i) 0) ≡ moved at (i + 1) xs
   unfolding moved
   moved-more i h =
-      ap (set (take i (drop at xs) ++ drop i xs) i) value ∙ put-next i (drop at xs) xs (omega (arith, length-drop at xs)) (omega arith) ∙ rw add-one
+      ap (set (take i (drop at xs) ++ drop i xs) i) value ∙ store-next 0 i (drop at xs) xs (omega (arith, length-drop at xs)) (omega arith) ∙ rw add-one
     where
       front : length (take i (drop at xs)) ≡ i
       front = length-take-le i (drop at xs) (omega (arith, length-drop at xs))

@@ -1,24 +1,19 @@
 -- Records stored over others, one by one from the front. Assumes nothing.
 use mathlib.Core.Path.{_≡_, refl, sym, ap, _∙_}
-use mathlib.Core.List.{List, [], _∷_, _++_}
+use mathlib.Core.List.{List, _++_}
 use Prim.Native.Nat.{ℕ, zero, suc, _+_, _<_, _≤_}
 use native.Mathlib.Omega.{arith}
 use native.Mathlib.Numerals.{add-one}
 use lib.ListN.{length, getD, set, take, drop, length-set}
 use lib.Seq.{take-at, length-take-le}
 use Rattle.arrival.specs.declared.Worker.{Worker}
+use Rattle.arrival.specs.Storing.{store-next}
 use Rattle.calendar.specs.Ranges.{blank}
 
 -- the first k of rs over those of ys
 unfoldable pub storedOf : List Worker → List Worker → ℕ → List Worker
 storedOf rs ys zero = ys
 storedOf rs ys (suc k) = set (storedOf rs ys k) k (getD rs k blank)
-
-put-next : (k : ℕ) (rs ys : List Worker) → k < length rs → k < length ys → set (take k rs ++ drop k ys) k (getD rs k blank) ≡ take (suc k) rs ++ drop (suc k) ys
-put-next k [] ys h l = absurd (omega arith)
-put-next k (r ∷ rs) [] h l = absurd (omega arith)
-put-next zero (r ∷ rs) (y ∷ ys) h l = refl
-put-next (suc k) (r ∷ rs) (y ∷ ys) h l = ap (λ (us : List Worker). r ∷ us) (put-next k rs ys (omega arith) (omega arith))
 
 module _ (rs ys : List Worker) where
   pub start : ys ≡ storedOf rs ys 0
@@ -38,7 +33,7 @@ module _ (rs ys : List Worker) where
 
   pub closed : (k : ℕ) → k ≤ length rs → k ≤ length ys → storedOf rs ys k ≡ take k rs ++ drop k ys
   closed zero h l = sym start
-  closed (suc k) h l = sym (more k) ∙ ap (λ (us : List Worker). set us k (getD rs k blank)) (closed k (omega arith) (omega arith)) ∙ put-next k rs ys h l
+  closed (suc k) h l = sym (more k) ∙ ap (λ (us : List Worker). set us k (getD rs k blank)) (closed k (omega arith) (omega arith)) ∙ store-next blank k rs ys h l
 
   pub same-first : (k : ℕ) → k ≤ length rs → k ≤ length ys → take k (storedOf rs ys k) ≡ take k rs
   same-first k h l = ap (take k) (closed k h l) ∙ take-at (take k rs) (drop k ys) k (length-take-le k rs h)
