@@ -1,11 +1,9 @@
+-- Each response becomes its numbers, arm by arm. Assumes nothing.
 use mathlib.Core.Path.{sym, ap, _∙_}
 use Rattle.wubraken.specs.Answers.{answerOf}
 use borrow.Author.Needs.{needs}
 use Rattle.wubraken.proofs.answers.answer_of.Statement.{statement}
 use Rattle.wubraken.proofs.answers.answer_of.Tie as tie
-use Rattle.wubraken.proofs.answers.answer_of.Reads as reads
-use Rattle.wubraken.proofs.answers.answer_of.Lts as lts
-use Rattle.wubraken.proofs.answers.brief_answer.Reads as brief-answer-reads
 
 enum-told : tie.Need-enum-told
 enum-told c = search needs

@@ -1,3 +1,4 @@
+-- A take start is refused by the gate, or is the record's start. Assumes nothing.
 use mathlib.Core.Path.{sym, _∙_}
 use borrow.Author.Tests.{eq-eqb, ne-eqb}
 use Rattle.wubraken.specs.Gate.{passed}
@@ -5,11 +6,6 @@ use Rattle.wubraken.specs.Results.{dequeueOn}
 use borrow.Author.Needs.{needs}
 use Rattle.wubraken.proofs.records.dequeue_record.Statement.{statement}
 use Rattle.wubraken.proofs.records.dequeue_record.Tie as tie
-use Rattle.wubraken.proofs.records.dequeue_record.Reads as reads
-use Rattle.wubraken.proofs.records.dequeue_record.Lts as lts
-use Rattle.starts.proofs.start_dequeue.Reads as start-dequeue-reads
-use Rattle.wubraken.proofs.answers.answer_of.Reads as answer-of-reads
-use Rattle.wubraken.proofs.records.gate_on.Reads as gate-on-reads
 
 gate-on-requires : tie.Need-gate-on-requires
 gate-on-requires c κs = search needs

@@ -1,13 +1,10 @@
+-- The gate with the flag of a look at every field. Assumes nothing.
 use mathlib.Core.Path.{sym, _∙_}
 use Rattle.admission.specs.Gate.{sound-opens}
 use Rattle.wubraken.specs.Gate.{gateOn}
 use borrow.Author.Needs.{needs}
 use Rattle.wubraken.proofs.records.gate_on.Statement.{statement}
 use Rattle.wubraken.proofs.records.gate_on.Tie as tie
-use Rattle.wubraken.proofs.records.gate_on.Reads as reads
-use Rattle.wubraken.proofs.records.gate_on.Lts as lts
-use Rattle.admission.proofs.gate.Reads as gate-reads
-use Rattle.admission.proofs.is_sound.Reads as is-sound-reads
 
 is-sound-requires : tie.Need-is-sound-requires
 is-sound-requires c κs = search needs

@@ -1,3 +1,4 @@
+-- Opening the store is refused, or writes its words. Assumes nothing.
 use mathlib.Core.Path.{refl, sym, _∙_}
 use native.Mathlib.Omega.{arith}
 use borrow.Author.Tests.{eq-eqb, ne-eqb}
@@ -7,11 +8,6 @@ use Rattle.wubraken.specs.Results.{opensWords}
 use borrow.Author.Needs.{needs}
 use Rattle.wubraken.proofs.records.open_words.Statement.{statement}
 use Rattle.wubraken.proofs.records.open_words.Tie as tie
-use Rattle.wubraken.proofs.records.open_words.Reads as reads
-use Rattle.wubraken.proofs.records.open_words.Lts as lts
-use Rattle.admission.proofs.open_gate.Reads as open-gate-reads
-use Rattle.starts.proofs.opening.open_store.Reads as open-store-reads
-use Rattle.wubraken.proofs.answers.answer_of.Reads as answer-of-reads
 
 open-gate-requires : tie.Need-open-gate-requires
 open-gate-requires c κs = search needs

@@ -1,3 +1,4 @@
+-- A turn is refused by the gate, or is the record's turn. Assumes nothing.
 use mathlib.Core.Path.{sym, _∙_}
 use borrow.Author.Tests.{eq-eqb, ne-eqb}
 use Rattle.calendar.specs.RangeFacts.{record-ranges}
@@ -7,11 +8,6 @@ use Rattle.wubraken.specs.Results.{stepOn}
 use borrow.Author.Needs.{needs}
 use Rattle.wubraken.proofs.records.step_record.Statement.{statement}
 use Rattle.wubraken.proofs.records.step_record.Tie as tie
-use Rattle.wubraken.proofs.records.step_record.Reads as reads
-use Rattle.wubraken.proofs.records.step_record.Lts as lts
-use Rattle.stages.proofs.step.Reads as step-reads
-use Rattle.wubraken.proofs.answers.answer_of.Reads as answer-of-reads
-use Rattle.wubraken.proofs.records.gate_on.Reads as gate-on-reads
 
 gate-on-requires : tie.Need-gate-on-requires
 gate-on-requires c κs = search needs

@@ -1,13 +1,10 @@
+-- The gate's refusal as an answer; the store is not touched. Assumes nothing.
 use mathlib.Core.Path.{refl, ap, _∙_}
 use Rattle.arrival.specs.declared.Response.the-variants.{Refused}
 use Rattle.wubraken.specs.Answers.{answerOf}
 use borrow.Author.Needs.{needs}
 use Rattle.wubraken.proofs.records.turn_away.Statement.{statement}
 use Rattle.wubraken.proofs.records.turn_away.Tie as tie
-use Rattle.wubraken.proofs.records.turn_away.Reads as reads
-use Rattle.wubraken.proofs.records.turn_away.Lts as lts
-use Rattle.wubraken.proofs.answers.answer_of.Reads as answer-of-reads
-use Rattle.wubraken.proofs.records.gate_on.Reads as gate-on-reads
 
 gate-on-requires : tie.Need-gate-on-requires
 gate-on-requires c κs = search needs

@@ -11,10 +11,6 @@ use Rattle.wubraken.specs.Stretch.{heldInRange}
 use borrow.Author.Needs.{needs}
 use Rattle.wubraken.proofs.stretch.held_in_range.Statement.{statement}
 use Rattle.wubraken.proofs.stretch.held_in_range.Tie as tie
-use Rattle.wubraken.proofs.stretch.held_in_range.Reads as reads
-use Rattle.wubraken.proofs.stretch.held_in_range.Lts as lts
-use Rattle.ranges.proofs.record_in_range.Reads as record-in-range-reads
-use Rattle.wubraken.proofs.table.records_surveyed.Reads as records-surveyed-reads
 
 abbrev Inv-loop : tie.InvT-loop
 Inv-loop shape n table end ok₀ k₀ ok k = (k ≤ end) × (ok ≡ every k (λ i. recordInRange shape (worker table i)))

@@ -1,3 +1,4 @@
+-- The desk of held records is sound, and what `batch::serve` leaves is told in numbers. Assumes nothing.
 use mathlib.Core.Path.{_≡_, sym, ap, _∙_, subst⁻¹}
 use mathlib.Core.Bool.{Bool}
 use lib.ListN.{length, take}
@@ -10,12 +11,6 @@ use Rattle.wubraken.specs.Results.{lent}
 use borrow.Author.Needs.{needs}
 use Rattle.wubraken.proofs.stretch.serve_records.Statement.{statement}
 use Rattle.wubraken.proofs.stretch.serve_records.Tie as tie
-use Rattle.wubraken.proofs.stretch.serve_records.Reads as reads
-use Rattle.wubraken.proofs.stretch.serve_records.Lts as lts
-use Rattle.admission.proofs.is_sound.Reads as is-sound-reads
-use Rattle.batch.proofs.serve.Reads as serve-reads
-use Rattle.wubraken.proofs.stretch.held_in_range.Reads as held-in-range-reads
-use Rattle.wubraken.proofs.stretch.stop_number.Reads as stop-number-reads
 
 held-in-range-requires : tie.Need-held-in-range-requires
 held-in-range-requires c κs = search needs
