@@ -80,7 +80,7 @@ module _ (sh : Shape) (s : List ℕ) where
       (λ e. meets (eqb-false (v .right) (sh .nodes) e))
 
 -- a property of each rule of a list, by its number
-abbrev Each : (ℕ → Rule → Type 0) → ℕ → List Rule → Type 0
+abbrev pub Each : (ℕ → Rule → Type 0) → ℕ → List Rule → Type 0
 Each P k [] = Unit {0}
 Each P k (r ∷ rs) = P k r × Each P (suc k) rs
 
@@ -89,7 +89,7 @@ each-at P k [] d h n l = absurd (omega arith)
 each-at P k (r ∷ rs) d h zero l = rw add-zero (h .0)
 each-at P k (r ∷ rs) d h (suc n) l = rw (add-suc, ← suc-add) (each-at P (suc k) rs d (h .1) n (omega arith))
 
-by-stage : (P : ℕ → Rule → Type 0) → Each P 0 rules → (n : ℕ) → n ≤ 13 → P n (getD rules n no-step)
+pub by-stage : (P : ℕ → Rule → Type 0) → Each P 0 rules → (n : ℕ) → n ≤ 13 → P n (getD rules n no-step)
 by-stage P h n l = subst (λ j. P j (getD rules n no-step)) (omega arith) (each-at P 0 rules no-step h n (omega arith))
 
 -- EVERY TURN IS ONE OF THE CHANGES

@@ -28,3 +28,4 @@ pub mod Opened
 pub mod Acting
 pub mod RecordsBeyond
 pub mod LowestFirst
+pub mod OneWord
