@@ -1,4 +1,4 @@
--- The first free node is a node and free, and where there is none no node is free. Assumes nothing.
+-- The first free node is a node, free, and the first; where there is none no node is free. Assumes nothing.
 use mathlib.Core.Path.{_≡_, refl, sym, ap, _∙_}
 use mathlib.Core.List.{List}
 use mathlib.Core.Bool.{Bool, true, false, cond}
@@ -19,6 +19,10 @@ after-below sh n h = go (ltb (n + 1) (sh .nodes)) refl
     go : (t : Bool) → ltb (n + 1) (sh .nodes) ≡ t → cond t (n + 1) 0 < sh .nodes
     go true e = ltb-true _ _ e
     go false e = omega arith
+
+-- x comes before y on the way round from the node after n
+abbrev pub Before : ℕ → ℕ → ℕ → Type 0
+Before n x y = ((n < x) × (x < y)) ⊎ ((y ≤ n) × ((n < x) ⊎ (x < y)))
 
 module _ (sh : Shape) (s : List ℕ) (t : List Worker) where
   abbrev Free : ℕ → Bool
@@ -42,6 +46,40 @@ module _ (sh : Shape) (s : List ℕ) (t : List Worker) where
   pub first-free-free : lastNode sh s < sh .nodes → firstFree sh s t ≢ sh .nodes → isFree sh t (standing sh s (firstFree sh s t)) ≡ true
   unfolding firstFree
   first-free-free l h = first-of (sh .nodes) (lastNode sh s) l h .1
+
+  -- one step on, it still does
+  nearer : (n x y : ℕ) → n < sh .nodes → x < sh .nodes → (v : Bool) → ltb (n + 1) (sh .nodes) ≡ v → x ≢ cond v (n + 1) 0 → Before n x y → Before (cond v (n + 1) 0) x y
+  nearer n x y hn hx true g d (inl p) = inl (omega arith, omega arith)
+  nearer n x y hn hx true g d (inr (p, inl q)) = inr (omega arith, inl (omega arith))
+  nearer n x y hn hx true g d (inr (p, inr q)) = inr (omega arith, inr q)
+  nearer n x y hn hx false g d (inl p) = absurd (omega (arith, ltb-false (n + 1) (sh .nodes) g))
+  nearer n x y hn hx false g d (inr (p, inl q)) = absurd (omega (arith, ltb-false (n + 1) (sh .nodes) g))
+  nearer n x y hn hx false g d (inr (p, inr q)) = inl (omega arith, q)
+
+  -- nothing comes before the very next
+  next-first : (n x : ℕ) → n < sh .nodes → x < sh .nodes → (v : Bool) → ltb (n + 1) (sh .nodes) ≡ v → Before n x (cond v (n + 1) 0) → ⊥
+  next-first n x hn hx true g (inl p) = omega arith
+  next-first n x hn hx true g (inr p) = omega arith
+  next-first n x hn hx false g (inl p) = omega arith
+  next-first n x hn hx false g (inr (p, inl q)) = omega (arith, ltb-false (n + 1) (sh .nodes) g)
+  next-first n x hn hx false g (inr (p, inr q)) = omega arith
+
+  not-before : (k n : ℕ) → n < sh .nodes → firstFreeOf sh s t k n ≢ sh .nodes → (x : ℕ) → x < sh .nodes → Before n x (firstFreeOf sh s t k n) → Free x ≡ false
+  unfolding firstFreeOf
+  not-before zero n hn e x hx p = absurd (e refl)
+  not-before (suc k) n hn e x hx p = go (Free (nodeAfter sh n)) refl e (ℕ-discrete x (nodeAfter sh n)) p (λ q r. not-before k (nodeAfter sh n) (after-below sh n hn) q x hx r)
+    where
+      go : (u : Bool) → Free (nodeAfter sh n) ≡ u → cond u (nodeAfter sh n) (firstFreeOf sh s t k (nodeAfter sh n)) ≢ sh .nodes
+          → Dec (x ≡ nodeAfter sh n) → Before n x (cond u (nodeAfter sh n) (firstFreeOf sh s t k (nodeAfter sh n)))
+          → (firstFreeOf sh s t k (nodeAfter sh n) ≢ sh .nodes → Before (nodeAfter sh n) x (firstFreeOf sh s t k (nodeAfter sh n)) → Free x ≡ false) → Free x ≡ false
+      go true f q d r rec = absurd (next-first n x hn hx (ltb (n + 1) (sh .nodes)) refl r)
+      go false f q (yes d) r rec = rw d f
+      go false f q (no d) r rec = rec q (nearer n x _ hn hx (ltb (n + 1) (sh .nodes)) refl d r)
+
+  -- FIRST MEANS FIRST: no node between word 2 and the one handed out, going round, is free.
+  pub none-before : lastNode sh s < sh .nodes → firstFree sh s t ≢ sh .nodes → (x : ℕ) → x < sh .nodes → Before (lastNode sh s) x (firstFree sh s t) → isFree sh t (standing sh s x) ≡ false
+  unfolding firstFree
+  none-before l h = not-before (sh .nodes) (lastNode sh s) l h
 
   -- x is among the k nodes that follow n
   abbrev Among : ℕ → ℕ → ℕ → Type 0

@@ -29,3 +29,4 @@ pub mod Acting
 pub mod RecordsBeyond
 pub mod LowestFirst
 pub mod OneWord
+pub mod WordsBeyond
