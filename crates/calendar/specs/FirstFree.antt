@@ -1,12 +1,12 @@
 -- The first free node is a node, free, and the first; where there is none no node is free. Assumes nothing.
-use mathlib.Core.Path.{_≡_, refl, sym, ap, _∙_}
+use mathlib.Core.Path.{_≡_, refl}
 use mathlib.Core.List.{List}
 use mathlib.Core.Bool.{Bool, true, false, cond}
 use mathlib.Core.Logic.{_⊎_, inl, inr, _≢_}
-use Prim.Native.Nat.{ℕ, zero, suc, _+_, _-_, _<_, _≤_}
+use Prim.Native.Nat.{ℕ, zero, suc, _+_, _<_, _≤_}
 use native.Mathlib.Omega.{arith}
 use native.Mathlib.Decide.{decLt, ℕ-discrete}
-use lib.Dec.{eqb, leb, ltb}
+use lib.Dec.{ltb}
 use borrow.Author.Tests.{ltb-true, ltb-false}
 use Rattle.arrival.specs.declared.Shape.{Shape}
 use Rattle.arrival.specs.declared.Worker.{Worker}
@@ -54,7 +54,7 @@ module _ (sh : Shape) (s : List ℕ) (t : List Worker) where
   nearer n x y hn hx true g d (inr (p, inr q)) = inr (omega arith, inr q)
   nearer n x y hn hx false g d (inl p) = absurd (omega (arith, ltb-false (n + 1) (sh .nodes) g))
   nearer n x y hn hx false g d (inr (p, inl q)) = absurd (omega (arith, ltb-false (n + 1) (sh .nodes) g))
-  nearer n x y hn hx false g d (inr (p, inr q)) = inl (omega arith, q)
+  nearer n x y hn hx false g d (inr (p, inr q)) = inl (omega arith, omega arith)
 
   -- nothing comes before the very next
   next-first : (n x : ℕ) → n < sh .nodes → x < sh .nodes → (v : Bool) → ltb (n + 1) (sh .nodes) ≡ v → Before n x (cond v (n + 1) 0) → ⊥

@@ -2,28 +2,25 @@
 -- writes to no other. Assumes nothing.
 use mathlib.Core.Path.{_≡_, refl, sym, ap, _∙_, subst}
 use mathlib.Core.List.{List, [], _∷_, List·Memᴰ, List·Memᴰ·head, List·Memᴰ·tail}
-use mathlib.Core.Bool.{Bool, true, false, cond, _&&_, _||_}
+use mathlib.Core.Bool.{cond}
 use mathlib.Core.Logic.{_≢_, _⊎_, inl, inr}
 use Prim.Native.Nat.{ℕ, _+_, _≤_}
 use native.Mathlib.Omega.{arith}
 use lib.Dec.{eqb, ltb}
 use lib.ListN.{getD}
-use borrow.Author.Tests.{eq-eqb, le-leb}
 use Rattle.arrival.specs.declared.Shape.{Shape}
 use Rattle.arrival.specs.declared.Item.{Item}
 use Rattle.arrival.specs.declared.Worker.{Worker}
 use Rattle.arrival.specs.declared.Response.the-variants.{Stored, Empty}
 use Rattle.arrival.specs.Keys.{lower}
 use Rattle.arrival.specs.Queue.{taken}
-use Rattle.arrival.specs.Tests.{by-test}
 use Rattle.calendar.specs.Layout.{Place, word, cell, field, Write, _≔_, read, started, linkCell, itemAt, epochAt, successor, isMarked, unmarked, unlinkedAt, bucketIn, epochIn}
 use Rattle.calendar.specs.Outcome.{Outcome, on, answer, withOwn, withBucket, withLeft, withRight, withSeen, withCurrent}
 use Rattle.calendar.specs.SearchSteps.{found, settle, unlink, step-1, step-2, step-3}
 use Rattle.calendar.specs.EnqueueSteps.{linkOwn, renewCurrent, step-4, step-5, step-6, step-7}
 use Rattle.calendar.specs.DequeueSteps.{walk, markNode, thisCurrent, nextCurrent, step-8, step-9, step-10, step-11, step-12, step-13}
-use Rattle.calendar.specs.Steps.{Rule, rules, no-step, step}
+use Rattle.calendar.specs.Steps.{Rule, no-step, step}
 use Rattle.calendar.specs.Changes.{Change, head-read, mark-seen, passed, stopped, unlinked, again-3, prepared, linked, again-5, stored-6, on-7, stored-7, back-6, current-read, first-read, mark-passed, newer, on-11, marked, back-10, advanced, back-12, emptied, back-13, by-stage, step-is}
-use Rattle.calendar.specs.Lists.{holds}
 use Rattle.calendar.specs.Inside.{found-writes, settled-writes, walked-writes}
 
 -- ── the word ──
@@ -56,27 +53,13 @@ abbrev pub sharedWord : Shape → Worker → Place
 sharedWord sh w = getD (sharedWords sh w) (w .stage) current-word
 
 -- What a turn may look at in two stores, and finds the same: its shared word; the bookkeeping of 3, word 1; and of the nodes
--- that the call stands on, the arrival in own node during a search, that in right at 2, and right's epoch at 10.
+-- that the call stands on (StoodOn), the arrival in own node during a search, that in right at 2, and right's epoch at 10.
 pub record SameSeen (sh : Shape) (w : Worker) (s s′ : List ℕ) : Type 0 where
   pub shared : read sh s′ (sharedWord sh w) ≡ read sh s (sharedWord sh w)
   pub calls : w .stage ≡ 3 → started sh s′ ≡ started sh s
   pub own : 1 ≤ w .stage → w .stage ≤ 3 → itemAt sh s′ (w .own) ≡ itemAt sh s (w .own)
   pub right : w .stage ≡ 2 → itemAt sh s′ (w .right) ≡ itemAt sh s (w .right)
   pub epoch : w .stage ≡ 10 → epochAt sh s′ (w .right) ≡ epochAt sh s (w .right)
-
--- these are nodes that the call stands on
-module _ (sh : Shape) (w : Worker) where
-  third : (a b : Bool) → (a || b || true) ≡ true
-  third true b = refl
-  third false true = refl
-  third false false = refl
-
-  pub own-stood-on : 1 ≤ w .stage → w .stage ≤ 3 → holds sh w (w .own) ≡ true
-  own-stood-on lo hi = rw (le-leb 1 (w .stage) lo, le-leb (w .stage) 7 (omega arith), eq-eqb (w .own) (w .own) refl)
-
-  pub right-stood-on : (w .stage ≡ 2) ⊎ (w .stage ≡ 10) → holds sh w (w .right) ≡ true
-  right-stood-on (inl q) = rw (q, eq-eqb (w .right) (w .right) refl) (third (eqb (w .own) (w .right)) (eqb (w .left) (linkCell sh (w .right))))
-  right-stood-on (inr q) = rw (q, eq-eqb (w .right) (w .right) refl)
 
 -- ── what a turn depends on ──
 module _ (sh : Shape) (s s′ : List ℕ) where

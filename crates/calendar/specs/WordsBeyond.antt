@@ -1,22 +1,20 @@
 -- Words beyond the layout are not read: on a longer store an operation does the same, and keeps the rest. Assumes nothing.
 use mathlib.Core.Path.{_≡_, refl, sym, ap, _∙_}
 use mathlib.Core.List.{List, [], _∷_, _++_, append-assoc}
-use mathlib.Core.Bool.{Bool, true, false, cond, not, _&&_, _||_}
-use mathlib.Core.Logic.{_≢_}
+use mathlib.Core.Bool.{Bool, true, false, cond, _&&_, _||_}
 use Prim.Native.Nat.{ℕ, zero, suc, _+_, _%_, _<_, _≤_}
 use native.Mathlib.Omega.{arith}
 use lib.Dec.{eqb, leb, ltb, lit<}
-use lib.ListN.{length, getD, drop, set, length-append, List·getD-append}
+use lib.ListN.{length, drop, set, length-append, List·getD-append}
 use lib.Seq.{set-append-left, drop-append-le}
-use borrow.Author.Tests.{eqb-true, le-ltb, ltb-true, ltb-false}
+use borrow.Author.Tests.{eqb-true, le-ltb, ltb-true}
 use Rattle.arrival.specs.declared.Shape.{Shape}
-use Rattle.arrival.specs.declared.Item.{Item}
 use Rattle.arrival.specs.declared.Worker.{Worker}
 use Rattle.arrival.specs.declared.Action.{Action}
 use Rattle.arrival.specs.declared.Action.the-variants.{Enqueue, Dequeue, Step}
 use Rattle.arrival.specs.declared.Response.{Response}
 use Rattle.arrival.specs.declared.Response.the-variants.{Opened, Refused}
-use Rattle.calendar.specs.Layout.{Place, word, cell, field, Write, _≔_, address, layout, read, write, writeAll, started, head, linkCell, itemAt, standing, word-inside, cell-inside, field-inside, length-write}
+use Rattle.calendar.specs.Layout.{Place, word, cell, field, Write, _≔_, address, layout, read, write, writeAll, linkCell, itemAt, standing, word-inside, cell-inside, field-inside, length-write}
 use Rattle.calendar.specs.Every.{every-same, each-of}
 use Rattle.calendar.specs.Ranges.{worker, small, currentInRange, linkInRange, pathInRange, orderInRange, headInRange, nodeInRange, storeInRange}
 use Rattle.calendar.specs.RangeFacts.{RecordRanges}
@@ -27,7 +25,6 @@ use Rattle.calendar.specs.Starts.{enqueueStart, dequeueStart}
 use Rattle.calendar.specs.Refusals.{openRefusal, enqueueRefusal, dequeueRefusal, stepRefusal}
 use Rattle.calendar.specs.Accepted.{step-accepted}
 use Rattle.calendar.specs.Views.{AllInside}
-use Rattle.calendar.specs.Inside.{length-writeAll}
 use Rattle.calendar.specs.Untouched.{act-same-size, outcome-inside}
 use Rattle.calendar.specs.OneWord.{current-word, head-word, left-word, right-link, sharedWords, sharedWord, SameSeen, one-shared-word}
 use Rattle.calendar.specs.Operations.{Memory, Result, perform, actor, refusal, outcome, act, open-pool, run, responses}

@@ -2,9 +2,9 @@
 -- the call itself prepares it at 4. Assumes nothing.
 use mathlib.Core.Path.{_≡_, refl, sym, ap, _∙_, subst⁻¹}
 use mathlib.Core.List.{List, [], _∷_, Memᴰ·cast}
-use mathlib.Core.Bool.{Bool, true, false}
-use mathlib.Core.Logic.{_≢_, _⊎_, inl, inr}
-use Prim.Native.Nat.{ℕ, _+_, _≤_, _<_}
+use mathlib.Core.Bool.{true, false}
+use mathlib.Core.Logic.{_≢_, inl, inr}
+use Prim.Native.Nat.{ℕ, _+_, _<_}
 use native.Mathlib.Omega.{arith}
 use native.Mathlib.Decide.{ℕ-discrete}
 use Rattle.arrival.specs.declared.Shape.{Shape}
@@ -28,11 +28,11 @@ use Rattle.calendar.specs.Lists.{holds}
 use Rattle.calendar.specs.Untouched.{outcome-inside}
 use Rattle.calendar.specs.Ledger.{new}
 use Rattle.calendar.specs.Acting.{by-act}
-use Rattle.calendar.specs.Operations.{Memory, perform, open-pool, actor, refusal, outcome, act, run}
+use Rattle.calendar.specs.Operations.{Memory, open-pool, refusal, outcome, act, run}
 use Rattle.lists.specs.Linking.{Chains, Safe, home}
 use Rattle.lists.specs.Knowledge.{Private}
 use Rattle.lists.specs.Filling.{key-same}
-use Rattle.lists.specs.Table.{Inv, Live}
+use Rattle.lists.specs.Table.{Live}
 use Rattle.lists.specs.Stepping.{enqueues}
 use Rattle.lists.specs.Standing.{not-stood-on}
 use Rattle.lists.specs.Reached.{Reached, free-node}
