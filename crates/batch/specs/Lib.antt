@@ -8,3 +8,4 @@ pub mod Arms
 pub mod Ending
 pub mod TurnFile
 pub mod LinesFit
+pub mod Stretches
