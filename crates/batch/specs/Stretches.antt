@@ -80,11 +80,11 @@ module _ (bytes more : List ℕ) where
 abbrev pub text : Progress → List ℕ
 text p = take (p .to) (p .lines)
 
--- why it stopped there
+-- why it stopped there; where a reading is refused there is still room for a line
 abbrev pub Reason : List ℕ → Progress → Stop → Type 0
 Reason bytes p Drained = recordAt bytes (p .at) ≡ End
 Reason bytes p Full = length (p .lines) < p .to + 89
-Reason bytes p (Halted k) = recordAt bytes (p .at) ≡ Refused k
+Reason bytes p (Halted k) = (recordAt bytes (p .at) ≡ Refused k) × (p .to + 89 ≤ length (p .lines))
 
 pub record Stretch (bytes more : List ℕ) (p : Progress) (q : Stopped) : Type 0 where
   pub new : List ℕ
@@ -141,4 +141,4 @@ module _ (bytes more : List ℕ) where
           after-one p next a _ (on .0) (line-held p next a (leb-true (p .to + 89) (length (p .lines)) room) (acting-fits b (p .session)))
           (acting-first bytes more (p .at) (p .session) b next e) (rest (wrote p next a) (omega (arith, on .0, on .1)))
       go rest true room End e = stays p Drained e
-      go rest true room (Refused k) e = stays p (Halted k) e
+      go rest true room (Refused k) e = stays p (Halted k) (e, leb-true (p .to + 89) (length (p .lines)) room)

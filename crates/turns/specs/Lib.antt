@@ -1,2 +1,4 @@
-pub mod Stretch
 pub mod Moving
+pub mod Stretch
+pub mod Running
+pub mod InPieces

@@ -14,6 +14,14 @@ use libc::STDIN_FILENO;
 use libc::STDOUT_FILENO;
 use turn_file::write_line;
 
+// What follows a stretch: the rest of its bytes, more bytes behind that rest, or the run's end, without a last line or with the line of a refusal.
+enum Next {
+    Serve,
+    Read,
+    End,
+    Last(u64),
+}
+
 // Before the first opening: a shape of zeros and idle workers.
 fn fresh_desk(store: &[u64]) -> Desk
     ensures { λ r. ⌜ Sound r (now (store .entry)) ⌝ }
