@@ -24,6 +24,7 @@ use Rattle.batch.specs.TurnFile.{Ran, behind, records, allRecords, turnFile}
 use Rattle.batch.specs.Stretches.{Stretch, stretch, Reason, text, behind-behind}
 use Rattle.turns.specs.declared.Next.{Next}
 use Rattle.turns.specs.declared.Next.the-variants.{Serve, Read, End, Last}
+use Rattle.turns.specs.Ending.{nothing-written}
 use Rattle.turns.specs.Running.{follows, lastLine, Held, Rounded, rounded, roundOf, Reads, handed, later, isEmpty, served-on, read-on, nextRound, rounds, atFirst, inputOf}
 
 -- ── the ends of a file ──
@@ -56,14 +57,8 @@ pub data Step (h : Held) (reads : Reads) (r : Rounded) : Next → Type 0 where
   refused : (k : ℕ) → allRecords (h .bytes ++ ahead (h .ended) reads) (h .session) ≡ behind (take (r .to) (r .out)) (record { session = r .session; lines = [] }) → Step h reads r (Last k)
 
 -- a last line that is none changes nothing; one that fits is what the buffer holds more
-no-line : (lines : List ℕ) (to : ℕ) → to ≤ length lines → take (after lines to []) (written lines to []) ≡ take to lines
-no-line lines to h =
-    let none : to + 0 ≤ length lines = omega arith in
-    let r = roomy lines to [] 0 (omega arith) none in
-    ap (λ (n : ℕ). take n (written lines to [])) (r .0)
-    ∙ ap (take (to + 0)) (r .1)
-    ∙ take-at (take to lines ++ []) (drop (to + 0) lines) (to + 0) (ap length (append-nil (take to lines)) ∙ length-take-le to lines h ∙ omega arith)
-    ∙ append-nil (take to lines)
+no-line : (lines : List ℕ) (to : ℕ) → take (after lines to []) (written lines to []) ≡ take to lines
+no-line lines to = ap (λ (n : ℕ). take n (written lines to [])) (nothing-written lines to .0) ∙ ap (take to) (nothing-written lines to .1)
 
 line-behind : (lines line : List ℕ) (to : ℕ) → length line ≤ 89 → to + 89 ≤ length lines → take (after lines to line) (written lines to line) ≡ take to lines ++ line
 line-behind lines line to fits room =
@@ -82,9 +77,9 @@ module _ (x : Session) (b out : List ℕ) (big : 89 ≤ length out) (reads : Rea
   stopped g stop = record { progress = g; stop = stop }
 
   -- the stretch as the round has it, where no last line is written
-  plain : (more : List ℕ) (g : Progress) (stop : Stop) → g .to ≤ length (g .lines) → Stretch b more p (stopped g stop)
+  plain : (more : List ℕ) (g : Progress) (stop : Stop) → Stretch b more p (stopped g stop)
       → allRecords (b ++ more) x ≡ behind (take (after (g .lines) (g .to) []) (written (g .lines) (g .to) [])) (allRecords (drop (g .at) b ++ more) (g .session))
-  plain more g stop w S = S .file ∙ ap (λ (t : List ℕ). behind t (allRecords (drop (g .at) b ++ more) (g .session))) (sym (no-line (g .lines) (g .to) w ∙ S .holds))
+  plain more g stop S = S .file ∙ ap (λ (t : List ℕ). behind t (allRecords (drop (g .at) b ++ more) (g .session))) (sym (no-line (g .lines) (g .to) ∙ S .holds))
 
   -- and where one is
   lined : (more : List ℕ) (g : Progress) (k : ℕ) → k < 9 → g .to + 89 ≤ length (g .lines) → Stretch b more p (stopped g (Halted k)) → recordAt (drop (g .at) b ++ more) 0 ≡ Refused k
@@ -104,17 +99,17 @@ module _ (x : Session) (b out : List ℕ) (big : 89 ≤ length out) (reads : Rea
       go (inl e) = absurd (let l : length (g .lines) ≡ length out = ap (λ (y : Progress). length (y .lines)) e in let t : g .to ≡ 0 = ap (λ (y : Progress). y .to) e in omega (arith, S .reason))
       go (inr h) = omega (arith, length-drop (g .at) b)
 
-  step-by : (ended : Bool) (g : Progress) (stop : Stop) → g .at ≤ length b → g .to ≤ length (g .lines) → Stretch b (ahead ended reads) p (stopped g stop) → Step (held ended) reads (rounded (held ended) (stopped g stop)) (follows ended stop)
-  step-by ended g Full wa wt S = serves (shorter (ahead ended reads) g S wa) (plain (ahead ended reads) g Full wt S)
-  step-by false g Drained wa wt S = reads-on refl (plain (inputOf reads) g Drained wt S)
-  step-by true g Drained wa wt S =
-      ends (plain [] g Drained wt S ∙ ap (behind (take (after (g .lines) (g .to) []) (written (g .lines) (g .to) []))) (ap (λ (l : List ℕ). allRecords l (g .session)) (ap (λ (l : List ℕ). l ++ []) (drop-of-length-le b (at-end b (g .at) (S .reason)))) ∙ nothing-left (g .session)))
-  step-by true g (Halted k) wa wt S = refused k (go (why-refused b (g .at) k (S .reason .0)))
+  step-by : (ended : Bool) (g : Progress) (stop : Stop) → g .at ≤ length b → Stretch b (ahead ended reads) p (stopped g stop) → Step (held ended) reads (rounded (held ended) (stopped g stop)) (follows ended stop)
+  step-by ended g Full wa S = serves (shorter (ahead ended reads) g S wa) (plain (ahead ended reads) g Full S)
+  step-by false g Drained wa S = reads-on refl (plain (inputOf reads) g Drained S)
+  step-by true g Drained wa S =
+      ends (plain [] g Drained S ∙ ap (behind (take (after (g .lines) (g .to) []) (written (g .lines) (g .to) []))) (ap (λ (l : List ℕ). allRecords l (g .session)) (ap (λ (l : List ℕ). l ++ []) (drop-of-length-le b (at-end b (g .at) (S .reason)))) ∙ nothing-left (g .session)))
+  step-by true g (Halted k) wa S = refused k (go (why-refused b (g .at) k (S .reason .0)))
     where
       go : ((k ≡ 7) × Unknown b (g .at)) ⊎ ((k ≡ 8) × Cut b (g .at)) → allRecords (b ++ []) x ≡ behind (take (after (g .lines) (g .to) (lineOf (response.Refused k))) (written (g .lines) (g .to) (lineOf (response.Refused k)))) (record { session = g .session; lines = [] })
       go (inl h) = lined [] g k (omega (arith, h .0)) (S .reason .1) S (unknown-refused (drop (g .at) b ++ []) 0 (unknown-rest b (g .at) [] (h .1)) ∙ ap Refused (sym (h .0)))
       go (inr h) = lined [] g k (omega (arith, h .0)) (S .reason .1) S (ap (λ (l : List ℕ). recordAt l 0) (append-nil (drop (g .at) b)) ∙ cut-refused (drop (g .at) b) 0 (cut-rest b (g .at) (h .1)) ∙ ap Refused (sym (h .0)))
-  step-by false g (Halted k) wa wt S = go (eqb k 8) refl
+  step-by false g (Halted k) wa S = go (eqb k 8) refl
     where
       seven : eqb k 8 ≡ false → ((k ≡ 7) × Unknown b (g .at)) ⊎ ((k ≡ 8) × Cut b (g .at)) → (k ≡ 7) × Unknown b (g .at)
       seven e (inl h) = h
@@ -127,7 +122,7 @@ module _ (x : Session) (b out : List ℕ) (big : 89 ≤ length out) (reads : Rea
       after-line next = record { session = g .session; rest = drop (g .at) b; out = written (g .lines) (g .to) (lastLine next); to = after (g .lines) (g .to) (lastLine next); next = next }
 
       go : (t : Bool) → eqb k 8 ≡ t → Step (held false) reads (after-line (cond t Read (Last k))) (cond t Read (Last k))
-      go true e = reads-on refl (plain (inputOf reads) g (Halted k) wt S)
+      go true e = reads-on refl (plain (inputOf reads) g (Halted k) S)
       go false e = refused k (by-seven (seven e (why-refused b (g .at) k (S .reason .0))))
 
 -- EVERY ROUND
@@ -137,7 +132,7 @@ round-step h reads big =
     let p : Progress = record { session = h .session; at = 0; lines = h .out; to = 0 } in
     let q : Stopped = servedAll (h .bytes) p in
     let w = within (h .bytes) p q refl (omega arith) (omega arith) in
-    step-by (h .session) (h .bytes) (h .out) big reads (h .ended) (q .progress) (q .stop) (w .at) (w .to) (stretch (h .bytes) (ahead (h .ended) reads) (length (h .bytes) + 1) p (omega arith))
+    step-by (h .session) (h .bytes) (h .out) big reads (h .ended) (q .progress) (q .stop) (w .at) (stretch (h .bytes) (ahead (h .ended) reads) (length (h .bytes) + 1) p (omega arith))
 
 pub round-room : (h : Held) → length (roundOf h .out) ≡ length (h .out)
 unfolding roundOf
