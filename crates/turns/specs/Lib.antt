@@ -1,5 +1,6 @@
 pub mod Moving
-pub mod Stretch
 pub mod Running
 pub mod Ending
 pub mod InPieces
+pub mod Holding
+pub mod Following

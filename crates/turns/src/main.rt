@@ -7,7 +7,9 @@ ghost use Rattle.turn_file.specs.Buffer.{written, after};
 ghost use Rattle.batch.specs.TurnFile.{zeros};
 ghost use Rattle.batch.specs.Ending.{Sound};
 ghost use Rattle.turns.specs.Moving.{moved};
-ghost use Rattle.turns.specs.Running.{lent, follows, lastLine, atFirst};
+ghost use Rattle.turns.specs.Running.{lent, follows, lastLine, roundOf, atFirst};
+ghost use Rattle.turns.specs.Holding.{inHand, holding, leaves, Placed};
+ghost use Rattle.turns.specs.Following.{Came};
 
 use arrival::Response;
 use arrival::Shape;
@@ -27,11 +29,10 @@ enum Next {
     Last(u64),
 }
 
-// Where a round leaves the run: the bytes not yet worked through lie from `at` to `have`, the lines before `to`.
+// Where a round leaves the run: the bytes not yet worked through stand from `at` on, the lines before `to`.
 struct Round {
     desk: Desk,
     at: usize,
-    have: usize,
     to: usize,
     next: Next,
 }
@@ -133,5 +134,76 @@ fn read_more(input: &mut [u8], have: usize) -> usize
     have + io::count(got, free)
 }
 
+// One round over the bytes from `at` to `have`: a stretch, the last line behind it, and what follows.
+fn one_round(
+    desk: Desk,
+    ended: bool,
+    input: &[u8],
+    at: usize,
+    have: usize,
+    out: &mut [u8],
+    store: &mut [u64],
+) -> Round
+    requires { ⌜ Sound desk (now store) × (at ≤ have) × (have ≤ length (now input)) ⌝ }
+    ensures { λ r. ⌜ (leaves r have (now (input .entry)) (now (out .exit)) (now (store .exit))
+        ≡ roundOf (holding desk (now (store .entry)) ended (inHand at have (now (input .entry))) (now (out .entry))))
+        × Sound (r .desk) (now (store .exit)) × Placed r have (now (out .exit)) × (length (now (out .exit)) ≡ length (now (out .entry))) ⌝ }
+{
+    let p = serve(desk, &input[at..have], 0, out, 0, store);
+    let stop = p.stop;
+    let next = follow(stop, ended);
+    let to = close(next, out, p.to);
+    let desk = p.desk;
+    Round {
+        desk,
+        at: at + p.at,
+        to,
+        next,
+    }
+}
+
+// Round after round, until one says that the run ends, or the output is closed.
+fn run(store: &mut [u64], input: &mut [u8], out: &mut [u8])
+    requires { ⌜ (now store ≡ lent .store) × (12 ≤ length (now input)) × (89 ≤ length (now out)) ⌝ }
+    ensures { λ _. ⌜ Came (atFirst lent (now (out .entry))) (now (store .exit)) ⌝ }
+{
+    let mut desk = fresh_desk(store);
+    let mut ended = false;
+    let mut at: usize = 0;
+    let mut have: usize = 0;
+    let mut left: u64 = 18446744073709551615;
+    while 0 < left {
+        left -= 1;
+        let r = one_round(desk, ended, input, at, have, out, store);
+        let to = r.to;
+        if !io::write_all(STDOUT_FILENO, &out[..to]) {
+            return;
+        }
+        let after = r.desk;
+        desk = after;
+        at = r.at;
+        let next = r.next;
+        match next {
+            Next::Serve => {}
+            Next::Read => {
+                let kept = keep_rest(input, at, have);
+                at = 0;
+                have = read_more(input, kept);
+                ended = have == kept;
+            }
+            Next::End => {
+                return;
+            }
+            Next::Last(_) => {
+                return;
+            }
+        }
+    }
+}
+
 fn main() {
+    let mut store = lent_words();
+    let mut input = io::large_buffer();
+    let mut out = io::large_buffer();
+    run(&mut store, &mut input, &mut out);
 }
