@@ -1,16 +1,22 @@
 -- The loop follows the rounds: what has been done, and what is done from here on, is what the rounds do on what was read. Assumes nothing.
-use mathlib.Core.Path.{_≡_, refl, sym, ap, _∙_}
+use mathlib.Core.Path.{_≡_, refl, sym, ap, _∙_, subst, subst⁻¹}
 use mathlib.Core.List.{List, [], _∷_, _++_}
-use Prim.Native.Nat.{ℕ, zero, suc, _+_}
+use mathlib.Core.Bool.{false}
+use Prim.Native.Nat.{ℕ, suc, _+_, _-_, _≤_}
 use native.Mathlib.Omega.{arith}
-use lib.ListN.{take}
+use lib.Dec.{eqb}
+use lib.ListN.{length, take, drop}
 use lib.Seq.{append-snoc}
+use Rattle.batch.specs.declared.Desk.{Desk}
 use Rattle.batch.specs.Serving.{Session}
-use Rattle.batch.specs.TurnFile.{Ran, behind}
+use Rattle.batch.specs.TurnFile.{Ran, behind, zeros}
 use Rattle.batch.specs.Stretches.{behind-behind}
 use Rattle.turns.specs.declared.Next.{Next}
 use Rattle.turns.specs.declared.Next.the-variants.{Serve, Read, End, Last}
-use Rattle.turns.specs.Running.{Held, Rounded, roundOf, Reads, served-on, read-on, nextRound, rounds}
+use Rattle.turns.specs.declared.Round.{Round}
+use Rattle.turns.specs.Moving.{moved}
+use Rattle.turns.specs.Running.{lent, Held, Rounded, roundOf, Reads, served-on, read-on, nextRound, rounds, atFirst}
+use Rattle.turns.specs.Holding.{inHand, holding, leaves, read-behind, nothing-read}
 
 pub record Followed (start h : Held) : Type 0 where
   pub count : ℕ
@@ -71,3 +77,23 @@ module _ (start h : Held) (F : Followed start h) where
     reads = F .reads ++ [];
     same = e ∙ ap (λ (q : Rounded). q .session .memory .store) is ∙ sym (ap (λ (q : Ran). q .session .memory .store) (F .same 1 []) ∙ ap (λ (x : Session). x .memory .store) (stops (roundOf h) (roundOf h .next)));
   }
+
+-- ── as the code holds it ──
+-- before the first round
+pub first-held : (d : Desk) (s input out : List ℕ) → d .shape ≡ zeros → d .records ≡ 64 → d .table ≡ lent .table → s ≡ lent .store → atFirst lent out ≡ holding d s false (inHand 0 0 input) out
+unfolding lent
+first-held d s input out shape records table store = cc (shape, ap (λ (n : ℕ). take n (d .table)) records ∙ ap (take 64) table, store)
+
+-- behind the kept rest stands what was read
+pub after-read : (start : Held) (r : Round) (have kept more : ℕ) (input front read out s : List ℕ) → r .at ≤ have → have ≤ length input → kept ≡ have - r .at → front ≡ moved (r .at) (have - r .at) input
+    → take kept read ≡ take kept front → kept ≤ more → more ≤ length read → ((piece : List ℕ) → Followed start (read-on piece (leaves r have input out s)))
+    → Followed start (holding (r .desk) s (eqb more kept) (inHand 0 more read) out)
+after-read start r have kept more input front read out s h k is e f l m F = subst (Followed start) (sym same) (F (take (more - kept) (drop kept read)))
+  where
+    bytes : inHand 0 more read ≡ inHand (r .at) have input ++ take (more - kept) (drop kept read)
+    bytes =
+        subst⁻¹ (λ (n : ℕ). take n read ≡ take n front → n ≤ more → inHand 0 more read ≡ inHand (r .at) have input ++ take (more - n) (drop n read)) is
+        (λ f l. read-behind (r .at) have more input front read h k e f l m) f l
+
+    same : holding (r .desk) s (eqb more kept) (inHand 0 more read) out ≡ read-on (take (more - kept) (drop kept read)) (leaves r have input out s)
+    same = cc (bytes, nothing-read kept more read l m)
