@@ -80,6 +80,13 @@ module _ (bytes more : List ℕ) where
 abbrev pub text : Progress → List ℕ
 text p = take (p .to) (p .lines)
 
+-- a line that fits is what a buffer holds more
+pub line-behind : (lines line : List ℕ) (to : ℕ) → length line ≤ 89 → to + 89 ≤ length lines → take (after lines to line) (written lines to line) ≡ take to lines ++ line
+line-behind lines line to fits room =
+    let r = roomy lines to line 89 fits room in
+    let size : length (take to lines ++ line) ≡ to + length line = length-append (take to lines) line ∙ ap (λ (n : ℕ). n + length line) (length-take-le to lines (omega arith)) in
+    ap (λ (n : ℕ). take n (written lines to line)) (r .0) ∙ ap (take (to + length line)) (r .1) ∙ take-at (take to lines ++ line) (drop (to + length line) lines) (to + length line) size
+
 -- why it stopped there; where a reading is refused there is still room for a line
 abbrev pub Reason : List ℕ → Progress → Stop → Type 0
 Reason bytes p Drained = recordAt bytes (p .at) ≡ End
@@ -96,16 +103,6 @@ pub record Stretch (bytes more : List ℕ) (p : Progress) (q : Stopped) : Type 0
 module _ (bytes more : List ℕ) where
   stays : (p : Progress) (stop : Stop) → Reason bytes p stop → Stretch bytes more p (record { progress = p; stop = stop })
   stays p stop why = record { new = []; holds = sym (append-nil (text p)); file = refl; reason = why; on = inl refl }
-
-  -- a line that fits is what the buffer holds more
-  line-held : (p : Progress) (next : ℕ) (a : Answered) → p .to + 89 ≤ length (p .lines) → length (lineOf (a .response)) ≤ 89 → text (wrote p next a) ≡ text p ++ lineOf (a .response)
-  line-held p next a room fits =
-      let line = lineOf (a .response) in
-      let r = roomy (p .lines) (p .to) line 89 fits room in
-      let size : length (take (p .to) (p .lines) ++ line) ≡ p .to + length line = length-append (take (p .to) (p .lines)) line ∙ ap (λ (n : ℕ). n + length line) (length-take-le (p .to) (p .lines) (omega arith)) in
-      ap (λ (n : ℕ). take n (written (p .lines) (p .to) line)) (r .0)
-      ∙ ap (take (p .to + length line)) (r .1)
-      ∙ take-at (take (p .to) (p .lines) ++ line) (drop (p .to + length line) (p .lines)) (p .to + length line) size
 
   -- one record, and then the rest of the stretch
   after-one : (p : Progress) (next : ℕ) (a : Answered) (q : Stopped) → p .at < next → text (wrote p next a) ≡ text p ++ lineOf (a .response)
@@ -133,12 +130,12 @@ module _ (bytes more : List ℕ) where
       go rest true room (Open sh next) e =
           let on = read-on bytes (p .at) (opens sh) next e in
           let a = opening sh (p .session) in
-          after-one p next a _ (on .0) (line-held p next a (leb-true (p .to + 89) (length (p .lines)) room) (opening-fits sh (p .session)))
+          after-one p next a _ (on .0) (line-behind (p .lines) (lineOf (a .response)) (p .to) (opening-fits sh (p .session)) (leb-true (p .to + 89) (length (p .lines)) room))
           (opening-first bytes more (p .at) (p .session) sh next e) (rest (wrote p next a) (omega (arith, on .0, on .1)))
       go rest true room (Act b next) e =
           let on = read-on bytes (p .at) (acts b) next e in
           let a = acting b (p .session) in
-          after-one p next a _ (on .0) (line-held p next a (leb-true (p .to + 89) (length (p .lines)) room) (acting-fits b (p .session)))
+          after-one p next a _ (on .0) (line-behind (p .lines) (lineOf (a .response)) (p .to) (acting-fits b (p .session)) (leb-true (p .to + 89) (length (p .lines)) room))
           (acting-first bytes more (p .at) (p .session) b next e) (rest (wrote p next a) (omega (arith, on .0, on .1)))
       go rest true room End e = stays p Drained e
       go rest true room (Refused k) e = stays p (Halted k) (e, leb-true (p .to + 89) (length (p .lines)) room)

@@ -21,10 +21,10 @@ use Rattle.batch.specs.declared.Stop.the-variants.{Drained, Full, Halted}
 use Rattle.batch.specs.Serving.{Session, Progress, Stopped, servedAll}
 use Rattle.batch.specs.Bounds.{within}
 use Rattle.batch.specs.TurnFile.{Ran, behind, records, allRecords, turnFile}
-use Rattle.batch.specs.Stretches.{Stretch, stretch, Reason, text, behind-behind}
+use Rattle.batch.specs.Stretches.{Stretch, stretch, line-behind}
 use Rattle.turns.specs.declared.Next.{Next}
 use Rattle.turns.specs.declared.Next.the-variants.{Serve, Read, End, Last}
-use Rattle.turns.specs.Ending.{nothing-written}
+use Rattle.turns.specs.Closing.{nothing-written}
 use Rattle.turns.specs.Running.{follows, lastLine, Held, Rounded, rounded, roundOf, Reads, handed, later, isEmpty, served-on, read-on, nextRound, rounds, atFirst, inputOf}
 
 -- ── the ends of a file ──
@@ -56,15 +56,9 @@ pub data Step (h : Held) (reads : Reads) (r : Rounded) : Next → Type 0 where
   ends : allRecords (h .bytes ++ ahead (h .ended) reads) (h .session) ≡ behind (take (r .to) (r .out)) (record { session = r .session; lines = [] }) → Step h reads r End
   refused : (k : ℕ) → allRecords (h .bytes ++ ahead (h .ended) reads) (h .session) ≡ behind (take (r .to) (r .out)) (record { session = r .session; lines = [] }) → Step h reads r (Last k)
 
--- a last line that is none changes nothing; one that fits is what the buffer holds more
+-- a last line that is none changes nothing
 no-line : (lines : List ℕ) (to : ℕ) → take (after lines to []) (written lines to []) ≡ take to lines
 no-line lines to = ap (λ (n : ℕ). take n (written lines to [])) (nothing-written lines to .0) ∙ ap (take to) (nothing-written lines to .1)
-
-line-behind : (lines line : List ℕ) (to : ℕ) → length line ≤ 89 → to + 89 ≤ length lines → take (after lines to line) (written lines to line) ≡ take to lines ++ line
-line-behind lines line to fits room =
-    let r = roomy lines to line 89 fits room in
-    let size : length (take to lines ++ line) ≡ to + length line = length-append (take to lines) line ∙ ap (λ (n : ℕ). n + length line) (length-take-le to lines (omega arith)) in
-    ap (λ (n : ℕ). take n (written lines to line)) (r .0) ∙ ap (take (to + length line)) (r .1) ∙ take-at (take to lines ++ line) (drop (to + length line) lines) (to + length line) size
 
 module _ (x : Session) (b out : List ℕ) (big : 89 ≤ length out) (reads : Reads) where
   abbrev p : Progress

@@ -1,6 +1,6 @@
 pub mod Moving
 pub mod Running
-pub mod Ending
+pub mod Closing
 pub mod InPieces
 pub mod Holding
 pub mod Following

@@ -10,7 +10,6 @@ ghost use Rattle.turns.specs.Moving.{moved};
 ghost use Rattle.turns.specs.Running.{lent, follows, lastLine, roundOf, atFirst};
 ghost use Rattle.turns.specs.Holding.{inHand, holding, leaves, Placed};
 ghost use Rattle.turns.specs.Following.{Came};
-
 use arrival::Response;
 use arrival::Shape;
 use arrival::Worker;

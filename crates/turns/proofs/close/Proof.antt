@@ -2,54 +2,41 @@
 use mathlib.Core.Path.{sym, ap, _∙_}
 use Rattle.turn_file.specs.Buffer.{written, after}
 use Rattle.turns.specs.Running.{lastLine}
-use Rattle.turns.specs.Ending.{unclosed}
+use Rattle.turns.specs.Closing.{unclosed}
 use borrow.Author.Needs.{needs}
 use Rattle.turns.proofs.close.Statement.{statement}
 use Rattle.turns.proofs.close.Tie as tie
-use Rattle.turns.proofs.close.Reads as reads
-use Rattle.turns.proofs.close.Lts as lts
-use Rattle.turn_file.proofs.write_line.Reads as write-line-reads
 
--- src/main.rt:104:20
 enum-known-next : tie.Need-enum-known-next
 enum-known-next c = search needs
 
--- src/main.rt:104:26
 write-line-requires : tie.Need-write-line-requires
 write-line-requires c κs = search needs
 
--- src/main.rt:105:24
 enum-told : tie.Need-enum-told
 enum-told c = search needs
 
--- src/main.rt:106:23
 enum-told-2 : tie.Need-enum-told-2
 enum-told-2 c = search needs
 
--- src/main.rt:107:22
 enum-told-3 : tie.Need-enum-told-3
 enum-told-3 c = search needs
 
--- src/main.rt:100:1
 same-length : tie.Need-same-length
 same-length c = search needs
 
--- src/main.rt:100:1
 returns : tie.Need-returns
 returns c =
     let e = c .before .before .write-line .ensures in
     let same = ap lastLine (sym (c .before .before .before .before .before .next .given .1)) in
     (e .0 ∙ ap (after _ _) same, e .1 ∙ ap (written _ _) same)
 
--- src/main.rt:100:1
 returns-2 : tie.Need-returns-2
 returns-2 c = unclosed _ _ (c .before .before .before .args .next) (ap lastLine (c .enum-told .given .1))
 
--- src/main.rt:100:1
 returns-3 : tie.Need-returns-3
 returns-3 c = unclosed _ _ (c .before .before .before .args .next) (ap lastLine (c .enum-told2 .given .1))
 
--- src/main.rt:100:1
 returns-4 : tie.Need-returns-4
 returns-4 c = unclosed _ _ (c .before .before .before .args .next) (ap lastLine (c .enum-told3 .given .1))
 

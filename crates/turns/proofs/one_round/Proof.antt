@@ -4,52 +4,37 @@ use Rattle.turns.specs.Holding.{round-left}
 use borrow.Author.Needs.{needs}
 use Rattle.turns.proofs.one_round.Statement.{statement}
 use Rattle.turns.proofs.one_round.Tie as tie
-use Rattle.turns.proofs.one_round.Reads as reads
-use Rattle.turns.proofs.one_round.Lts as lts
-use Rattle.batch.proofs.serve.Reads as serve-reads
-use Rattle.turns.proofs.close.Reads as close-reads
-use Rattle.turns.proofs.follow.Reads as follow-reads
 
--- src/main.rt:152:25
 sub-serve : tie.Need-sub-serve
 sub-serve c = search needs
 
--- src/main.rt:152:25
 part-serve-start : tie.Need-part-serve-start
 part-serve-start c = search needs
 
--- src/main.rt:152:25
 part-serve-end : tie.Need-part-serve-end
 part-serve-end c = search needs
 
--- src/main.rt:152:9
 serve-requires : tie.Need-serve-requires
 serve-requires c κs = search needs
 
--- src/main.rt:154:9
 follow-requires : tie.Need-follow-requires
 follow-requires c κs = search needs
 
--- src/main.rt:155:9
 close-requires : tie.Need-close-requires
 close-requires c κs = search needs
 
--- src/main.rt:159:13
 add-t14 : tie.Need-add-t14
 add-t14 c =
     let a = c .before .before .before .before .before .before .before .before .before .before .before .before .before .before .before .before .before .before in
     let r = round-left (a .args .desk) (a .args .store .now) (a .args .ended) (a .args .at) (a .args .have) (a .args .input .now) (a .args .out .now) (c .before .before .before .before .before .before .before .before .before .before .before .serve .result) _ _ _ _ _ (c .before .before .before .before .before .before .before .before .before .before .before .serve .ensures .0) (a .pre .1) (a .pre .2) (c .before .before .before .before .before .before .follow .ensures) (c .before .before .before .before .close .ensures .0) (c .before .before .before .before .close .ensures .1) in
     omega (arith, r .1 .at, a .fits .have)
 
--- src/main.rt:138:1
 same-length : tie.Need-same-length
 same-length c = search needs
 
--- src/main.rt:138:1
 same-length-2 : tie.Need-same-length-2
 same-length-2 c = search needs
 
--- src/main.rt:138:1
 returns : tie.Need-returns
 returns c =
     let a = c .before .before .before .before .before .before .before .before .before .before .before .before .before .before .before .before .before .before in

@@ -5,40 +5,28 @@ use native.Mathlib.Omega.{arith}
 use borrow.Author.Needs.{needs}
 use Rattle.turns.proofs.read_more.Statement.{statement}
 use Rattle.turns.proofs.read_more.Tie as tie
-use Rattle.turns.proofs.read_more.Reads as reads
-use Rattle.turns.proofs.read_more.Lts as lts
-use Rattle.io.proofs.count.Reads as count-reads
-use Rattle.libc.proofs.read.Reads as read-reads
 
--- src/main.rt:130:16
 sub-free : tie.Need-sub-free
 sub-free c = search needs
 
--- src/main.rt:130:16
 part-free-start : tie.Need-part-free-start
 part-free-start c = search needs
 
--- src/main.rt:130:16
 part-free-end : tie.Need-part-free-end
 part-free-end c = search needs
 
--- src/main.rt:131:9
 read-requires : tie.Need-read-requires
 read-requires c κs = search needs
 
--- src/main.rt:132:12
 count-requires : tie.Need-count-requires
 count-requires c κs = search needs
 
--- src/main.rt:132:5
 add-result : tie.Need-add-result
 add-result c = search needs
 
--- src/main.rt:125:1
 same-length : tie.Need-same-length
 same-length c = search needs
 
--- src/main.rt:125:1
 returns : tie.Need-returns
 returns c =
     let a = c .before .before .before .before .before .before .before .before .before .before .args in

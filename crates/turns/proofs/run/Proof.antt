@@ -11,13 +11,6 @@ use Rattle.turns.specs.Following.{Followed, at-start, serving, reading, 
 use borrow.Author.Needs.{needs}
 use Rattle.turns.proofs.run.Statement.{statement}
 use Rattle.turns.proofs.run.Tie as tie
-use Rattle.turns.proofs.run.Reads as reads
-use Rattle.turns.proofs.run.Lts as lts
-use Rattle.io.proofs.write_all.Reads as write-all-reads
-use Rattle.turns.proofs.fresh_desk.Reads as fresh-desk-reads
-use Rattle.turns.proofs.keep_rest.Reads as keep-rest-reads
-use Rattle.turns.proofs.one_round.Reads as one-round-reads
-use Rattle.turns.proofs.read_more.Reads as read-more-reads
 
 abbrev Inv-loop : tie.InvT-loop
 Inv-loop store₀ input₀ out₀ desk₀ ended₀ at₀ have₀ left₀ store input out desk ended at have left =
@@ -27,90 +20,71 @@ Inv-loop store₀ input₀ out₀ desk₀ ended₀ at₀ have₀ left₀ store i
 abbrev μ-loop : tie.MeasureT-loop
 μ-loop store₀ input₀ out₀ desk₀ ended₀ at₀ have₀ left₀ store input out desk ended at have left = left
 
--- src/main.rt:170:9
 fresh-desk-requires : tie.Need-fresh-desk-requires Inv-loop μ-loop
 fresh-desk-requires c κs = search needs
 
--- src/main.rt:175:5
 loop-holds : tie.Need-loop-holds Inv-loop μ-loop
 loop-holds c = let a = c .before .before .before .before .before in
     let d = c .fresh-desk .ensures in
     (d .0, omega arith, omega arith, refl, refl, refl, subst (Followed (atFirst lent (a .args .out .now))) (first-held (c .fresh-desk .result) (a .args .store .now) (a .args .input .now) (a .args .out .now) (d .1) (d .2) (d .3) (a .pre .0)) (at-start (atFirst lent (a .args .out .now))))
 
--- src/main.rt:176:9
 sub-left : tie.Need-sub-left Inv-loop μ-loop
 sub-left c = search needs
 
--- src/main.rt:177:13
 one-round-requires : tie.Need-one-round-requires Inv-loop μ-loop
 one-round-requires c κs = let i = c .before .before .before .before .loop .inv in (i .0, i .1, i .2)
 
--- src/main.rt:179:42
 slice-reshare-prefix-write-all : tie.Need-slice-reshare-prefix-write-all Inv-loop μ-loop
 slice-reshare-prefix-write-all c = c .before .before .before .before .one-round .ensures .2 .to
 
--- src/main.rt:179:42
 slice-aggregate-write-all : tie.Need-slice-aggregate-write-all Inv-loop μ-loop
 slice-aggregate-write-all c = sym (length-take-le _ _ (c .before .before .before .before .before .one-round .ensures .2 .to))
 
--- src/main.rt:179:13
 write-all-requires : tie.Need-write-all-requires Inv-loop μ-loop
 write-all-requires c κs = search needs
 
--- src/main.rt:180:13
 same-length : tie.Need-same-length Inv-loop μ-loop
 same-length c = search needs
 
--- src/main.rt:180:13
 same-length-2 : tie.Need-same-length-2 Inv-loop μ-loop
 same-length-2 c = search needs
 
--- src/main.rt:180:13
 same-length-3 : tie.Need-same-length-3 Inv-loop μ-loop
 same-length-3 c = search needs
 
--- src/main.rt:180:13
 returns : tie.Need-returns Inv-loop μ-loop
 returns c = came-after (atFirst lent (c .before .before .before .before .before .before .before .before .before .before .before .before .before .before .before .before .before .before .args .out .now)) _ (c .before .before .before .before .before .before .before .before .before .before .before .before .loop .inv .6) _ (c .before .before .before .before .before .before .before .one-round .ensures .0) _ refl
 
 enum-told : tie.Need-enum-told Inv-loop μ-loop
 enum-told c = search needs
 
--- src/main.rt:175:5
 loop-less : tie.Need-loop-less Inv-loop μ-loop
 loop-less c = search needs
 
--- src/main.rt:175:5
 loop-again : tie.Need-loop-again Inv-loop μ-loop
 loop-again c = let i = c .before .before .before .before .before .before .before .before .before .before .before .before .before .before .before .loop .inv in
     let e = c .before .before .before .before .before .before .before .before .before .before .one-round .ensures in
     (e .1, e .2 .at, i .2, search needs, search needs, search needs, serving (atFirst lent (c .before .before .before .before .before .before .before .before .before .before .before .before .before .before .before .before .before .before .before .before .before .args .out .now)) _ (i .6) _ (e .0) (c .enum-told .given .1))
 
--- src/main.rt:189:38
 enum-told-2 : tie.Need-enum-told-2 Inv-loop μ-loop
 enum-told-2 c = search needs
 
--- src/main.rt:189:21
 keep-rest-requires : tie.Need-keep-rest-requires Inv-loop μ-loop
 keep-rest-requires c κs = (c .before .before .before .before .before .before .before .before .before .before .before .one-round .ensures .2 .at, c .before .before .before .before .before .before .before .before .before .before .before .before .before .before .before .before .loop .inv .2)
 
--- src/main.rt:191:17
 read-more-requires : tie.Need-read-more-requires Inv-loop μ-loop
 read-more-requires c κs = let few = c .before .before .before .before .before .before .before .before .before .before .before .before .before .before .before .one-round .ensures .2 .few (c .before .before .before .before .before .enum-told2 .given .1) in
     let kept = c .before .before .before .keep-rest .ensures in
     omega (arith, few, kept .0, kept .1, c .before .before .before .before .before .before .before .before .before .before .before .before .before .before .before .before .before .before .before .before .loop .inv .4, c .before .before .before .before .before .before .before .before .before .before .before .before .before .before .before .before .before .before .before .before .before .before .before .before .before .before .pre .1)
 
--- src/main.rt:175:5
 loop-less-2 : tie.Need-loop-less-2 Inv-loop μ-loop
 loop-less-2 c = search needs
 
--- src/main.rt:175:5
 loop-again-2 : tie.Need-loop-again-2 Inv-loop μ-loop
 loop-again-2 c = let i = c .before .before .before .before .before .before .before .before .before .before .before .before .before .before .before .before .before .before .before .before .before .before .before .loop .inv in
     let e = c .before .before .before .before .before .before .before .before .before .before .before .before .before .before .before .before .before .before .one-round .ensures in
     let kept = c .before .before .before .before .before .before .keep-rest .ensures in
-    let read = c .before .before .read-more .ensures in
-    (
+    let read = c .before .before .read-more .ensures in (
       e .1,
       omega arith,
       omega (arith, read .1, read .2),
@@ -118,62 +92,48 @@ loop-again-2 c = let i = c .before .before .before .before .before .before .befo
       search needs,
       search needs,
       after-read (atFirst lent (c .before .before .before .before .before .before .before .before .before .before .before .before .before .before .before .before .before .before .before .before .before .before .before .before .before .before .before .before .before .args .out .now)) (c .before .before .before .before .before .before .before .before .before .before .before .before .before .before .before .before .before .before .one-round .result) _ _ _ _ _ _ _ _ (e .2 .at) (i .2) (kept .0) (kept .2) (read .3) (read .0) (omega (arith, read .1, read .2))
-      (reading (atFirst lent (c .before .before .before .before .before .before .before .before .before .before .before .before .before .before .before .before .before .before .before .before .before .before .before .before .before .before .before .before .before .args .out .now)) _ (i .6) _ (e .0) (c .before .before .before .before .before .before .before .before .enum-told2 .given .1)),
+          (reading (atFirst lent (c .before .before .before .before .before .before .before .before .before .before .before .before .before .before .before .before .before .before .before .before .before .before .before .before .before .before .before .before .before .args .out .now)) _ (i .6) _ (e .0) (c .before .before .before .before .before .before .before .before .enum-told2 .given .1)),
     )
 
--- src/main.rt:195:17
 enum-told-3 : tie.Need-enum-told-3 Inv-loop μ-loop
 enum-told-3 c = search needs
 
--- src/main.rt:195:17
 same-length-4 : tie.Need-same-length-4 Inv-loop μ-loop
 same-length-4 c = search needs
 
--- src/main.rt:195:17
 same-length-5 : tie.Need-same-length-5 Inv-loop μ-loop
 same-length-5 c = search needs
 
--- src/main.rt:195:17
 same-length-6 : tie.Need-same-length-6 Inv-loop μ-loop
 same-length-6 c = search needs
 
--- src/main.rt:195:17
 returns-2 : tie.Need-returns-2 Inv-loop μ-loop
 returns-2 c = came-after (atFirst lent (c .before .before .before .before .before .before .before .before .before .before .before .before .before .before .before .before .before .before .before .before .before .args .out .now)) _ (c .before .before .before .before .before .before .before .before .before .before .before .before .before .before .before .loop .inv .6) _ (c .before .before .before .before .before .before .before .before .before .before .one-round .ensures .0) _ refl
 
--- src/main.rt:198:17
 enum-told-4 : tie.Need-enum-told-4 Inv-loop μ-loop
 enum-told-4 c = search needs
 
--- src/main.rt:198:17
 same-length-7 : tie.Need-same-length-7 Inv-loop μ-loop
 same-length-7 c = search needs
 
--- src/main.rt:198:17
 same-length-8 : tie.Need-same-length-8 Inv-loop μ-loop
 same-length-8 c = search needs
 
--- src/main.rt:198:17
 same-length-9 : tie.Need-same-length-9 Inv-loop μ-loop
 same-length-9 c = search needs
 
--- src/main.rt:198:17
 returns-3 : tie.Need-returns-3 Inv-loop μ-loop
 returns-3 c = came-after (atFirst lent (c .before .before .before .before .before .before .before .before .before .before .before .before .before .before .before .before .before .before .before .before .before .args .out .now)) _ (c .before .before .before .before .before .before .before .before .before .before .before .before .before .before .before .loop .inv .6) _ (c .before .before .before .before .before .before .before .before .before .before .one-round .ensures .0) _ refl
 
--- src/main.rt:166:1
 same-length-10 : tie.Need-same-length-10 Inv-loop μ-loop
 same-length-10 c = search needs
 
--- src/main.rt:166:1
 same-length-11 : tie.Need-same-length-11 Inv-loop μ-loop
 same-length-11 c = search needs
 
--- src/main.rt:166:1
 same-length-12 : tie.Need-same-length-12 Inv-loop μ-loop
 same-length-12 c = search needs
 
--- src/main.rt:166:1
 returns-4 : tie.Need-returns-4 Inv-loop μ-loop
 returns-4 c = came (atFirst lent (c .before .before .before .before .before .before .before .args .out .now)) _ (c .before .loop .inv .6) _ refl
 
