@@ -6,3 +6,6 @@ pub mod Taken
 pub mod Rounds
 pub mod Arms
 pub mod Ending
+pub mod TurnFile
+pub mod LinesFit
+pub mod Stretches
