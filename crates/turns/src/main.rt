@@ -36,11 +36,14 @@ struct Round {
     next: Next,
 }
 
+// How many words are lent.
+const WORDS: usize = 4355;
+
 // The words that are lent.
-fn lent_words() -> [u64; 4355]
+fn lent_words() -> [u64; WORDS]
     ensures { λ r. ⌜ r ≡ lent .store ⌝ }
 {
-    [0; 4355]
+    [0; WORDS]
 }
 
 // Before the first opening: a shape of zeros and idle workers.
