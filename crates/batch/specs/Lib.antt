@@ -1,4 +1,5 @@
 pub mod Serving
+pub mod Holding
 pub mod Bounds
 pub mod Beyond
 pub mod Clearing
