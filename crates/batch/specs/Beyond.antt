@@ -1,26 +1,25 @@
 -- Records behind those that a stretch holds are neither read nor changed: on any other table with the same held records it does the same, and keeps the rest. Assumes nothing.
 use mathlib.Core.Path.{_≡_, refl, sym, ap, _∙_, subst}
-use mathlib.Core.Bool.{Bool, true, false, cond, not, _||_}
+use mathlib.Core.Bool.{Bool, true, false, cond}
 use mathlib.Core.List.{List, [], _∷_, _++_, append-assoc}
 use mathlib.Core.Logic.{_≢_}
-use Prim.Native.Nat.{ℕ, zero, suc, _+_, _-_, _<_, _≤_}
+use Prim.Native.Nat.{ℕ, zero, suc, _+_, _-_, _≤_}
 use native.Mathlib.Omega.{arith}
 use lib.Dec.{eqb, ltb}
 use lib.ListN.{length, take, drop, replicate, length-append, length-drop, length-replicate, take-append-drop}
 use lib.Seq.{length-take-le, take-at, drop-append-le}
-use borrow.Author.Tests.{eqb-true, eqb-false, eq-eqb, ne-eqb, ltb-true, ltb-false, lt-ltb, le-ltb}
+use borrow.Author.Tests.{eqb-true, eqb-false, ne-eqb, ltb-true, ltb-false}
 use Rattle.arrival.specs.declared.Shape.{Shape}
 use Rattle.arrival.specs.declared.Worker.{Worker}
 use Rattle.arrival.specs.declared.Action.{Action}
 use Rattle.arrival.specs.declared.Action.the-variants.{Enqueue, Dequeue, Step}
 use Rattle.arrival.specs.declared.Response.the-variants as response
-use Rattle.calendar.specs.Layout.{layout}
 use Rattle.calendar.specs.Ranges.{shapeInRange, blank}
 use Rattle.calendar.specs.RangeFacts.{limits}
 use Rattle.calendar.specs.Refusals.{firstOf, badShape, tooShort, enqueueTests, dequeueTests, stepTests, openRefusal, enqueueRefusal, dequeueRefusal, stepRefusal}
-use Rattle.calendar.specs.Accepted.{Lent, open-accepted}
+use Rattle.calendar.specs.Accepted.{open-accepted}
 use Rattle.calendar.specs.Opening.{openStore, openTable}
-use Rattle.calendar.specs.Operations.{Memory, Result, perform, actor, refusal, outcome, act, open-pool}
+use Rattle.calendar.specs.Operations.{Result, refusal, act, open-pool}
 use Rattle.calendar.specs.Untouched.{act-same-size, open-same-size}
 use Rattle.calendar.specs.RecordsBeyond.{keeping, act-same}
 use Rattle.admission.specs.Gate.{shape-tests}
@@ -30,42 +29,10 @@ use Rattle.turn_file.specs.Reading.{recordAt}
 use Rattle.batch.specs.declared.Stop.{Stop}
 use Rattle.batch.specs.declared.Stop.the-variants.{Drained, Full, Halted}
 use Rattle.batch.specs.Serving.{Session, Answered, opening, acting, Progress, Stopped, hasRoom, wrote, onward, served, servedAll}
+use Rattle.batch.specs.Counting.{countedOf, counted-bound, count-tells, counts}
 use Rattle.batch.specs.Holding.{greater, pastOpening, held, heldAll}
 use Rattle.batch.specs.Holding as holding
 use Rattle.batch.specs.Taken.{over-taken}
-
--- how many of n lent records count: no shape has more than 64 workers
-abbrev pub countedOf : ℕ → ℕ
-countedOf n = cond (ltb n 64) n 64
-
-pub counted-bound : (n : ℕ) → (countedOf n ≤ n) × (countedOf n ≤ 64)
-counted-bound n = go (ltb n 64) refl
-  where
-    go : (b : Bool) → ltb n 64 ≡ b → (cond b n 64 ≤ n) × (cond b n 64 ≤ 64)
-    go true e = (omega arith, omega (arith, ltb-true n 64 e))
-    go false e = (ltb-false n 64 e, omega arith)
-
-pub counted-again : (n : ℕ) → countedOf (countedOf n) ≡ countedOf n
-counted-again n = go (ltb n 64) refl
-  where
-    go : (b : Bool) → ltb n 64 ≡ b → countedOf (cond b n 64) ≡ cond b n 64
-    go true e = rw e
-    go false e = refl
-
--- too few for w workers is told by those that count
-count-tells : (n w : ℕ) → w ≤ 64 → ltb n w ≡ ltb (countedOf n) w
-count-tells n w small = go (ltb n 64) refl
-  where
-    go : (b : Bool) → ltb n 64 ≡ b → ltb n w ≡ ltb (cond b n 64) w
-    go true e = refl
-    go false e = le-ltb n w (omega (arith, ltb-false n 64 e)) ∙ sym (le-ltb 64 w small)
-
-pub counts : (n w : ℕ) → w ≤ n → w ≤ 64 → w ≤ countedOf n
-counts n w h l = go (ltb n 64)
-  where
-    go : (b : Bool) → w ≤ cond b n 64
-    go true = h
-    go false = l
 
 -- u has the first k records of t, and as many as count
 pub record Alike (k : ℕ) (t u : List Worker) : Type 0 where
@@ -359,7 +326,8 @@ module _ (bytes : List ℕ) where
       go rest true End = there Drained
       go rest true (Refused i) = there (Halted i)
 
-  -- A stretch on two tables that are alike. With u the table itself: what is behind the held records stays.
+  -- A stretch on two tables that are alike: the same store, lines, shape and stop, the same held records, and each table's own behind them.
+  -- (With u the table itself: what is behind the held records stays.)
   pub all-beyond : (p : Progress) (k : ℕ) (u : List Worker) → Alike k (p .session .memory .table) u → Covers (p .session .shape) (length (p .session .memory .table)) k
       → servedAll bytes (onTable p u) ≡ keepingFrom (heldAll bytes k p) (servedAll bytes p) u
   all-beyond p k u A covers = served-alike (length bytes + 1) p k u A covers

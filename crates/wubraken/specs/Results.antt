@@ -2,7 +2,7 @@
 use mathlib.Core.Path.{_≡_, refl, ap, _∙_}
 use mathlib.Core.List.{List, _++_}
 use mathlib.Core.Bool.{Bool, true, false, cond}
-use Prim.Native.Nat.{ℕ, _<_}
+use Prim.Native.Nat.{ℕ}
 use native.Mathlib.Omega.{arith}
 use lib.Dec.{eqb, ltb}
 use lib.ListN.{length, set, drop, replicate}
@@ -10,7 +10,6 @@ use borrow.Author.Tests.{eqb-true, eqb-false, ltb-false, le-ltb}
 use Rattle.arrival.specs.declared.Shape.{Shape}
 use Rattle.arrival.specs.declared.Arrival.{Arrival}
 use Rattle.arrival.specs.declared.Worker.{Worker}
-use Rattle.arrival.specs.declared.Response.{Response}
 use Rattle.arrival.specs.declared.Response.the-variants.{Opened, Refused}
 use Rattle.arrival.specs.declared.Action.{Action}
 use Rattle.arrival.specs.declared.Action.the-variants.{Enqueue, Dequeue, Step}
@@ -31,7 +30,7 @@ use Rattle.wubraken.specs.declared.records.Handled.{Handled}
 use Rattle.wubraken.specs.declared.answers.Answer.{Answer}
 use Rattle.wubraken.specs.Answers.{answerOf, saidBy, answer-said}
 use Rattle.wubraken.specs.Survey.{surveyed, survey, survey-records, survey-ok-is, survey-low-is}
-use Rattle.wubraken.specs.Gate.{gateOn, passed}
+use Rattle.wubraken.specs.Gate.{gateOn}
 
 -- ── what a call leaves ──
 abbrev pub lent : List ℕ → List Worker → Memory

@@ -21,7 +21,8 @@ use Rattle.batch.specs.declared.Stop.the-variants.{Drained, Full, Halted}
 use Rattle.batch.specs.Serving.{Stopped, servedAll}
 use Rattle.batch.specs.Holding.{heldAll}
 use Rattle.batch.specs.Rounds.{at-work}
-use Rattle.batch.specs.Beyond.{countedOf, counted-bound, counted-again, counts, over, all-within, all-beyond}
+use Rattle.batch.specs.Counting.{countedOf, counted-bound, counted-again, counts}
+use Rattle.batch.specs.Beyond.{over, all-within, all-beyond}
 use Rattle.wubraken.specs.declared.stretch.Served.{Served}
 use Rattle.wubraken.specs.declared.stretch.Stretch.{Stretch}
 use Rattle.wubraken.specs.Survey.{surveyed, surveyed-bound}

@@ -4,7 +4,7 @@ ghost use mathlib.Core.Bool.{true};
 ghost use Prim.Native.Nat.{_≤_, _<_};
 ghost use lib.ListN.{take};
 ghost use Rattle.calendar.specs.Ranges.{shapeInRange};
-ghost use Rattle.batch.specs.Beyond.{countedOf};
+ghost use Rattle.batch.specs.Counting.{countedOf};
 ghost use Rattle.wubraken.specs.Stretch.{stopNumber, heldInRange, heldOn, account, stretchOn};
 use super::table::records_surveyed;
 use admission::is_sound;

@@ -44,7 +44,7 @@ use denote.Triple.Walked.{says, Stays, gave-slice, stay-dropped, walkOf, Walks, 
 use denote.Exit.{yes}
 use Rattle.arrival.specs.declared.Shape.{Shape}
 use Rattle.arrival.specs.declared.Worker.{Worker}
-use Rattle.batch.specs.Beyond.{countedOf, counted-bound}
+use Rattle.batch.specs.Counting.{countedOf, counted-bound}
 use Rattle.calendar.specs.Ranges.{blank}
 use Rattle.wubraken.specs.Survey.{surveyed}
 use Rattle.wubraken.specs.declared.stretch.Served.{Served}

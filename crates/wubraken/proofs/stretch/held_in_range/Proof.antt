@@ -7,7 +7,6 @@ use Rattle.calendar.specs.Every.{every, every-none, every-step}
 use Rattle.calendar.specs.Ranges.{blank, worker, recordInRange}
 use Rattle.calendar.specs.RangeFacts.{limits}
 use Rattle.wubraken.specs.Stretch.{heldInRange}
-use borrow.Author.Needs.{needs}
 use Rattle.wubraken.proofs.stretch.held_in_range.Statement.{statement}
 use Rattle.wubraken.proofs.stretch.held_in_range.Tie as tie
 
