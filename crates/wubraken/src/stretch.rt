@@ -90,7 +90,7 @@ pub fn serve_records(
     let end = p.desk;
     let opened = end.shape;
     let left = end.table;
-    let reached = end.held;
+    let held_at_end = end.held;
     let stop = p.stop;
     let number = stop_number(stop);
     let served = Served {
@@ -101,7 +101,7 @@ pub fn serve_records(
     };
     Stretch {
         table: left,
-        held: reached,
+        held: held_at_end,
         served,
     }
 }
