@@ -1,4 +1,6 @@
 pub mod Serving
+pub mod Holding
+pub mod Counting
 pub mod Bounds
 pub mod Beyond
 pub mod Clearing

@@ -71,6 +71,7 @@ fn fresh_desk(store: &[u64]) -> Desk
         shape,
         sound: false,
         records: 64,
+        held: 0,
         table: [idle; 64],
     }
 }
