@@ -9,3 +9,4 @@ pub mod Ending
 pub mod TurnFile
 pub mod LinesFit
 pub mod Stretches
+pub mod WorkedExample
