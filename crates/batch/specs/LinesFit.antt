@@ -2,7 +2,7 @@
 use mathlib.Core.Path.{_≡_, refl}
 use mathlib.Core.List.{List, [], _∷_}
 use mathlib.Core.Bool.{Bool, true, false, cond}
-use Prim.Native.Nat.{ℕ, suc, _+_, _*_, _/_, _^_, _≤_, _<_}
+use Prim.Native.Nat.{ℕ, _*_, _/_, _^_, _≤_, _<_}
 use native.Mathlib.Omega.{arith}
 use native.Mathlib.Nat.{div-le-self}
 use lib.Dec.{eqb}
@@ -11,8 +11,7 @@ use Rattle.arrival.specs.declared.Shape.{Shape}
 use Rattle.arrival.specs.declared.Worker.{Worker}
 use Rattle.arrival.specs.declared.Action.{Action}
 use Rattle.arrival.specs.declared.Action.the-variants.{Enqueue, Dequeue, Step}
-use Rattle.arrival.specs.declared.Response.{Response}
-use Rattle.arrival.specs.declared.Response.the-variants.{Opened, Refused}
+use Rattle.arrival.specs.declared.Response.the-variants.{Refused}
 use Rattle.arrival.specs.Energy.{energyOf}
 use Rattle.calendar.specs.Layout.{Write}
 use Rattle.calendar.specs.Views.{view}

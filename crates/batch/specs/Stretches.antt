@@ -12,8 +12,8 @@ use Rattle.arrival.specs.declared.Shape.{Shape}
 use Rattle.arrival.specs.declared.Action.{Action}
 use Rattle.turn_file.specs.declared.Read.{Read}
 use Rattle.turn_file.specs.declared.Read.the-variants.{Open, Act, End, Refused}
-use Rattle.turn_file.specs.Records.{Record, opens, acts}
-use Rattle.turn_file.specs.Reading.{whole, recordAt}
+use Rattle.turn_file.specs.Records.{opens, acts}
+use Rattle.turn_file.specs.Reading.{recordAt}
 use Rattle.turn_file.specs.OneReading.{read-on}
 use Rattle.turn_file.specs.Rest.{read-rest}
 use Rattle.turn_file.specs.Lines.{lineOf}

@@ -9,7 +9,7 @@ use Rattle.turn_file.specs.declared.Read.{Read}
 use Rattle.turn_file.specs.declared.Read.the-variants.{Open, Act, End, Refused}
 use Rattle.turn_file.specs.Reading.{recordAt}
 use Rattle.turn_file.specs.Lines.{lineOf}
-use Rattle.batch.specs.Serving.{Session, Answered, opening, acting}
+use Rattle.batch.specs.Serving.{Session, opening, acting}
 
 -- the session at the end, and all lines, one behind the other
 pub record Ran : Type 0 where

@@ -4,15 +4,14 @@ use mathlib.Core.Path.{_≡_, refl, sym, ap, _∙_}
 use mathlib.Core.List.{List, _++_}
 use mathlib.Core.Bool.{Bool, true, false, cond}
 use mathlib.Core.Logic.{_⊎_, inl, inr}
-use Prim.Native.Nat.{ℕ, _+_, _*_, _-_, _<_, _≤_}
+use Prim.Native.Nat.{ℕ, _+_, _-_, _<_, _≤_}
 use native.Mathlib.Omega.{arith}
 use lib.Dec.{eqb, leb, ltb}
 use lib.ListN.{length, drop, length-append, length-drop, List·getD-append}
-use borrow.Author.Tests.{eqb-true, eqb-false, leb-true, leb-false, ltb-true, le-leb, lt-leb, eq-eqb, ne-eqb, lt-ltb}
-use Rattle.turn_file.specs.declared.Read.{Read}
+use borrow.Author.Tests.{eqb-true, leb-true, leb-false, ltb-true, le-leb, lt-leb, eq-eqb, ne-eqb, lt-ltb}
 use Rattle.turn_file.specs.declared.Read.the-variants.{End, Refused}
 use Rattle.turn_file.specs.Fields.{byteAt, twoAt, fourAt, shapeAt, arrivalAt}
-use Rattle.turn_file.specs.Records.{Record, opens, acts, OP, PU, TA, TU, sizeOf, by-mark, size-least, size-most}
+use Rattle.turn_file.specs.Records.{Record, sizeOf, by-mark, size-least, size-most}
 use Rattle.turn_file.specs.Reading.{fieldsAt, whole, markedAt, recordAt}
 use Rattle.turn_file.specs.Front.{mark-front, fields-front}
 use Rattle.turn_file.specs.Found.{found, enough, not-end, not-refused}

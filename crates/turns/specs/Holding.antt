@@ -20,7 +20,7 @@ use Rattle.batch.specs.Ending.{lentTo, begins, ends}
 use Rattle.batch.specs.Bounds.{within}
 use Rattle.batch.specs.Stretches.{Reason, stretch}
 use Rattle.turns.specs.declared.Next.{Next}
-use Rattle.turns.specs.declared.Next.the-variants.{Serve, Read, End, Last}
+use Rattle.turns.specs.declared.Next.the-variants.{Read, Last}
 use Rattle.turns.specs.declared.Round.{Round}
 use Rattle.turns.specs.Moving.{moved}
 use Rattle.turns.specs.Running.{follows, lastLine, Held, Rounded, rounded, roundOf, isEmpty}

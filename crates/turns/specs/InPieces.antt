@@ -7,20 +7,19 @@ use Prim.Native.Nat.{ℕ, zero, suc, _+_, _≤_, _<_}
 use native.Mathlib.Omega.{arith}
 use lib.Dec.{eqb}
 use lib.ListN.{length, take, drop, length-append, length-drop, drop-of-length-le}
-use lib.Seq.{take-at, length-take-le}
-use borrow.Author.Tests.{eqb-true, eqb-false}
+use borrow.Author.Tests.{eqb-false}
 use Rattle.arrival.specs.declared.Response.the-variants as response
 use Rattle.calendar.specs.Operations.{Memory}
 use Rattle.turn_file.specs.declared.Read.the-variants.{Refused}
 use Rattle.turn_file.specs.Reading.{recordAt}
-use Rattle.turn_file.specs.Rest.{Unknown, Cut, at-end, why-refused, unknown-refused, cut-refused, unknown-rest, cut-rest, cut-short}
+use Rattle.turn_file.specs.Rest.{Unknown, Cut, at-end, why-refused, unknown-refused, cut-refused, unknown-rest, cut-rest}
 use Rattle.turn_file.specs.Lines.{lineOf, line-most}
-use Rattle.turn_file.specs.Buffer.{written, after, roomy, written-length}
+use Rattle.turn_file.specs.Buffer.{written, after, written-length}
 use Rattle.batch.specs.declared.Stop.{Stop}
 use Rattle.batch.specs.declared.Stop.the-variants.{Drained, Full, Halted}
 use Rattle.batch.specs.Serving.{Session, Progress, Stopped, servedAll}
 use Rattle.batch.specs.Bounds.{within}
-use Rattle.batch.specs.TurnFile.{Ran, behind, records, allRecords, turnFile}
+use Rattle.batch.specs.TurnFile.{behind, records, allRecords, turnFile}
 use Rattle.batch.specs.Stretches.{Stretch, stretch, line-behind}
 use Rattle.turns.specs.declared.Next.{Next}
 use Rattle.turns.specs.declared.Next.the-variants.{Serve, Read, End, Last}

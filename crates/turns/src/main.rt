@@ -1,8 +1,7 @@
 // `turns`: a turn file on standard input, its lines on standard output.
 ghost use mathlib.Core.Path.{_≡_};
 ghost use Prim.Native.Nat.{_-_, _≤_, _<_};
-ghost use lib.ListN.{length, take, replicate};
-ghost use Rattle.calendar.specs.Ranges.{blank};
+ghost use lib.ListN.{length, take};
 ghost use Rattle.turn_file.specs.Buffer.{written, after};
 ghost use Rattle.batch.specs.TurnFile.{zeros};
 ghost use Rattle.batch.specs.Ending.{Sound};
