@@ -14,11 +14,12 @@ use Rattle.arrival.specs.declared.Action.{Action}
 use Rattle.arrival.specs.declared.Action.the-variants.{Enqueue, Dequeue, Step}
 use Rattle.arrival.specs.declared.Response.the-variants.{Opened, Refused}
 use Rattle.calendar.specs.Every.{every-same}
-use Rattle.calendar.specs.Ranges.{blank, worker, recordInRange, tableInRange}
+use Rattle.calendar.specs.Ranges.{shapeInRange, blank, worker, recordInRange, tableInRange}
 use Rattle.calendar.specs.Reclaim.{startedBy, isFree, nodeAfter, firstFreeOf, firstFree}
 use Rattle.calendar.specs.Layout.{standing}
 use Rattle.calendar.specs.Opening.{openStore, openTable}
 use Rattle.calendar.specs.Refusals.{firstOf, badShape, tooShort, outOfRange, noWorker, badArrival, tooLate, busy, idle, noTicket, noEpoch, noNode, openRefusal, enqueueRefusal, dequeueRefusal, stepRefusal}
+use Rattle.calendar.specs.RangeFacts.{limits}
 use Rattle.calendar.specs.Accepted.{enqueue-accepted, dequeue-accepted, step-accepted}
 use Rattle.calendar.specs.Operations.{Memory, Result, perform, actor, refusal, outcome, act, open-pool}
 
@@ -109,3 +110,38 @@ module _ (sh : Shape) (s : List ℕ) (t u : List Worker) (long : sh .workers ≤
           ap (λ (x : List Worker). record { memory = record { store = openStore sh s; table = x }; response = Opened })
           (ap (λ (x : List Worker). replicate (sh .workers) blank ++ x) (drop-append-le (sh .workers) t u long) ∙ sym (append-assoc (replicate (sh .workers) blank) (drop (sh .workers) t) u))
       go false = refl
+
+-- ── any shape: one within its limits has at most 64 workers ──
+refused-1 : (sh : Shape) (m : Memory) → shapeInRange sh ≡ false → (a : Action) → refusal sh m a ≡ 1
+unfolding enqueueRefusal dequeueRefusal stepRefusal
+refused-1 sh m e (Enqueue i x) = rw e
+refused-1 sh m e (Dequeue i) = rw e
+refused-1 sh m e (Step i) = rw e
+
+module _ (sh : Shape) (m : Memory) (u : List Worker) (long : 64 ≤ length (m .table)) where
+  enough : shapeInRange sh ≡ true → sh .workers ≤ length (m .table)
+  enough e = omega (arith, limits sh e .workers, long)
+
+  pub act-beyond : (a : Action) → act sh (longer m u) a ≡ keeping (act sh m a) u
+  unfolding act
+  act-beyond a = go (shapeInRange sh) refl
+    where
+      go : (b : Bool) → shapeInRange sh ≡ b → act sh (longer m u) a ≡ keeping (act sh m a) u
+      go true e = act-same sh (m .store) (m .table) u (enough e) a
+      go false e = rw (refused-1 sh (longer m u) e a, refused-1 sh m e a)
+
+  pub open-refusal-beyond : openRefusal sh (m .store) (m .table ++ u) ≡ openRefusal sh (m .store) (m .table)
+  unfolding openRefusal
+  open-refusal-beyond = go (shapeInRange sh) refl
+    where
+      go : (b : Bool) → shapeInRange sh ≡ b → openRefusal sh (m .store) (m .table ++ u) ≡ openRefusal sh (m .store) (m .table)
+      go true e = rw (long-enough sh (m .store) (m .table) u (enough e))
+      go false e = rw e
+
+  pub open-beyond : open-pool sh (longer m u) ≡ keeping (open-pool sh m) u
+  unfolding open-pool openRefusal
+  open-beyond = go (shapeInRange sh) refl
+    where
+      go : (b : Bool) → shapeInRange sh ≡ b → open-pool sh (longer m u) ≡ keeping (open-pool sh m) u
+      go true e = open-same sh (m .store) (m .table) u (enough e)
+      go false e = rw e
