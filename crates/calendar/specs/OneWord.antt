@@ -2,17 +2,18 @@
 -- writes to no other. Assumes nothing.
 use mathlib.Core.Path.{_≡_, refl, sym, ap, _∙_, subst}
 use mathlib.Core.List.{List, [], _∷_, List·Memᴰ, List·Memᴰ·head, List·Memᴰ·tail}
-use mathlib.Core.Bool.{cond}
+use mathlib.Core.Bool.{Bool, true, false, cond}
 use mathlib.Core.Logic.{_≢_, _⊎_, inl, inr}
 use Prim.Native.Nat.{ℕ, _+_, _≤_}
 use native.Mathlib.Omega.{arith}
 use lib.Dec.{eqb, ltb}
 use lib.ListN.{getD}
+use borrow.Author.Tests.{eqb-false}
 use Rattle.arrival.specs.declared.Shape.{Shape}
 use Rattle.arrival.specs.declared.Item.{Item}
 use Rattle.arrival.specs.declared.Worker.{Worker}
 use Rattle.arrival.specs.declared.Response.the-variants.{Stored, Empty}
-use Rattle.arrival.specs.Keys.{lower}
+use Rattle.arrival.specs.Keys.{SameKey, lower-by-key}
 use Rattle.arrival.specs.Queue.{taken}
 use Rattle.calendar.specs.Layout.{Place, word, cell, field, Write, _≔_, read, started, linkCell, itemAt, epochAt, successor, isMarked, unmarked, unlinkedAt, bucketIn, epochIn}
 use Rattle.calendar.specs.Outcome.{Outcome, on, answer, withOwn, withBucket, withLeft, withRight, withSeen, withCurrent}
@@ -52,22 +53,28 @@ sharedWords sh w =
 abbrev pub sharedWord : Shape → Worker → Place
 sharedWord sh w = getD (sharedWords sh w) (w .stage) current-word
 
--- What a turn may look at in two stores, and finds the same: its shared word; the bookkeeping of 3, word 1; and of the nodes
--- that the call stands on (StoodOn), the arrival in own node during a search, that in right at 2, and right's epoch at 10.
+-- What a turn may look at in two stores, and finds the same: its shared word; the bookkeeping of 3, word 1; of nodes that the
+-- call stands on (StoodOn) the keys of own node and right at 2, and right's epoch at 10; and the arrival that a take answers,
+-- in its own node.
 pub record SameSeen (sh : Shape) (w : Worker) (s s′ : List ℕ) : Type 0 where
   pub shared : read sh s′ (sharedWord sh w) ≡ read sh s (sharedWord sh w)
   pub calls : w .stage ≡ 3 → started sh s′ ≡ started sh s
-  pub own : 1 ≤ w .stage → w .stage ≤ 3 → itemAt sh s′ (w .own) ≡ itemAt sh s (w .own)
-  pub right : w .stage ≡ 2 → itemAt sh s′ (w .right) ≡ itemAt sh s (w .right)
+  pub own : w .stage ≡ 2 → SameKey (itemAt sh s′ (w .own)) (itemAt sh s (w .own))
+  pub right : w .stage ≡ 2 → SameKey (itemAt sh s′ (w .right)) (itemAt sh s (w .right))
+  pub answer : 1 ≤ w .stage → w .stage ≤ 3 → w .kind ≢ 0 → itemAt sh s′ (w .own) ≡ itemAt sh s (w .own)
   pub epoch : w .stage ≡ 10 → epochAt sh s′ (w .right) ≡ epochAt sh s (w .right)
 
 -- ── what a turn depends on ──
 module _ (sh : Shape) (s s′ : List ℕ) where
-  found-same : (ws : List Write) (v : Worker) → itemAt sh s′ (v .own) ≡ itemAt sh s (v .own) → found sh s′ ws v ≡ found sh s ws v
+  found-same : (ws : List Write) (v : Worker) → (v .kind ≢ 0 → itemAt sh s′ (v .own) ≡ itemAt sh s (v .own)) → found sh s′ ws v ≡ found sh s ws v
   unfolding found
-  found-same ws v e = ap (λ (x : Item). cond (eqb (v .kind) 0) (on ws 4 v) (answer ws v (taken x))) e
+  found-same ws v e = go (eqb (v .kind) 0) refl
+    where
+      go : (b : Bool) → eqb (v .kind) 0 ≡ b → cond b (on ws 4 v) (answer ws v (taken (itemAt sh s′ (v .own)))) ≡ cond b (on ws 4 v) (answer ws v (taken (itemAt sh s (v .own))))
+      go true q = refl
+      go false q = ap (λ (x : Item). answer ws v (taken x)) (e (eqb-false (v .kind) 0 q))
 
-  settle-same : (ws : List Write) (v : Worker) → itemAt sh s′ (v .own) ≡ itemAt sh s (v .own) → settle sh s′ ws v ≡ settle sh s ws v
+  settle-same : (ws : List Write) (v : Worker) → (v .kind ≢ 0 → itemAt sh s′ (v .own) ≡ itemAt sh s (v .own)) → settle sh s′ ws v ≡ settle sh s ws v
   unfolding settle
   settle-same ws v e = ap (λ (o : Outcome). cond (eqb (v .right) (sh .nodes)) o (on ws 2 v)) (found-same ws v e)
 
@@ -87,28 +94,25 @@ module _ (sh : Shape) (s s′ : List ℕ) where
     unfolding step-1
     same-1 q h =
         ap (λ x. settle sh s′ [] (withLeft (w .bucket) (withRight (successor x) w))) (shared-at 1 q h)
-        ∙ settle-same [] _ (h .own (omega arith) (omega arith))
+        ∙ settle-same [] _ (h .answer (omega arith) (omega arith))
 
     same-2 : Same 2 step-2
     unfolding step-2
     same-2 q h = λ j.
         cond (isMarked (x j)) (on [] 3 (withSeen (x j) w))
-        (cond (lower (h .right q j) (own j)) (passes j) (stops j))
+        (cond (lower-by-key _ _ _ _ (h .right q) (h .own q) j) (passes j) (stops j))
       where
         x : read sh s′ (right-link sh w) ≡ read sh s (right-link sh w)
         x = shared-at 2 q h
-
-        own : itemAt sh s′ (w .own) ≡ itemAt sh s (w .own)
-        own = h .own (omega arith) (omega arith)
 
         on-from : ℕ → Worker
         on-from y = withLeft (linkCell sh (w .right)) (withRight (successor y) (withSeen y w))
 
         passes : settle sh s′ [] (on-from (read sh s′ (right-link sh w))) ≡ settle sh s [] (on-from (read sh s (right-link sh w)))
-        passes = ap (λ y. settle sh s′ [] (on-from y)) x ∙ settle-same [] _ own
+        passes = ap (λ y. settle sh s′ [] (on-from y)) x ∙ settle-same [] _ (h .answer (omega arith) (omega arith))
 
         stops : found sh s′ [] (withSeen (read sh s′ (right-link sh w)) w) ≡ found sh s [] (withSeen (read sh s (right-link sh w)) w)
-        stops = ap (λ y. found sh s′ [] (withSeen y w)) x ∙ found-same [] _ own
+        stops = ap (λ y. found sh s′ [] (withSeen y w)) x ∙ found-same [] _ (h .answer (omega arith) (omega arith))
 
     same-3 : Same 3 step-3
     unfolding step-3
@@ -118,7 +122,7 @@ module _ (sh : Shape) (s s′ : List ℕ) where
         writes n = (left-word w ≔ unmarked (successor (w .seen))) ∷ (field 7 (w .right) ≔ unlinkedAt n) ∷ []
 
         unlinks : settle sh s′ (unlink sh s′ w) (withRight (successor (w .seen)) w) ≡ settle sh s (unlink sh s w) (withRight (successor (w .seen)) w)
-        unlinks = ap (λ n. settle sh s′ (writes n) (withRight (successor (w .seen)) w)) (h .calls q) ∙ settle-same _ _ (h .own (omega arith) (omega arith))
+        unlinks = ap (λ n. settle sh s′ (writes n) (withRight (successor (w .seen)) w)) (h .calls q) ∙ settle-same _ _ (h .answer (omega arith) (omega arith))
 
     same-4 : Same 4 step-4
     unfolding step-4

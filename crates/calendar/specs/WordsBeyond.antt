@@ -9,7 +9,9 @@ use lib.ListN.{length, drop, set, length-append, List·getD-append}
 use lib.Seq.{set-append-left, drop-append-le}
 use borrow.Author.Tests.{eqb-true, le-ltb, ltb-true}
 use Rattle.arrival.specs.declared.Shape.{Shape}
+use Rattle.arrival.specs.declared.Item.{Item}
 use Rattle.arrival.specs.declared.Worker.{Worker}
+use Rattle.arrival.specs.Keys.{SameKey}
 use Rattle.arrival.specs.declared.Action.{Action}
 use Rattle.arrival.specs.declared.Action.the-variants.{Enqueue, Dequeue, Step}
 use Rattle.arrival.specs.declared.Response.{Response}
@@ -59,6 +61,9 @@ module _ (sh : Shape) (s v : List ℕ) (long : layout sh ≤ length s) where
     distance = same-field 5 n (lit< tt) l j;
     ticket = same-field 2 n (lit< tt) l j;
   }
+
+  same-key : (n : ℕ) → n < sh .nodes → SameKey (itemAt sh (s ++ v) n) (itemAt sh s n)
+  same-key n l = let e = same-item n l in record { time = ap (λ (x : Item). x .time) e; ticket = ap (λ (x : Item). x .ticket) e }
 
   -- ── refusals ──
   long-enough : ltb (length (s ++ v)) (layout sh) ≡ ltb (length s) (layout sh)
@@ -139,8 +144,9 @@ module _ (sh : Shape) (s v : List ℕ) (long : layout sh ≤ length s) where
     seen-same w r = record {
       shared = same (sharedWord sh w) (shared-inside w r);
       calls = λ q. same-word 1 (lit< tt);
-      own = λ lo hi. same-item (w .own) (r .own);
-      right = λ q. same-item (w .right) (omega (arith, r .right, r .searches (omega arith) (omega arith)));
+      own = λ q. same-key (w .own) (r .own);
+      right = λ q. same-key (w .right) (omega (arith, r .right, r .searches (omega arith) (omega arith)));
+      answer = λ lo hi take. same-item (w .own) (r .own);
       epoch = λ q. same-field 6 (w .right) (lit< tt) (omega (arith, r .right, r .walks (omega arith) (omega arith)));
     }
 

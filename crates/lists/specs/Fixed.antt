@@ -41,7 +41,7 @@ use Rattle.lists.specs.Reuse.{SomeReached, history-reaches, act-reaches,
 -- ── one action ──
 -- the arrival in x, and where the actor does not prepare x its epoch, are as they were
 abbrev Kept : ℕ → View → View → Type 0 → Type 0
-Kept x m m′ Linked = (itemIn m′ x ≡ itemIn m x) × (Linked → m′ .epoch x ≡ m .epoch x)
+Kept x m m′ NotPrepared = (itemIn m′ x ≡ itemIn m x) × (NotPrepared → m′ .epoch x ≡ m .epoch x)
 
 module _ (sh : Shape) (s : List ℕ) (w : Worker) (x : ℕ) where
   abbrev m : View
@@ -137,12 +137,12 @@ abbrev pub Throughout : Shape → (Worker → Type 0) → ℕ → Memory → Lis
 Throughout sh P j m [] = Unit {0}
 Throughout sh P j m (a ∷ h) = P (worker (m .table) j) × Throughout sh P j (act sh m a .memory) h
 
--- a call that stands on x, and one that does not prepare it in its next turn
+-- a call stands on x; and it does not prepare x, as a put's turn at 4 does its own node
 abbrev pub StandsOn : Shape → ℕ → Worker → Type 0
 StandsOn sh x w = holds sh w x ≡ true
 
-abbrev pub Linked : Shape → ℕ → Worker → Type 0
-Linked sh x w = StandsOn sh x w × (w .stage ≡ 4 → w .own ≢ x)
+abbrev pub OnlyStandsOn : Shape → ℕ → Worker → Type 0
+OnlyStandsOn sh x w = StandsOn sh x w × (w .stage ≡ 4 → w .own ≢ x)
 
 module _ (sh : Shape) (j x : ℕ) (l : j < sh .workers) (isNode : x < sh .nodes) where
   arrival-kept : (m : Memory) → SomeReached sh m → (h : List Action) → Throughout sh (StandsOn sh x) j m h → itemAt sh (run sh m h .store) x ≡ itemAt sh (m .store) x
@@ -150,7 +150,7 @@ module _ (sh : Shape) (j x : ℕ) (l : j < sh .workers) (isNode : x < sh .nodes)
   arrival-kept m K [] t = refl
   arrival-kept m K (a ∷ h) t = arrival-kept (act sh m a .memory) (act-reaches sh m a K) h (t .1) ∙ kept sh m (K .0) (K .1) j x l isNode (t .0) a .0
 
-  epoch-kept : (m : Memory) → SomeReached sh m → (h : List Action) → Throughout sh (Linked sh x) j m h → epochAt sh (run sh m h .store) x ≡ epochAt sh (m .store) x
+  epoch-kept : (m : Memory) → SomeReached sh m → (h : List Action) → Throughout sh (OnlyStandsOn sh x) j m h → epochAt sh (run sh m h .store) x ≡ epochAt sh (m .store) x
   unfolding run
   epoch-kept m K [] t = refl
   epoch-kept m K (a ∷ h) t = epoch-kept (act sh m a .memory) (act-reaches sh m a K) h (t .1) ∙ kept sh m (K .0) (K .1) j x l isNode (t .0 .0) a .1 (t .0 .1)
@@ -162,5 +162,5 @@ module _ (sh : Shape) (j x : ℕ) (l : j < sh .workers) (isNode : x < sh .nodes)
 
   -- AND SO DOES ITS EPOCH
   pub epoch-fixed : (m : Memory) → open-pool sh m .response ≡ Opened → (g h : List Action) → let n = run sh (open-pool sh m .memory) g in
-      Throughout sh (Linked sh x) j n h → epochAt sh (run sh n h .store) x ≡ epochAt sh (n .store) x
+      Throughout sh (OnlyStandsOn sh x) j n h → epochAt sh (run sh n h .store) x ≡ epochAt sh (n .store) x
   epoch-fixed m e g h = epoch-kept (run sh (open-pool sh m .memory) g) (history-reaches sh m e g) h
