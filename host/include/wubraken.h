@@ -149,7 +149,7 @@ typedef struct {
 /* Works through the records of a turn file and writes one line a record, as the
  * single calls would answer them. It looks through the lent memory once, not
  * once a record, and works on a copy of the workers' records, which it stores
- * back. It needs at least WUBRAKEN_LINE bytes of room, and some 16 KB of stack.
+ * back. It needs at least WUBRAKEN_LINE bytes of room, and some 20 KB of stack.
  * To go on, hand in the shape it answered and the input from `read` on. */
 wubraken_served wubraken_serve(wubraken_shape shape,
                                const uint8_t *input, size_t bytes,

@@ -43,6 +43,10 @@ sameNumbers [] (y ∷ ys) = false
 sameNumbers (x ∷ xs) [] = false
 sameNumbers (x ∷ xs) (y ∷ ys) = eqb x y && sameNumbers xs ys
 
+-- what the statement asks of a finished call's reply, and the test
+abbrev Same : Reply → Reply → Type 0
+Same r q = r ≡ q
+
 abbrev pub sameReply : Reply → Reply → Bool
 sameReply r q = eqb (r .ticket) (q .ticket) && sameNumbers (numbers (r .response)) (numbers (q .response))
 
@@ -91,7 +95,7 @@ same-numbers : (xs : List ℕ) → sameNumbers xs xs ≡ true
 same-numbers [] = refl
 same-numbers (x ∷ xs) = rw (eq-eqb x x refl) (same-numbers xs)
 
-same-reply : (r q : Reply) → r ≡ q → sameReply r q ≡ true
+same-reply : (r q : Reply) → Same r q → sameReply r q ≡ true
 same-reply r q e = rw (← e, eq-eqb (r .ticket) (r .ticket) refl) (same-numbers (numbers (r .response)))
 
 all-true : (f : ℕ → Bool) (xs : List ℕ) → ((x : ℕ) → List·Memᴰ x xs → f x ≡ true) → all f xs ≡ true
@@ -187,13 +191,13 @@ module _ (L : Ledger) where
     where
       go : (x : Option ℕ) → L .ended y ≡ x → not (endedBefore x c) ≡ true
       go none e = refl
-      go (some s) e = pick (ltb s c) refl
+      go (some s) e = pick (endedBefore (some s) c) refl
         where
-          pick : (t : Bool) → ltb s c ≡ t → not t ≡ true
+          pick : (t : Bool) → endedBefore (some s) c ≡ t → not t ≡ true
           pick true q = absurd (h (s, e, ltb-true s c q))
           pick false q = refl
 
-  answered : (c : ℕ) (r : Reply) → (Finished L c → r ≡ poolReply L c) → (not (isFinished (L .ended c)) || sameReply r (poolReply L c)) ≡ true
+  answered : (c : ℕ) (r : Reply) → (Finished L c → Same r (poolReply L c)) → (not (isFinished (L .ended c)) || sameReply r (poolReply L c)) ≡ true
   answered c r h = go (L .ended c) refl
     where
       go : (x : Option ℕ) → L .ended c ≡ x → (not (isFinished x) || sameReply r (poolReply L c)) ≡ true
@@ -205,7 +209,7 @@ module _ (L : Ledger) where
   stops rest fin = all-true (λ c. not (isFinished (L .ended c))) rest (λ c i. not-finished c (λ f. List·Memᴰ·not-nil (fin c i f)))
 
   -- what stands first may come next
-  comes-next : (S : Items) (rest : List ℕ) (c : ℕ) (o : List ℕ) → ((d : ℕ) → List·Memᴰ d rest → Finished L d → List·Memᴰ d (c ∷ o)) → RespectsTime L (c ∷ o) → (Finished L c → reply S (L .asked c) ≡ poolReply L c)
+  comes-next : (S : Items) (rest : List ℕ) (c : ℕ) (o : List ℕ) → ((d : ℕ) → List·Memᴰ d rest → Finished L d → List·Memᴰ d (c ∷ o)) → RespectsTime L (c ∷ o) → (Finished L c → Same (reply S (L .asked c)) (poolReply L c))
       → mayBeNext L S rest c ≡ true
   comes-next S rest c o fin time agree =
       rw (all-true (λ y. not (endedBefore (L .ended y) c)) (without c rest) (λ y i. let (j, apart) = without-in c y rest i in not-ended y c (λ (s, e, l). time .0 y (behind c y o apart (fin y j (s, e))) (s, e, l))))

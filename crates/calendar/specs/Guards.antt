@@ -1,5 +1,5 @@
 -- Guards of the statement of demand 3: ledgers that no correct pool leaves have no linearization, and beside each a ledger that
--- has just one. A weaker statement fails here. Assumes nothing.
+-- has at most one. Assumes nothing.
 use mathlib.Core.Path.{_≡_, refl, subst}
 use mathlib.Core.List.{List, [], _∷_, List·Memᴰ, List·Memᴰ·not-nil, List·Memᴰ·eq-of-singleton}
 use Prim.Native.Nat.{ℕ}
