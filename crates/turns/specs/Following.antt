@@ -1,4 +1,5 @@
--- The loop follows the rounds: what has been done, and what is done from here on, is what the rounds do on what was read. Assumes nothing.
+-- The loop follows the rounds: what has been done, and what is done from here on, is what the rounds do on what was read; where a round
+-- ends the run, that is what the turn file does. Assumes nothing.
 use mathlib.Core.Path.{_≡_, refl, sym, ap, _∙_, subst, subst⁻¹}
 use mathlib.Core.List.{List, [], _∷_, _++_}
 use mathlib.Core.Bool.{false}
@@ -25,7 +26,7 @@ use Rattle.turns.specs.Holding.{inHand, holding, leaves, read-behind, no
 abbrev pub allRounds : ℕ
 allRounds = 18446744073709551615
 
--- so many rounds are left
+-- up to h, with so many rounds left
 pub record Followed (start h : Held) (left : ℕ) : Type 0 where
   pub count : ℕ
   pub reads : Reads
@@ -43,7 +44,8 @@ pub record After (count : ℕ) (start : Held) (store : List ℕ) : Type 0 where
   pub reads : Reads
   pub same : store ≡ rounds count reads start .session .memory .store
 
-pub record Cut (start : Held) (store : List ℕ) : Type 0 where
+-- after some rounds, at least one
+pub record Interrupted (start : Held) (store : List ℕ) : Type 0 where
   pub count : ℕ
   pub some : 0 < count
   pub after : After count start store
@@ -51,7 +53,7 @@ pub record Cut (start : Held) (store : List ℕ) : Type 0 where
 -- by why the rounds ended
 abbrev pub Outcome : Held → List ℕ → Ended → Type 0
 Outcome start store Finished = Whole store
-Outcome start store Closed = Cut start store
+Outcome start store Closed = Interrupted start store
 Outcome start store Spent = After allRounds start store
 
 pub at-start : (start : Held) → Followed start start allRounds
@@ -103,7 +105,7 @@ module _ (start h : Held) (left : ℕ) (F : Followed start h left) where
     stops (Last k) = refl
 
     -- left behind this round, whatever would follow
-    pub closed : (store : List ℕ) → store ≡ r .session .memory .store → Cut start store
+    pub closed : (store : List ℕ) → store ≡ r .session .memory .store → Interrupted start store
     closed store e = record {
       count = F .count + 1 + 0;
       some = omega arith;

@@ -171,7 +171,7 @@ fn one_round(
     }
 }
 
-// Round after round, until one says that the run ends, or the output is closed.
+// Round after round, until one says that the run ends, the output is closed, or all rounds are used up.
 fn run(store: &mut [u64], input: &mut [u8], out: &mut [u8]) -> Ended
     requires { ⌜ (now store ≡ lent .store) × (12 ≤ length (now input)) × (89 ≤ length (now out)) ⌝ }
     ensures { λ r. ⌜ Outcome (atFirst lent (now (out .entry))) (now (store .exit)) r ⌝ }
