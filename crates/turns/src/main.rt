@@ -8,7 +8,7 @@ ghost use Rattle.batch.specs.Ending.{Sound};
 ghost use Rattle.turns.specs.Moving.{moved};
 ghost use Rattle.turns.specs.Running.{lent, follows, lastLine, roundOf, atFirst};
 ghost use Rattle.turns.specs.Holding.{inHand, holding, leaves, Placed};
-ghost use Rattle.turns.specs.Following.{Came};
+ghost use Rattle.turns.specs.Following.{Outcome};
 use arrival::Response;
 use arrival::Shape;
 use arrival::Worker;
@@ -33,6 +33,13 @@ struct Round {
     at: usize,
     to: usize,
     next: Next,
+}
+
+// Why the rounds ended: one said so, the output was closed, or all were used up.
+enum Ended {
+    Finished,
+    Closed,
+    Spent,
 }
 
 // How many words are lent.
@@ -164,10 +171,10 @@ fn one_round(
     }
 }
 
-// Round after round, until one says that the run ends, or the output is closed.
-fn run(store: &mut [u64], input: &mut [u8], out: &mut [u8])
+// Round after round, until one says that the run ends, the output is closed, or all rounds are used up.
+fn run(store: &mut [u64], input: &mut [u8], out: &mut [u8]) -> Ended
     requires { ⌜ (now store ≡ lent .store) × (12 ≤ length (now input)) × (89 ≤ length (now out)) ⌝ }
-    ensures { λ _. ⌜ Came (atFirst lent (now (out .entry))) (now (store .exit)) ⌝ }
+    ensures { λ r. ⌜ Outcome (atFirst lent (now (out .entry))) (now (store .exit)) r ⌝ }
 {
     let mut desk = fresh_desk(store);
     let mut ended = false;
@@ -179,7 +186,7 @@ fn run(store: &mut [u64], input: &mut [u8], out: &mut [u8])
         let r = one_round(desk, ended, input, at, have, out, store);
         let to = r.to;
         if !io::write_all(STDOUT_FILENO, &out[..to]) {
-            return;
+            return Ended::Closed;
         }
         let after = r.desk;
         desk = after;
@@ -194,18 +201,19 @@ fn run(store: &mut [u64], input: &mut [u8], out: &mut [u8])
                 ended = have == kept;
             }
             Next::End => {
-                return;
+                return Ended::Finished;
             }
             Next::Last(_) => {
-                return;
+                return Ended::Finished;
             }
         }
     }
+    Ended::Spent
 }
 
 fn main() {
     let mut store = lent_words();
     let mut input = io::large_buffer();
     let mut out = io::large_buffer();
-    run(&mut store, &mut input, &mut out);
+    let _ended = run(&mut store, &mut input, &mut out);
 }

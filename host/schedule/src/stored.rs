@@ -11,6 +11,12 @@ use crate::script::{arrival, put, took, turn, Script};
 /// The bytes that one read of `turns` can hand over.
 pub const PIECE: usize = 65_536;
 
+/// The bytes of lines that `turns` has room for.
+pub const BUFFER: usize = 65_536;
+
+/// So many turns of an idle worker, whose lines are longer than they are, make the lines of the first piece too many for the buffer.
+const IDLE_TURNS: usize = 8_300;
+
 /// Of the record that the first read cuts, these bytes come before the cut, which lies in its time.
 const BEFORE_THE_CUT: usize = 4;
 
@@ -61,7 +67,7 @@ fn worked_example(script: Script) -> Script {
 }
 
 /// As many workers as records are lent, and refused records up to the end of the first piece, where the last worker's put is cut;
-/// a take that began before gets its arrival.
+/// their lines fill the buffer once before. A take that began before gets the put's arrival.
 fn across_the_cut(script: Script) -> Script {
     let late = Arrival {
         time: 109_517,
@@ -70,6 +76,9 @@ fn across_the_cut(script: Script) -> Script {
         distance: 1_024,
     };
     let mut script = script.opened(64, 4, 2, 65_535).take(0);
+    for _ in 0..IDLE_TURNS {
+        script = script.refused(turn(1), 10);
+    }
     let room = PIECE - BEFORE_THE_CUT - script.bytes().len();
     for number in 0..room / 12 {
         let (record, refusal) = refused_put(number, late);

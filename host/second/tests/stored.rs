@@ -1,6 +1,6 @@
 //! The stored input of `turns` and its stored lines: as the script has them, and as this program prints them.
 
-use schedule::stored::{input, output, script, PIECE};
+use schedule::stored::{input, output, script, BUFFER, PIECE};
 
 const INPUT: &[u8] = include_bytes!("../../../crates/turns/stdin");
 const OUTPUT: &str = include_str!("../../../crates/turns/stdout");
@@ -34,4 +34,20 @@ fn cut_by_the_first_read() {
         }
     }
     panic!("shorter than a piece");
+}
+
+/// The buffer is full, and written out, before the first piece is worked through.
+#[test]
+fn full_within_the_first_piece() {
+    let script = script();
+    let mut bytes = Vec::new();
+    let mut lines = 0;
+    for (record, line) in script.records().iter().zip(script.lines()) {
+        record.encode(&mut bytes);
+        if bytes.len() > PIECE {
+            break;
+        }
+        lines += line.len() + 1;
+    }
+    assert!(lines > BUFFER, "{lines} bytes of lines fit");
 }
