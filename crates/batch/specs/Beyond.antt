@@ -328,6 +328,57 @@ module _ (bytes : List ℕ) where
 
   -- A stretch on two tables that are alike: the same store, lines, shape and stop, the same held records, and each table's own behind them.
   -- (With u the table itself: what is behind the held records stays.)
-  pub all-beyond : (p : Progress) (k : ℕ) (u : List Worker) → Alike k (p .session .memory .table) u → Covers (p .session .shape) (length (p .session .memory .table)) k
+  pub all-alike : (p : Progress) (k : ℕ) (u : List Worker) → Alike k (p .session .memory .table) u → Covers (p .session .shape) (length (p .session .memory .table)) k
       → servedAll bytes (onTable p u) ≡ keepingFrom (heldAll bytes k p) (servedAll bytes p) u
-  all-beyond p k u A covers = served-alike (length bytes + 1) p k u A covers
+  all-alike p k u A covers = served-alike (length bytes + 1) p k u A covers
+
+-- ── records past the 64th ──
+-- the same with records u behind the table
+abbrev pub more : Progress → List Worker → Progress
+more p u = onTable p (p .session .memory .table ++ u)
+
+take-append-le : (k : ℕ) (t u : List Worker) → k ≤ length t → take k (t ++ u) ≡ take k t
+take-append-le zero t u h = refl
+take-append-le (suc k) [] u h = absurd (omega arith)
+take-append-le (suc k) (x ∷ t) u h = ap (λ (y : List Worker). x ∷ y) (take-append-le k t u (omega arith))
+
+all-64 : (n : ℕ) → 64 ≤ n → countedOf n ≡ 64
+all-64 n h = omega (arith, counted-bound n .1, counts n 64 h (omega arith))
+
+-- They do not matter, and stay.
+pub all-beyond : (bytes : List ℕ) (u : List Worker) (p : Progress) → 64 ≤ length (p .session .memory .table)
+    → servedAll bytes (more p u) ≡ record { progress = more (servedAll bytes p .progress) u; stop = servedAll bytes p .stop }
+all-beyond bytes u p long =
+    all-alike bytes p 64 (t ++ u) longer covers
+    ∙ ap (λ (v : List Worker). record { progress = onTable (servedAll bytes p .progress) v; stop = servedAll bytes p .stop }) tables
+  where
+    t : List Worker
+    t = p .session .memory .table
+
+    h : ℕ
+    h = heldAll bytes 64 p
+
+    t′ : List Worker
+    t′ = servedAll bytes p .progress .session .memory .table
+
+    covers : Covers (p .session .shape) (length (p .session .memory .table)) 64
+    covers e w = limits (p .session .shape) e .workers
+
+    within : 64 ≤ countedOf (length (p .session .memory .table))
+    within = omega (arith, all-64 (length t) long)
+
+    itself-alike : Alike 64 (p .session .memory .table) (p .session .memory .table)
+    itself-alike = record { first = refl; counted = refl; within = within }
+
+    longer : Alike 64 (p .session .memory .table) (p .session .memory .table ++ u)
+    longer = record { first = take-append-le 64 t u long; counted = all-64 (length (t ++ u)) (omega (arith, length-append t u)) ∙ sym (all-64 (length t) long); within = within }
+
+    -- what is behind the held records stays
+    stays : servedAll bytes p .progress .session .memory .table ≡ over (heldAll bytes 64 p) (servedAll bytes p .progress .session .memory .table) (p .session .memory .table)
+    stays = ap (λ (q : Stopped). q .progress .session .memory .table) (all-alike bytes p 64 t itself-alike covers)
+
+    tables : over (heldAll bytes 64 p) (servedAll bytes p .progress .session .memory .table) (p .session .memory .table ++ u) ≡ servedAll bytes p .progress .session .memory .table ++ u
+    tables =
+        ap (λ (v : List Worker). take h t′ ++ v) (drop-append-le h t u (omega (arith, all-within bytes p 64 within, counted-bound (length t) .0)))
+        ∙ sym (append-assoc (take h t′) (drop h t) u)
+        ∙ ap (λ (v : List Worker). v ++ u) (sym stays)

@@ -22,7 +22,7 @@ use Rattle.batch.specs.Serving.{Stopped, servedAll}
 use Rattle.batch.specs.Holding.{heldAll}
 use Rattle.batch.specs.Rounds.{at-work}
 use Rattle.batch.specs.Counting.{countedOf, counted-bound, counted-again, counts}
-use Rattle.batch.specs.Beyond.{over, all-within, all-beyond}
+use Rattle.batch.specs.Beyond.{over, all-within, all-alike}
 use Rattle.wubraken.specs.declared.stretch.Served.{Served}
 use Rattle.wubraken.specs.declared.stretch.Stretch.{Stretch}
 use Rattle.wubraken.specs.Survey.{surveyed, surveyed-bound}
@@ -89,7 +89,7 @@ module _ (sh : Shape) (s : List ℕ) (bytes lines : List ℕ) where
   pub stretch-beyond : (t u : List Worker) → take (surveyed sh (length t)) u ≡ take (surveyed sh (length t)) t → countedOf (length u) ≡ countedOf (length t)
       → stretchOn sh s u bytes lines ≡ keepingFrom (heldOn sh s t bytes lines) (stretchOn sh s t bytes lines) u
   unfolding stretchOn heldOn
-  stretch-beyond t u first counted = ap accountOf (all-beyond bytes (at-work sh s t 0 lines 0) (surveyed sh (length t)) u
+  stretch-beyond t u first counted = ap accountOf (all-alike bytes (at-work sh s t 0 lines 0) (surveyed sh (length t)) u
       (record { first = first; counted = counted; within = surveyed-counted sh (length t) })
       (λ inside long. omega (arith, all-surveyed sh (length t) inside long)))
 
