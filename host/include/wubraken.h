@@ -24,7 +24,7 @@ extern "C" {
 #endif
 
 /* What a pool is made for. Lend wubraken_words(shape) words and shape.workers
- * records, or more: what lies beyond is never changed. */
+ * records, or more: what lies beyond is not touched. */
 typedef struct {
     uint64_t workers; /* 1 to 64 */
     uint64_t nodes;   /* 1 to 4,096: arrivals that it can hold */
@@ -148,10 +148,9 @@ typedef struct {
 
 /* Works through the records of a turn file and writes one line a record, as the
  * single calls would answer them. It looks through the lent memory once, not
- * once a record, and works on a copy of the lent records, at most 64, which it
- * stores back: lend no more than the workers need, at least WUBRAKEN_LINE bytes
- * of room, and some 20 KB of stack. To go on, hand in the shape it answered and
- * the input from `read` on. */
+ * once a record, and works on a copy of the workers' records, which it stores
+ * back. It needs at least WUBRAKEN_LINE bytes of room, and some 20 KB of stack.
+ * To go on, hand in the shape it answered and the input from `read` on. */
 wubraken_served wubraken_serve(wubraken_shape shape,
                                const uint8_t *input, size_t bytes,
                                uint8_t *out, size_t room,

@@ -16,6 +16,16 @@ use Rattle.arrival.specs.Tests.{never, parts}
 unfoldable pub lower : Item → Item → Bool
 lower a b = ltb (a .time) (b .time) || (eqb (a .time) (b .time) && ltb (a .ticket) (b .ticket))
 
+-- one key
+pub record SameKey (a b : Item) : Type 0 where
+  pub time : a .time ≡ b .time
+  pub ticket : a .ticket ≡ b .ticket
+
+-- The order looks at nothing but the keys.
+pub lower-by-key : (a a′ b b′ : Item) → SameKey a a′ → SameKey b b′ → lower a b ≡ lower a′ b′
+unfolding lower
+lower-by-key a a′ b b′ p q = λ j. ltb (p .time j) (q .time j) || (eqb (p .time j) (q .time j) && ltb (p .ticket j) (q .ticket j))
+
 -- time divided by width, rounded down
 unfoldable pub bucketOf : Shape → ℕ → ℕ
 bucketOf sh time = time / sh .width

@@ -1,5 +1,5 @@
 -- One round of the loop, arm by arm: from what the code has at its end to what is still to be served. Assumes nothing.
-use mathlib.Core.Path.{_≡_, sym, ap, _∙_, subst, subst⁻¹}
+use mathlib.Core.Path.{_≡_, refl, sym, ap, _∙_, subst, subst⁻¹}
 use mathlib.Core.List.{List, _++_}
 use mathlib.Core.Bool.{Bool, true, cond, not}
 use mathlib.Core.Logic.{_≢_}
@@ -39,14 +39,15 @@ use Rattle.batch.specs.declared.Stop.the-variants.{Drained, Full, Halted
 use Rattle.turn_file.specs.Lines.{lineOf}
 use Rattle.turn_file.specs.Buffer.{written, after, written-length}
 use Rattle.batch.specs.Serving.{opening, acting, Progress, hasRoom, wrote, servedAll}
+use Rattle.batch.specs.Holding.{greater, heldAll}
 use Rattle.batch.specs.Taken.{least-taken, over-taken, over-length}
 use Rattle.admission.specs.Watched.{Watched, opened-sound}
 use Rattle.admission.specs.Gate.{gateOf, openGate, Tight, gate-opens, open-gate-is, usable, refused-is, enqueue-is, dequeue-is, step-is, back}
 use Rattle.batch.specs.Rounds.{Going, going, go-on, drained, halted, full, at-work, enqueue-watched, dequeue-watched, step-watched}
 
--- What the loop keeps: `words`, `records` and `last` are what it computed from what is lent, and t is its array, of which the first records are lent.
-pub record Round (bytes : List ℕ) (p₀ : Progress) (words records last : ℕ) (sh : Shape) (s : List ℕ) (t : List Worker) (at : ℕ) (lines : List ℕ) (to : ℕ) (sound : Bool) : Type 0 where
-  pub going : Going bytes p₀ (at-work sh s (take records t) at lines to) sound
+-- What the loop keeps: `words`, `records` and `last` are what it computed from what is lent, and t is its array, of which the first records are lent; h are held.
+pub record Round (bytes : List ℕ) (p₀ : Progress) (h₀ words records last : ℕ) (sh : Shape) (s : List ℕ) (t : List Worker) (at : ℕ) (lines : List ℕ) (to : ℕ) (sound : Bool) (h : ℕ) : Type 0 where
+  pub going : Going bytes p₀ h₀ (at-work sh s (take records t) at lines to) h sound
   pub store : words ≡ length s
   pub array : length t ≡ 64
   pub lent : records ≤ 64
@@ -57,8 +58,8 @@ pub record Round (bytes : List ℕ) (p₀ : Progress) (words records last : ℕ)
 abbrev pub Line : List ℕ → ℕ → Response → List ℕ → ℕ → Type 0
 Line lines to l lines′ to′ = (to′ ≡ after lines to (lineOf l)) × (lines′ ≡ written lines to (lineOf l)) × (length (lineOf l) ≤ 89)
 
-module _ {bytes : List ℕ} {p₀ : Progress} {words records last : ℕ} {sh : Shape} {s : List ℕ} {t : List Worker} {at : ℕ} {lines : List ℕ} {to : ℕ} {sound : Bool}
-    (R : Round bytes p₀ words records last sh s t at lines to sound) where
+module _ {bytes : List ℕ} {p₀ : Progress} {h₀ words records last : ℕ} {sh : Shape} {s : List ℕ} {t : List Worker} {at : ℕ} {lines : List ℕ} {to : ℕ} {sound : Bool} {h : ℕ}
+    (R : Round bytes p₀ h₀ words records last sh s t at lines to sound h) where
   abbrev m : Memory
   m = record { store = s; table = take records t }
 
@@ -120,10 +121,10 @@ module _ {bytes : List ℕ} {p₀ : Progress} {words records last : ℕ} {sh : S
     -- an action a with what it leaves
     acted : (a : Action) → Act a next ≡ recordAt bytes at → (s′ : List ℕ) (t′ : List Worker) → length t′ ≡ 64
         → record { memory = record { store = s′; table = take records t′ }; response = l } ≡ act sh (record { store = s; table = take records t }) a
-        → (sound′ : Bool) → Watched sh (act sh (record { store = s; table = take records t }) a .memory) sound′ → Tight sh words records sound′ → Round bytes p₀ words records last sh s′ t′ next lines′ to′ sound′
+        → (sound′ : Bool) → Watched sh (act sh (record { store = s; table = take records t }) a .memory) sound′ → Tight sh words records sound′ → Round bytes p₀ h₀ words records last sh s′ t′ next lines′ to′ sound′ h
     unfolding acting
     acted a e s′ t′ array is sound′ w tight = record {
-      going = go-on bytes p₀ (at-work sh s (take records t) at lines to) sound (R .going) room (acts a) next e (at-work sh s′ (take records t′) next lines′ to′) there sound′
+      going = go-on bytes p₀ h₀ (at-work sh s (take records t) at lines to) h sound (R .going) room (acts a) next e (at-work sh s′ (take records t′) next lines′ to′) there h refl sound′
           (subst⁻¹ (λ (r : Result). Watched sh (r .memory) sound′) is w);
       store = R .store ∙ sym (ap (λ (r : Result). length (r .memory .store)) is ∙ act-same-size sh m a .store);
       array = array;
@@ -141,7 +142,7 @@ module _ {bytes : List ℕ} {p₀ : Progress} {words records last : ℕ} {sh : S
         }
 
     -- refused by 1 to 4
-    pub turned-away : (a : Action) → Act a next ≡ recordAt bytes at → (k : ℕ) → k ≡ gateOf sh words records (actor a) sound → k ≢ 0 → l ≡ Refused k → Round bytes p₀ words records last sh s t next lines′ to′ sound
+    pub turned-away : (a : Action) → Act a next ≡ recordAt bytes at → (k : ℕ) → k ≡ gateOf sh words records (actor a) sound → k ≢ 0 → l ≡ Refused k → Round bytes p₀ h₀ words records last sh s t next lines′ to′ sound h
     turned-away a e k is n said =
         let g = is ∙ gate-here (actor a) in
         let r = refused-is sh m sound W a (λ z. n (g ∙ z)) in
@@ -158,7 +159,7 @@ module _ {bytes : List ℕ} {p₀ : Progress} {words records last : ℕ} {sh : S
       stored d e = ap (λ (u : List Worker). record { memory = record { store = s′; table = u }; response = l }) (take-set-lt records t i w′ (is-lent i k is z)) ∙ ap (back (take records t) i) e
 
       pub enqueued : (a : Arrival) → Act (Enqueue i a) next ≡ recordAt bytes at → (low : ℕ) → low ≡ leastTicket t (sh .workers)
-          → record { store = s′; worker = w′; response = l } ≡ localEnqueue sh low s a (worker t i) → Round bytes p₀ words records last sh s′ (set t i w′) next lines′ to′ sound
+          → record { store = s′; worker = w′; response = l } ≡ localEnqueue sh low s a (worker t i) → Round bytes p₀ h₀ words records last sh s′ (set t i w′) next lines′ to′ sound h
       enqueued a e low least d =
           let g = passes i k is z in
           let U = in-use i k is z in
@@ -166,13 +167,13 @@ module _ {bytes : List ℕ} {p₀ : Progress} {words records last : ℕ} {sh : S
           let same = ap (λ (n : ℕ). localEnqueue sh n s a (worker t i)) (least ∙ sym among) ∙ ap (localEnqueue sh (leastTicket (take records t) (sh .workers)) s a) (sym (own i k is z)) in
           acted (Enqueue i a) e s′ (set t i w′) array-kept (stored _ (d ∙ same) ∙ enqueue-is sh m sound W i a g) sound (enqueue-watched sh m i sound W g a) (R .tight)
 
-      pub dequeued : Act (Dequeue i) next ≡ recordAt bytes at → record { store = s′; worker = w′; response = l } ≡ localDequeue sh s (worker t i) → Round bytes p₀ words records last sh s′ (set t i w′) next lines′ to′ sound
+      pub dequeued : Act (Dequeue i) next ≡ recordAt bytes at → record { store = s′; worker = w′; response = l } ≡ localDequeue sh s (worker t i) → Round bytes p₀ h₀ words records last sh s′ (set t i w′) next lines′ to′ sound h
       dequeued e d =
           let g = passes i k is z in
           acted (Dequeue i) e s′ (set t i w′) array-kept (stored _ (d ∙ ap (localDequeue sh s) (sym (own i k is z))) ∙ dequeue-is sh m sound W i g) sound (dequeue-watched sh m i sound W g) (R .tight)
 
       pub stepped : Act (Step i) next ≡ recordAt bytes at → (leak : Bool) → leak ≡ leaks sh s (worker t i) → record { store = s′; worker = w′; response = l } ≡ localStep sh s (worker t i)
-          → Round bytes p₀ words records last sh s′ (set t i w′) next lines′ to′ (not leak)
+          → Round bytes p₀ h₀ words records last sh s′ (set t i w′) next lines′ to′ (not leak) h
       stepped e leak is-leak d =
           let g = passes i k is z in
           let o = sym (own i k is z) in
@@ -181,11 +182,12 @@ module _ {bytes : List ℕ} {p₀ : Progress} {words records last : ℕ} {sh : S
 
     -- an opening with what it leaves
     opened-with : (sh′ : Shape) → Open sh′ next ≡ recordAt bytes at → (sh″ : Shape) (s′ : List ℕ) (t′ : List Worker) → length t′ ≡ 64 → sh″ ≡ cond (eqb (openRefusal sh′ s (take records t)) 0) sh′ sh
+        → (h′ : ℕ) → h′ ≡ cond (eqb (openRefusal sh′ s (take records t)) 0) (greater h (sh′ .workers)) h
         → record { memory = record { store = s′; table = take records t′ }; response = l } ≡ open-pool sh′ (record { store = s; table = take records t })
-        → (sound′ : Bool) → Watched sh″ (record { store = s′; table = take records t′ }) sound′ → Tight sh″ words records sound′ → Round bytes p₀ words records last sh″ s′ t′ next lines′ to′ sound′
+        → (sound′ : Bool) → Watched sh″ (record { store = s′; table = take records t′ }) sound′ → Tight sh″ words records sound′ → Round bytes p₀ h₀ words records last sh″ s′ t′ next lines′ to′ sound′ h′
     unfolding opening
-    opened-with sh′ e sh″ s′ t′ array shape is sound′ w tight = record {
-      going = go-on bytes p₀ (at-work sh s (take records t) at lines to) sound (R .going) room (opens sh′) next e (at-work sh″ s′ (take records t′) next lines′ to′) there sound′ w;
+    opened-with sh′ e sh″ s′ t′ array shape h′ holds is sound′ w tight = record {
+      going = go-on bytes p₀ h₀ (at-work sh s (take records t) at lines to) h sound (R .going) room (opens sh′) next e (at-work sh″ s′ (take records t′) next lines′ to′) there h′ holds sound′ w;
       store = R .store ∙ sym (ap (λ (r : Result). length (r .memory .store)) is ∙ open-same-size sh′ m .store);
       array = array;
       lent = R .lent;
@@ -201,35 +203,35 @@ module _ {bytes : List ℕ} {p₀ : Progress} {words records last : ℕ} {sh : S
           to = (line .0 ∙ ap (λ (r : Result). after lines to (lineOf (r .response))) is) j;
         }
 
-    pub not-opened : (sh′ : Shape) → Open sh′ next ≡ recordAt bytes at → (k : ℕ) → k ≡ openGate sh′ words records → k ≢ 0 → l ≡ Refused k → Round bytes p₀ words records last sh s t next lines′ to′ sound
+    pub not-opened : (sh′ : Shape) → Open sh′ next ≡ recordAt bytes at → (k : ℕ) → k ≡ openGate sh′ words records → k ≢ 0 → l ≡ Refused k → Round bytes p₀ h₀ words records last sh s t next lines′ to′ sound h
     unfolding open-pool
     not-opened sh′ e k is n said =
         let g = is ∙ open-gate-here sh′ in
         let none = ne-eqb (openRefusal sh′ s (take records t)) 0 (λ z. n (g ∙ z)) in
-        opened-with sh′ e sh s t (R .array) (rw none) (rw (none, said, g)) sound W (R .tight)
+        opened-with sh′ e sh s t (R .array) (rw none) h (rw none) (rw (none, said, g)) sound W (R .tight)
 
     pub opened : (sh′ : Shape) → Open sh′ next ≡ recordAt bytes at → (k : ℕ) → k ≡ openGate sh′ words records → k ≡ 0 → l ≡ Opened → (s′ : List ℕ) → s′ ≡ openStore sh′ s
-        → (t′ : List Worker) → t′ ≡ replicate (sh′ .workers) blank ++ drop (sh′ .workers) t → Round bytes p₀ words records last sh′ s′ t′ next lines′ to′ true
+        → (t′ : List Worker) → t′ ≡ replicate (sh′ .workers) blank ++ drop (sh′ .workers) t → (h′ : ℕ) → h′ ≡ greater h (sh′ .workers) → Round bytes p₀ h₀ words records last sh′ s′ t′ next lines′ to′ true h′
     unfolding open-pool openTable
-    opened sh′ e k is z said s′ store t′ table =
+    opened sh′ e k is z said s′ store t′ table h′ holds =
         let all = eq-eqb (openRefusal sh′ s (take records t)) 0 (no-refusal sh′ k is z) in
         let L = lent-to sh′ k is z in
         let array = ap length table ∙ over-length blank t (sh′ .workers) (omega (arith, L .limits .workers, R .array)) ∙ R .array in
         let first = ap (take records) table ∙ over-taken blank records t (sh′ .workers) (omega (arith, L .table, counted)) (omega (arith, R .lent, R .array)) in
-        opened-with sh′ e sh′ s′ t′ array (rw all) (rw (all, said, store, first)) true (λ _. rw (store, first) (sym (opened-sound sh′ m (L .limits)))) (λ _. sym is ∙ z)
+        opened-with sh′ e sh′ s′ t′ array (rw all) h′ (rw all holds) (rw (all, said, store, first)) true (λ _. rw (store, first) (sym (opened-sound sh′ m (L .limits)))) (λ _. sym is ∙ z)
 
   -- ── the ends ──
   pub kept : (length t ≡ 64) × (records ≤ 64) × Watched sh (record { store = s; table = take records t }) sound × Tight sh (length s) records sound
   kept = (R .array, R .lent, W, λ up. sym (ap (λ n. openGate sh n records) (R .store)) ∙ R .tight up)
 
-  pub at-drained : to ≤ last → End ≡ recordAt bytes at → record { progress = at-work sh s (take records t) at lines to; stop = Drained } ≡ servedAll bytes p₀
-  at-drained fits e = drained bytes p₀ (at-work sh s (take records t) at lines to) sound (R .going) (le-leb (to + 89) (length lines) (omega (arith, R .buffer))) e
+  pub at-drained : to ≤ last → End ≡ recordAt bytes at → (record { progress = at-work sh s (take records t) at lines to; stop = Drained } ≡ servedAll bytes p₀) × (h ≡ heldAll bytes h₀ p₀)
+  at-drained fits e = drained bytes p₀ h₀ (at-work sh s (take records t) at lines to) h sound (R .going) (le-leb (to + 89) (length lines) (omega (arith, R .buffer))) e
 
-  pub at-halted : to ≤ last → (k : ℕ) → variants.Refused k ≡ recordAt bytes at → record { progress = at-work sh s (take records t) at lines to; stop = Halted k } ≡ servedAll bytes p₀
-  at-halted fits k e = halted bytes p₀ (at-work sh s (take records t) at lines to) sound (R .going) (le-leb (to + 89) (length lines) (omega (arith, R .buffer))) k e
+  pub at-halted : to ≤ last → (k : ℕ) → variants.Refused k ≡ recordAt bytes at → (record { progress = at-work sh s (take records t) at lines to; stop = Halted k } ≡ servedAll bytes p₀) × (h ≡ heldAll bytes h₀ p₀)
+  at-halted fits k e = halted bytes p₀ h₀ (at-work sh s (take records t) at lines to) h sound (R .going) (le-leb (to + 89) (length lines) (omega (arith, R .buffer))) k e
 
-  pub at-full : last < to → record { progress = at-work sh s (take records t) at lines to; stop = Full } ≡ servedAll bytes p₀
-  at-full over = full bytes p₀ (at-work sh s (take records t) at lines to) sound (R .going) (lt-leb (to + 89) (length lines) (omega (arith, R .buffer)))
+  pub at-full : last < to → (record { progress = at-work sh s (take records t) at lines to; stop = Full } ≡ servedAll bytes p₀) × (h ≡ heldAll bytes h₀ p₀)
+  at-full over = full bytes p₀ h₀ (at-work sh s (take records t) at lines to) h sound (R .going) (lt-leb (to + 89) (length lines) (omega (arith, R .buffer)))
 
 -- ── what was read ──
 module _ (bytes : List ℕ) (at : ℕ) (r : Read) (read : r ≡ recordAt bytes at) where
@@ -249,14 +251,14 @@ module _ (bytes : List ℕ) (at : ℕ) (r : Read) (read : r ≡ recordAt bytes a
   nearer-act a next e = nearer (acts a) next e
 
 -- ── before the loop ──
-pub no-room : (bytes : List ℕ) (sh : Shape) (s : List ℕ) (lent : List Worker) (at : ℕ) (lines : List ℕ) (to : ℕ) (sound : Bool) → Watched sh (record { store = s; table = lent }) sound → length lines < 89
-    → record { progress = at-work sh s lent at lines to; stop = Full } ≡ servedAll bytes (at-work sh s lent at lines to)
-no-room bytes sh s lent at lines to sound watched short =
+pub no-room : (bytes : List ℕ) (sh : Shape) (s : List ℕ) (lent : List Worker) (at : ℕ) (lines : List ℕ) (to : ℕ) (sound : Bool) (h : ℕ) → Watched sh (record { store = s; table = lent }) sound → length lines < 89
+    → (record { progress = at-work sh s lent at lines to; stop = Full } ≡ servedAll bytes (at-work sh s lent at lines to)) × (h ≡ heldAll bytes h (at-work sh s lent at lines to))
+no-room bytes sh s lent at lines to sound h watched short =
     let p = at-work sh s lent at lines to in
-    full bytes p p sound (going bytes p sound watched) (lt-leb (to + 89) (length lines) (omega arith))
+    full bytes p h p h sound (going bytes p h sound watched) (lt-leb (to + 89) (length lines) (omega arith))
 
-pub first-round : (bytes : List ℕ) (sh : Shape) (s : List ℕ) (records : ℕ) (t : List Worker) (at : ℕ) (lines : List ℕ) (to : ℕ) (sound : Bool)
+pub first-round : (bytes : List ℕ) (sh : Shape) (s : List ℕ) (records : ℕ) (t : List Worker) (at : ℕ) (lines : List ℕ) (to : ℕ) (sound : Bool) (h : ℕ)
     → Watched sh (record { store = s; table = take records t }) sound → length t ≡ 64 → records ≤ 64 → (words last : ℕ) → words ≡ length s → last + 89 ≡ length lines → Tight sh words records sound
-    → Round bytes (at-work sh s (take records t) at lines to) words records last sh s t at lines to sound
-first-round bytes sh s records t at lines to sound watched array lent words last store long tight =
-    record { going = going bytes (at-work sh s (take records t) at lines to) sound watched; store = store; array = array; lent = lent; buffer = long; tight = tight }
+    → Round bytes (at-work sh s (take records t) at lines to) h words records last sh s t at lines to sound h
+first-round bytes sh s records t at lines to sound h watched array lent words last store long tight =
+    record { going = going bytes (at-work sh s (take records t) at lines to) h sound watched; store = store; array = array; lent = lent; buffer = long; tight = tight }

@@ -12,7 +12,7 @@ use Rattle.admission.specs.Watched.{Watched}
 use Rattle.admission.specs.Gate.{Tight}
 use Rattle.batch.specs.Rounds.{at-work}
 
--- the records that are lent
+-- the array's records that stand for the lent ones
 abbrev pub lentRecords : Desk → List Worker
 lentRecords d = take (d .records) (d .table)
 

@@ -1,4 +1,6 @@
 pub mod Serving
+pub mod Holding
+pub mod Counting
 pub mod Bounds
 pub mod Beyond
 pub mod Clearing
@@ -6,3 +8,7 @@ pub mod Taken
 pub mod Rounds
 pub mod Arms
 pub mod Ending
+pub mod TurnFile
+pub mod LinesFit
+pub mod Stretches
+pub mod WorkedExample

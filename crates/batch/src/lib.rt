@@ -3,6 +3,7 @@ ghost use mathlib.Core.Path.{_≡_};
 ghost use Rattle.calendar.specs.RangesKept.{leaks};
 ghost use Rattle.stages.specs.Ready.{Ready};
 ghost use Rattle.batch.specs.Serving.{servedAll};
+ghost use Rattle.batch.specs.Holding.{heldAll};
 ghost use Rattle.batch.specs.Ending.{begins, ends, Sound};
 use admission::gate;
 use admission::open_gate;
@@ -16,6 +17,7 @@ use starts::opening::open_store;
 use starts::start_dequeue;
 use starts::start_enqueue;
 use table::cleared;
+use table::greater;
 use turn_file::Read;
 use turn_file::read_record;
 use turn_file::write_line;
@@ -32,11 +34,12 @@ pub enum Stop {
 }
 
 // A pool between two stretches: the shape so far, whether store and table are in range, the workers' records.
-// Only the first `records` are lent; what stands behind them says nothing.
+// `records` are lent, of which the first `held` stand in the array; what stands behind those says nothing of the lent ones.
 pub struct Desk {
     pub shape: Shape,
     pub sound: bool,
     pub records: usize,
+    pub held: usize,
     pub table: [Worker; 64],
 }
 
@@ -72,11 +75,13 @@ pub fn serve(
 ) -> Progress
     requires { ⌜ Sound desk (now store) ⌝ }
     ensures { λ r. ⌜ (ends (now (store .exit)) (now (out .exit)) r ≡ servedAll (now (input .entry)) (begins desk (now (store .entry)) at (now (out .entry)) to))
-        × Sound (r .desk) (now (store .exit)) × (r .desk .records ≡ desk .records) ⌝ }
+        × Sound (r .desk) (now (store .exit)) × (r .desk .records ≡ desk .records)
+        × (r .desk .held ≡ heldAll (now (input .entry)) (desk .held) (begins desk (now (store .entry)) at (now (out .entry)) to)) ⌝ }
 {
     let mut shape = desk.shape;
     let mut sound = desk.sound;
     let records = desk.records;
+    let mut held = desk.held;
     let mut table = desk.table;
     let mut at = at;
     let mut to = to;
@@ -88,6 +93,7 @@ pub fn serve(
                 shape,
                 sound,
                 records,
+                held,
                 table,
             },
             at,
@@ -107,6 +113,7 @@ pub fn serve(
                 } else {
                     open_store(opened, store);
                     table = cleared(table, opened.workers as usize);
+                    held = greater(held, opened.workers as usize);
                     shape = opened;
                     sound = true;
                     to = write_line(Response::Opened, out, to);
@@ -175,6 +182,7 @@ pub fn serve(
                         shape,
                         sound,
                         records,
+                        held,
                         table,
                     },
                     at,
@@ -188,6 +196,7 @@ pub fn serve(
                         shape,
                         sound,
                         records,
+                        held,
                         table,
                     },
                     at,
@@ -202,6 +211,7 @@ pub fn serve(
             shape,
             sound,
             records,
+            held,
             table,
         },
         at,

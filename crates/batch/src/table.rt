@@ -4,6 +4,7 @@ ghost use mathlib.Core.List.{_++_};
 ghost use Prim.Native.Nat.{_≤_};
 ghost use lib.ListN.{drop, replicate};
 ghost use Rattle.calendar.specs.Ranges.{blank};
+ghost use Rattle.batch.specs.Holding as holding;
 use arrival::Worker;
 
 // The first n records become idle, all fields 0.
@@ -28,4 +29,11 @@ pub fn cleared(mut table: [Worker; 64], n: usize) -> [Worker; 64]
         i += 1;
     }
     table
+}
+
+// The greater of two numbers of records.
+pub fn greater(a: usize, b: usize) -> usize
+    ensures { λ r. ⌜ r ≡ holding.greater a b ⌝ }
+{
+    if a < b { b } else { a }
 }

@@ -1,18 +1,18 @@
 -- The turn as data: what a turn did and what its tests found. One match on it serves every property of turns. Assumes nothing.
-use mathlib.Core.Path.{_≡_, refl, sym, ap, _∙_, subst}
+use mathlib.Core.Path.{_≡_, refl}
 use mathlib.Core.List.{List, [], _∷_}
-use mathlib.Core.Bool.{Bool, true, false, cond}
+use mathlib.Core.Bool.{true, false}
 use mathlib.Core.Logic.{_≢_}
-use Prim.Native.Nat.{ℕ, zero, suc, _+_, _≤_, _<_}
+use Prim.Native.Nat.{ℕ, _+_, _≤_}
 use native.Mathlib.Omega.{arith}
-use native.Mathlib.Nat.{add-zero, add-suc, suc-add}
 use lib.Dec.{eqb}
-use lib.ListN.{length, getD}
+use lib.ListN.{getD}
 use borrow.Author.Tests.{eqb-true, eqb-false}
 use Rattle.arrival.specs.declared.Shape.{Shape}
 use Rattle.arrival.specs.declared.Worker.{Worker}
 use Rattle.arrival.specs.declared.Response.the-variants.{Stored, Empty}
 use Rattle.arrival.specs.Tests.{by-test}
+use Rattle.calendar.specs.Every.{Each, each-of}
 use Rattle.calendar.specs.Layout.{Write, _≔_, word, head, link, linkCell, current, successor, bucketIn}
 use Rattle.calendar.specs.Outcome.{Outcome, on, answer, withOwn, withBucket, withLeft, withRight, withSeen, withCurrent}
 use Rattle.calendar.specs.SearchSteps.{answered, found, settle, rightIsMarked, rightIsLower, leftHolds, unlink, step-1, step-2, step-3}
@@ -79,18 +79,9 @@ module _ (sh : Shape) (s : List ℕ) where
       (λ e. let end = eqb-true (v .right) (sh .nodes) e in by-test (Walked v) (moreBuckets sh v) (out end) (out-last end))
       (λ e. meets (eqb-false (v .right) (sh .nodes) e))
 
--- a property of each rule of a list, by its number
-abbrev Each : (ℕ → Rule → Type 0) → ℕ → List Rule → Type 0
-Each P k [] = Unit {0}
-Each P k (r ∷ rs) = P k r × Each P (suc k) rs
-
-each-at : (P : ℕ → Rule → Type 0) (k : ℕ) (rs : List Rule) (d : Rule) → Each P k rs → (n : ℕ) → n < length rs → P (k + n) (getD rs n d)
-each-at P k [] d h n l = absurd (omega arith)
-each-at P k (r ∷ rs) d h zero l = rw add-zero (h .0)
-each-at P k (r ∷ rs) d h (suc n) l = rw (add-suc, ← suc-add) (each-at P (suc k) rs d (h .1) n (omega arith))
-
-by-stage : (P : ℕ → Rule → Type 0) → Each P 0 rules → (n : ℕ) → n ≤ 13 → P n (getD rules n no-step)
-by-stage P h n l = subst (λ j. P j (getD rules n no-step)) (omega arith) (each-at P 0 rules no-step h n (omega arith))
+-- a property of every rule, by its stage
+pub by-stage : (P : ℕ → Rule → Type 0) → Each P 0 rules → (n : ℕ) → n ≤ 13 → P n (getD rules n no-step)
+by-stage P h n l = each-of P rules no-step h n (omega arith)
 
 -- EVERY TURN IS ONE OF THE CHANGES
 pub step-is : (sh : Shape) (s : List ℕ) (w : Worker) → w .stage ≢ 0 → w .stage ≤ 13 → Change sh s w (step sh s w)

@@ -1,9 +1,11 @@
--- Tests and counts over the numbers below a bound. Assumes nothing.
-use mathlib.Core.Path.{_≡_, refl, sym, _∙_, ap}
+-- Tests and counts over the numbers below a bound, and properties of a list's elements by their number. Assumes nothing.
+use mathlib.Core.Path.{_≡_, refl, _∙_, subst}
+use mathlib.Core.List.{List, [], _∷_}
 use mathlib.Core.Bool.{Bool, true, false, cond, _&&_}
-use mathlib.Core.Logic.{_⊎_, inl, inr, ⊎-elim}
+use mathlib.Core.Logic.{⊎-elim}
 use Prim.Native.Nat.{ℕ, zero, suc, _+_, _<_}
-use native.Mathlib.Nat.{le-of-suc-le-suc, not-suc-le-zero, eq-or-lt-of-le}
+use lib.ListN.{length, getD}
+use native.Mathlib.Nat.{add-zero, add-suc, suc-add, le-of-suc-le-suc, not-suc-le-zero, eq-or-lt-of-le}
 use native.Mathlib.Numerals.{add-one}
 use native.Mathlib.Omega.{arith}
 use Rattle.arrival.specs.Tests.{left-true, right-true}
@@ -62,3 +64,16 @@ pub count-three : (n : ℕ) (f g h : ℕ → Bool) → ((k : ℕ) → cond (f k)
 unfolding count
 count-three zero f g h one = refl
 count-three (suc n) f g h one = omega (arith, one n, count-three n f g h one)
+
+-- a property of each element of a list, by its number from k on
+abbrev pub Each : {A : Type 0} → (ℕ → A → Type 0) → ℕ → List A → Type 0
+Each P k [] = Unit {0}
+Each P k (x ∷ xs) = P k x × Each P (suc k) xs
+
+each-from : {A : Type 0} (P : ℕ → A → Type 0) (k : ℕ) (xs : List A) (d : A) → Each P k xs → (n : ℕ) → n < length xs → P (k + n) (getD xs n d)
+each-from P k [] d h n l = absurd (omega arith)
+each-from P k (x ∷ xs) d h zero l = rw add-zero (h .0)
+each-from P k (x ∷ xs) d h (suc n) l = rw (add-suc, ← suc-add) (each-from P (suc k) xs d (h .1) n (omega arith))
+
+pub each-of : {A : Type 0} (P : ℕ → A → Type 0) (xs : List A) (d : A) → Each P 0 xs → (n : ℕ) → n < length xs → P n (getD xs n d)
+each-of P xs d h n l = subst (λ j. P j (getD xs n d)) (omega arith) (each-from P 0 xs d h n l)

@@ -28,3 +28,9 @@ pub mod Opened
 pub mod Acting
 pub mod RecordsBeyond
 pub mod LowestFirst
+pub mod AdmittedOrders
+pub mod Guards
+pub mod StoodOn
+pub mod Worked
+pub mod OneWord
+pub mod WordsBeyond

@@ -5,7 +5,7 @@ use mathlib.Core.Bool.{Bool, true, false, cond, not, _&&_, _||_}
 use Prim.Native.Nat.{ℕ, zero, suc, _+_, _-_}
 use native.Mathlib.Omega.{arith}
 use lib.Dec.{eqb, leb, ltb}
-use borrow.Author.Tests.{eqb-true, eqb-false, leb-true, leb-false, eq-eqb, ne-eqb, lt-leb}
+use borrow.Author.Tests.{eqb-true, eqb-false, leb-true, leb-false}
 use Rattle.arrival.specs.declared.Shape.{Shape}
 use Rattle.arrival.specs.declared.Worker.{Worker}
 use Rattle.calendar.specs.Layout.{lastNode, standing}
@@ -56,11 +56,15 @@ nodes-shared-out sh s t =
 abbrev pub nodeAfter : Shape → ℕ → ℕ
 nodeAfter sh n = cond (ltb (n + 1) (sh .nodes)) (n + 1) 0
 
+-- node n may be handed out
+abbrev pub isFreeNode : Shape → List ℕ → List Worker → ℕ → Bool
+isFreeNode sh s t n = isFree sh t (standing sh s n)
+
 -- the first free one of the k nodes that follow n; `nodes` where none is
 unfoldable pub firstFreeOf : Shape → List ℕ → List Worker → ℕ → ℕ → ℕ
 firstFreeOf sh s t zero n = sh .nodes
 firstFreeOf sh s t (suc k) n =
-    cond (isFree sh t (standing sh s (nodeAfter sh n))) (nodeAfter sh n) (firstFreeOf sh s t k (nodeAfter sh n))
+    cond (isFreeNode sh s t (nodeAfter sh n)) (nodeAfter sh n) (firstFreeOf sh s t k (nodeAfter sh n))
 
 -- the first free node after word 2
 unfoldable pub firstFree : Shape → List ℕ → List Worker → ℕ

@@ -5,7 +5,7 @@ use mathlib.Core.Bool.{Bool, true, false, cond, not}
 use Prim.Native.Nat.{ℕ, zero, suc, _<_, _≤_, _-_}
 use native.Mathlib.Omega.{arith}
 use lib.Dec.{eqb, ltb}
-use lib.ListN.{length, set, drop, replicate, length-append, List·getD-append}
+use lib.ListN.{length, drop, replicate, length-append, List·getD-append}
 use lib.Seq.{set-append-left, drop-append-le}
 use borrow.Author.Tests.{eqb-true, leb-false, le-ltb}
 use Rattle.arrival.specs.declared.Shape.{Shape}

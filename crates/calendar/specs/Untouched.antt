@@ -91,7 +91,7 @@ act-same-size sh m a =
     by-refusal (SameSize m) (refusal sh m a) m (perform sh m (actor a) (outcome sh m a)) (record { store = refl; table = refl }) (λ e. perform-size sh m (actor a) (outcome sh m a))
 
 -- an accepted action acts for a worker of the shape, and writes inside the layout
-outcome-inside : (sh : Shape) (m : Memory) (a : Action) → refusal sh m a ≡ 0 → (actor a < sh .workers) × AllInside sh (outcome sh m a .writes)
+pub outcome-inside : (sh : Shape) (m : Memory) (a : Action) → refusal sh m a ≡ 0 → (actor a < sh .workers) × AllInside sh (outcome sh m a .writes)
 outcome-inside sh m (Enqueue i a) e =
     let A = enqueue-accepted sh (m .store) (m .table) i a e in
     (A .usable .exists, enqueue-inside sh (m .store) (firstFree sh (m .store) (m .table)) a (worker (m .table) i) (first-free-node sh (m .store) (m .table) (A .usable .store .last) (A .node)))

@@ -1,6 +1,6 @@
 -- Every turn keeps the joint invariant, and what it answers is what the order says: one match over the changes. Assumes nothing.
 use mathlib.Core.Path.{_≡_, refl, sym, ap, _∙_, subst}
-use mathlib.Core.Bool.{true, false, cond}
+use mathlib.Core.Bool.{Bool, true, false, cond}
 use mathlib.Core.Logic.{_≢_, _⊎_, inl, inr}
 use mathlib.Core.List.{List, [], _∷_, _++_, List·Memᴰ as Mem, List·Memᴰ·head as here, List·Memᴰ·append-cases as mem-append, Memᴰ·append-right as mem-right}
 use Prim.Native.Nat.{ℕ, zero, suc, _+_, _*_, _/_, _%_, _≤_, _<_}
@@ -14,7 +14,7 @@ use Rattle.arrival.specs.declared.Response.{Response}
 use Rattle.arrival.specs.declared.Response.the-variants.{Opened, Begun, On, Stored, Took, Empty, Refused}
 use Rattle.arrival.specs.Tests.{by-test, never}
 use Rattle.arrival.specs.Queue.{taken}
-use Rattle.calendar.specs.Layout.{Write, _≔_, word, head, link, linkCell, current, itemAt}
+use Rattle.calendar.specs.Layout.{Write, _≔_, word, head, link, linkCell, current, itemAt, isMarked}
 use Rattle.calendar.specs.Views.{View, view, update, updates, itemIn, upd-same}
 use Rattle.calendar.specs.Outcome.{Outcome, withStage, withOwn, withBucket, withRight, withCurrent}
 use Rattle.calendar.specs.SearchSteps.{leftHolds, unlink}
@@ -406,9 +406,17 @@ module _ (sh : Shape) (wd : 1 ≤ sh .width) (s : List ℕ) (T : ℕ → Worker)
     written : (o : Outcome) (ws : List Write) (ch′ : Chains) → o .writes ≡ ws → Share (updates ws (view sh s)) ch′ o → Share (updates (o .writes) (view sh s)) ch′ o
     written o ws ch′ e h = subst (λ x. Share (updates x m₀) ch′ o) (sym e) h
 
+    -- a walk passes only marked nodes
+    only-marked : nodeIsMarked sh s (T i) ≡ true → link sh s ((T i) .right) % 2 ≡ 1
+    only-marked t = go (isMarked (link sh s ((T i) .right))) refl
+      where
+        go : (b : Bool) → isMarked (link sh s ((T i) .right)) ≡ b → link sh s ((T i) .right) % 2 ≡ 1
+        go true e = eqb-true (link sh s ((T i) .right) % 2) 1 e
+        go false e = never (rw e at t)
+
     pass : {q : Element (keys sh wd)} → (T i) .stage ≡ 10 → nodeIsMarked sh s (T i) ≡ true → Ahead sh wd (view sh s) ch (T i) q → (n : ℕ) × Holds sh wd (view sh s) ch ((T i) .bucket) q n × Reach sh (view sh s .cells) n (link sh s ((T i) .right) / 2)
     pass ten t (n, h, inl z) = absurd (omega arith)
-    pass ten t (n, h, inr (a, b, r)) = (n, h, ahead-pass sh m₀ ch (Live (sh .workers) T) (P .lists) n ((T i) .right) r (eqb-true (link sh s ((T i) .right) % 2) 1 t) (h .clean))
+    pass ten t (n, h, inr (a, b, r)) = (n, h, ahead-pass sh m₀ ch (Live (sh .workers) T) (P .lists) n ((T i) .right) r (only-marked t) (h .clean))
 
     share-step : noEpoch sh s (T i) ≡ false → {o : Outcome} (c : Change sh s (T i) o) → Share (updates (o .writes) (view sh s)) (chains-after sh s T i l busy ch P c) o
     share-step top {o} (head-read q set) = written o [] ch (settled-writes sh s set) (settled-share m₀ ch O tickets (omega arith) (omega arith) refl refl (knows .kinds) ((T i) .stage) ((T i) .bucket) (head sh s ((T i) .bucket) / 2) ((T i) .seen) set)

@@ -10,7 +10,9 @@ pub mod Starting
 pub mod Reach
 pub mod Ahead
 pub mod Reached
+pub mod Standing
 pub mod Reuse
+pub mod Fixed
 pub mod Walks
 pub mod Counting
 pub mod Balance

@@ -20,7 +20,7 @@ use Rattle.calendar.specs.Views.{view, updates, view-writeAll, AllInside, upd-c
 use Rattle.calendar.specs.Every.{every, every-at}
 use Rattle.calendar.specs.Ranges.{blank, worker}
 use Rattle.calendar.specs.RangeFacts.{StoreRanges, RecordRanges}
-use Rattle.calendar.specs.Reclaim.{startedBy, isFree, firstFree}
+use Rattle.calendar.specs.Reclaim.{startedBy, isFree, isFreeNode, firstFree}
 use Rattle.calendar.specs.FirstFree.{first-free-node, first-free-free}
 use Rattle.calendar.specs.Opening.{openStore, openTable}
 use Rattle.calendar.specs.Opened.{open-head, open-field, open-worker, open-store-ranged, open-table-ranged}
@@ -86,10 +86,18 @@ performed sh m i o ch′ A table l ins store rec inv =
       inv = subst⁻¹ (λ T. Inv sh (view sh (writeAll sh (m .store) (o .writes))) ch′ T) t (subst⁻¹ (λ x. Inv sh x ch′ (with-record (worker (m .table)) i (o .worker))) v inv);
     }
 
--- a free standing, in the words of the invariant: no call in progress is as old
-pub free-node : (sh : Shape) (s : List ℕ) (t : List Worker) (x : ℕ) → isFree sh t (standing sh s x) ≡ true → Free (view sh s) (Live (sh .workers) (worker t)) x
+-- what may be handed out has a free standing
+handed-out : (sh : Shape) (s : List ℕ) (t : List Worker) (x : ℕ) → isFreeNode sh s t x ≡ true → isFree sh t (standing sh s x) ≡ true
+handed-out sh s t x h = go (isFree sh t (standing sh s x)) refl
+  where
+    go : (b : Bool) → isFree sh t (standing sh s x) ≡ b → isFree sh t (standing sh s x) ≡ true
+    go true e = e
+    go false e = never (rw e at h)
+
+-- in the words of the invariant: no call in progress is as old
+pub free-node : (sh : Shape) (s : List ℕ) (t : List Worker) (x : ℕ) → isFreeNode sh s t x ≡ true → Free (view sh s) (Live (sh .workers) (worker t)) x
 unfolding isFree
-free-node sh s t x h = go (eqb (standing sh s x) 0) refl h
+free-node sh s t x h = go (eqb (standing sh s x) 0) refl (handed-out sh s t x h)
   where
     k : ℕ
     k = standing sh s x - 2

@@ -2,14 +2,14 @@
 -- call in progress stands on. Assumes nothing.
 use mathlib.Core.Path.{_≡_, refl, sym, ap, _∙_, subst}
 use mathlib.Core.List.{List, [], _∷_}
-use mathlib.Core.Bool.{Bool, true, false, cond, _&&_, _||_}
-use mathlib.Core.Logic.{_≢_, _⊎_, inl, inr}
-use Prim.Native.Nat.{ℕ, _+_, _≤_, _<_}
+use mathlib.Core.Bool.{Bool, true, false, cond}
+use mathlib.Core.Logic.{_≢_}
+use Prim.Native.Nat.{ℕ, _≤_, _<_}
 use native.Mathlib.Omega.{arith}
-use lib.Dec.{eqb, leb}
+use lib.Dec.{eqb}
 use lib.ListN.{length}
 use lib.Seq.{getD-set-same}
-use borrow.Author.Tests.{eqb-true, leb-true, leb-false, le-leb, le-ltb}
+use borrow.Author.Tests.{eqb-true, le-leb, le-ltb}
 use Rattle.arrival.specs.declared.Shape.{Shape}
 use Rattle.arrival.specs.declared.Arrival.{Arrival}
 use Rattle.arrival.specs.declared.Worker.{Worker}
@@ -18,10 +18,9 @@ use Rattle.arrival.specs.declared.Action.the-variants.{Enqueue, Dequeue, Step}
 use Rattle.arrival.specs.declared.Response.{Response}
 use Rattle.arrival.specs.declared.Response.the-variants.{Opened, Begun, Refused}
 use Rattle.arrival.specs.Responses.{said}
-use Rattle.arrival.specs.Tests.{parts}
-use Rattle.calendar.specs.Layout.{layout, linkCell}
+use Rattle.calendar.specs.Layout.{layout}
 use Rattle.calendar.specs.Views.{View, view, itemIn}
-use Rattle.calendar.specs.Ranges.{blank, worker, between, storeInRange, tableInRange}
+use Rattle.calendar.specs.Ranges.{blank, worker, storeInRange, tableInRange}
 use Rattle.calendar.specs.RangeFacts.{store-tests, table-tests}
 use Rattle.calendar.specs.Reclaim.{firstFree}
 use Rattle.calendar.specs.FirstFree.{first-free-node, first-free-free}
@@ -37,9 +36,8 @@ use Rattle.calendar.specs.Acting.{by-act}
 use Rattle.calendar.specs.Operations.{Memory, Result, perform, open-pool, actor, refusal, outcome, act, run}
 use Rattle.lists.specs.Linking.{Chains}
 use Rattle.lists.specs.Filling.{Free, not-used, not-safe}
-use Rattle.lists.specs.Knowledge.{Private, Stands}
-use Rattle.lists.specs.Table.{Knows, Live, Inv}
-use Rattle.lists.specs.Searching.{Left}
+use Rattle.lists.specs.Table.{Live, Inv}
+use Rattle.lists.specs.Standing.{not-stood-on}
 use Rattle.lists.specs.Reached.{Reached, reached-open, reached-enqueue, reached-dequeue, reached-step, free-node}
 use Rattle.lists.specs.Stepping.{chains-after}
 
@@ -71,7 +69,7 @@ open-reaches sh m e =
     } in
     subst (λ n. Reached sh n (λ b. [])) (sym q) (reached-open sh m A B)
 
-act-reaches : (sh : Shape) (m : Memory) (a : Action) → SomeReached sh m → SomeReached sh (act sh m a .memory)
+pub act-reaches : (sh : Shape) (m : Memory) (a : Action) → SomeReached sh m → SomeReached sh (act sh m a .memory)
 act-reaches sh m a (ch, K) = by-act sh (λ n L. SomeReached sh n) m new a (ch, K) (accepted a)
   where
     accepted : (a : Action) → refusal sh m a ≡ 0 → SomeReached sh (perform sh m (actor a) (outcome sh m a) .memory)
@@ -145,72 +143,11 @@ never-refused-1-to-3 sh m e h a k lo hi r =
 
 -- ── what a call stands on ──
 -- no free node is one that a call in progress stands on
-module _ (sh : Shape) (v : View) (ch : Chains) (T : ℕ → Worker) (I : Inv sh v ch T) (x : ℕ) (isNode : x < sh .nodes) (free : Free v (Live (sh .workers) T) x) (j : ℕ) (l : j < sh .workers) where
-  abbrev w : Worker
-  w = T j
-
-  live : (T j) .stage ≢ 0 → Live (sh .workers) T ((T j) .ticket)
-  live u = (j, l, u, refl)
-
-  stands-off : {b n : ℕ} → (T j) .stage ≢ 0 → Stands sh v ch ((T j) .ticket) b n → n ≢ x
-  stands-off {n} u st e = not-safe sh v ch (Live (sh .workers) T) (I .lists) x (itemIn v x) free ((T j) .ticket) n (live u) (st .safe) (sym e)
-
-  k : Knows sh v ch (T j)
-  k = I .knows j l
-
-  own-off : 1 ≤ (T j) .stage → (T j) .stage ≤ 7 → (T j) .own ≢ x
-  own-off a b = go (leb (w .stage) 5) refl (k .kinds)
-    where
-      used : Private sh v ch ((T j) .ticket) ((T j) .own) → (T j) .own ≢ x
-      used p e = not-used sh v ch (Live (sh .workers) T) (I .lists) x (itemIn v x) free (ap (v .standing) (sym e) ∙ p .used)
-
-      go : (t : Bool) → leb ((T j) .stage) 5 ≡ t → ((T j) .kind ≡ 0) ⊎ ((T j) .kind ≡ 1) → (T j) .own ≢ x
-      go true t (inl z) = let h = leb-true (w .stage) 5 t in used (k .search a h .enqueueOwn z h)
-      go true t (inr z) = let h = leb-true (w .stage) 5 t in stands-off (λ e. omega arith) (k .search a h .dequeueOwn z (k .dequeues z b) .stands)
-      go false t z = stands-off (λ e. omega arith) (k .linked (omega (arith, leb-false (w .stage) 5 t)) b .node)
-
-  left-off : 2 ≤ (T j) .stage → (T j) .stage ≤ 5 → (T j) .left ≢ sh .buckets + x
-  left-off a b e = go (k .search (omega arith) b .left a b)
-    where
-      go : Left sh v ch (T j) → ⊥
-      go (inl q) = omega (arith, k .search (omega arith) b .range)
-      go (inr (n, q, st, lt)) = stands-off (λ u. omega arith) st (omega arith)
-
-  right-off : ((2 ≤ (T j) .stage) × ((T j) .stage ≤ 5)) ⊎ ((10 ≤ (T j) .stage) × ((T j) .stage ≤ 11)) → (T j) .right ≢ x
-  right-off (inl (a, b)) e = go (k .search (omega arith) b .right a b)
-    where
-      go : ((T j) .right ≡ sh .nodes) ⊎ Stands sh v ch ((T j) .ticket) ((T j) .bucket) ((T j) .right) → ⊥
-      go (inl q) = omega arith
-      go (inr st) = stands-off (λ u. omega arith) st e
-  right-off (inr (a, b)) e = stands-off (λ u. omega arith) (k .stand a b) e
-
-  within : (lo hi n : ℕ) → between lo hi n ≡ true → (lo ≤ n) × (n ≤ hi)
-  within lo hi n e = let (p, q) = parts (leb lo n) (leb n hi) e in (leb-true lo n p, leb-true n hi q)
-
-  pub not-stood-on : holds sh (T j) x ≡ false
-  not-stood-on = go (holds sh (T j) x) refl
-    where
-      either : (a b : Bool) → (a || b) ≡ true → (a ≡ true) ⊎ (b ≡ true)
-      either true b e = inl refl
-      either false b e = inr e
-
-      on-right : (between 2 5 ((T j) .stage) ≡ true) ⊎ (between 10 11 ((T j) .stage) ≡ true) → (T j) .right ≢ x
-      on-right (inl e) = right-off (inl (within 2 5 (w .stage) e))
-      on-right (inr e) = right-off (inr (within 10 11 (w .stage) e))
-
-      by : ((between 1 7 ((T j) .stage) && eqb ((T j) .own) x) ≡ true) ⊎ (((between 2 5 ((T j) .stage) && eqb ((T j) .left) (linkCell sh x)) ≡ true) ⊎ (((between 2 5 ((T j) .stage) || between 10 11 ((T j) .stage)) && eqb ((T j) .right) x) ≡ true)) → ⊥
-      by (inl e) = let (p, q) = parts _ _ e in let (a, b) = within 1 7 (w .stage) p in own-off a b (eqb-true (w .own) x q)
-      by (inr (inl e)) = let (p, q) = parts _ _ e in let (a, b) = within 2 5 (w .stage) p in left-off a b (eqb-true (w .left) (linkCell sh x) q)
-      by (inr (inr e)) = let (p, q) = parts _ _ e in on-right (either _ _ p) (eqb-true (w .right) x q)
-
-      split : (a b c : Bool) → (a || b || c) ≡ true → (a ≡ true) ⊎ ((b ≡ true) ⊎ (c ≡ true))
-      split true b c e = inl refl
-      split false true c e = inr (inl refl)
-      split false false c e = inr (inr e)
-
-      go : (t : Bool) → holds sh (T j) x ≡ t → t ≡ false
-      go true e = absurd (by (split _ _ _ e))
-      go false e = refl
+pub free-not-stood-on : (sh : Shape) (v : View) (ch : Chains) (T : ℕ → Worker) → Inv sh v ch T → (x : ℕ) → x < sh .nodes → Free v (Live (sh .workers) T) x → (j : ℕ) → j < sh .workers → holds sh (T j) x ≡ false
+free-not-stood-on sh v ch T I x isNode free j l =
+    not-stood-on sh v ch (T j) (I .knows j l) x isNode
+    (λ b n busy st e. not-safe sh v ch (Live (sh .workers) T) (I .lists) x (itemIn v x) free ((T j) .ticket) n (j, l, busy, refl) (st .safe) (sym e))
+    (λ busy p e. not-used sh v ch (Live (sh .workers) T) (I .lists) x (itemIn v x) free (ap (v .standing) (sym e) ∙ p .used))
 
 -- the node that a put gets is the first free one
 put-gets : (sh : Shape) (m : Memory) (i c : ℕ) (a : Arrival) → act sh m (Enqueue i a) .response ≡ Begun c
@@ -232,7 +169,7 @@ reached-not-held sh m ch K i c a e j l u =
     let (z, own) = put-gets sh m i c a e in
     let A = enqueue-accepted sh (m .store) (m .table) i a z in
     rw (own (K .lent .table) (A .usable .exists))
-    (not-stood-on sh (view sh (m .store)) ch (worker (m .table)) (K .inv) (firstFree sh (m .store) (m .table)) (first-free-node sh (m .store) (m .table) (K .store .last) (A .node))
+    (free-not-stood-on sh (view sh (m .store)) ch (worker (m .table)) (K .inv) (firstFree sh (m .store) (m .table)) (first-free-node sh (m .store) (m .table) (K .store .last) (A .node))
     (free-node sh (m .store) (m .table) (firstFree sh (m .store) (m .table)) (first-free-free sh (m .store) (m .table) (K .store .last) (A .node))) j l)
 
 pub no-put-gets-a-held-node : (sh : Shape) (m : Memory) → open-pool sh m .response ≡ Opened → (h : List Action) → let n = run sh (open-pool sh m .memory) h in

@@ -1,7 +1,7 @@
 -- Every turn keeps the invariant of lists and records: one match over the changes. Assumes nothing.
 use mathlib.Core.Path.{_≡_, refl, sym, ap, _∙_, subst}
 use mathlib.Core.List.{List, [], _∷_, List·Memᴰ·head, Memᴰ·cast}
-use mathlib.Core.Bool.{true}
+use mathlib.Core.Bool.{Bool, true, false}
 use mathlib.Core.Logic.{_≢_, _⊎_, inl, inr}
 use Prim.Native.Nat.{ℕ, suc, _+_, _*_, _/_, _%_, _≤_, _<_}
 use native.Mathlib.Omega.{arith}
@@ -9,11 +9,12 @@ use borrow.Author.Tests.{eqb-true, eqb-false, ltb-true, ltb-false}
 use Rattle.arrival.specs.declared.Shape.{Shape}
 use Rattle.arrival.specs.declared.Worker.{Worker}
 use Rattle.arrival.specs.Keys.{lower-total}
-use Rattle.calendar.specs.Layout.{Write, field, word, linkCell, link, current, itemAt}
+use Rattle.arrival.specs.Tests.{never}
+use Rattle.calendar.specs.Layout.{Write, field, word, linkCell, link, current, itemAt, isMarked}
 use Rattle.calendar.specs.Outcome.{Outcome, withStage, withOwn, withBucket, withRight, withSeen, withCurrent}
 use Rattle.calendar.specs.SearchSteps.{leftHolds, unlink}
 use Rattle.calendar.specs.EnqueueSteps.{ownEpoch, prepare, linkOwn, renewCurrent}
-use Rattle.calendar.specs.DequeueSteps.{linkHolds, markNode, nextCurrent}
+use Rattle.calendar.specs.DequeueSteps.{nodeIsMarked, linkHolds, markNode, nextCurrent}
 use Rattle.calendar.specs.Inside.{found-writes, settled-writes, walked-writes}
 use Rattle.calendar.specs.Changes.{Found, put-found, take-ends, Settled, at-end, goes-on, Walked, out, out-last, meets, Change, head-read, mark-seen, passed, stopped, unlinked, again-3, prepared, linked, again-5, stored-6, on-7, stored-7, back-6, current-read, first-read, mark-passed, newer, on-11, marked, back-10, advanced, back-12, emptied, back-13}
 use Rattle.calendar.specs.Views.{View, view, update, updates, Lt, upd-same}
@@ -140,6 +141,14 @@ module _ (sh : Shape) (s : List ℕ) (T : ℕ → Worker) (i : ℕ) (l : i < sh 
       old = λ a. absurd (omega arith);
       more = λ a. absurd (omega arith);
     }))
+
+    -- what a walk does not pass is unmarked
+    unmarked-met : nodeIsMarked sh s (T i) ≡ false → link sh s ((T i) .right) % 2 ≡ 0
+    unmarked-met t = go (isMarked (link sh s ((T i) .right))) refl
+      where
+        go : (b : Bool) → isMarked (link sh s ((T i) .right)) ≡ b → link sh s ((T i) .right) % 2 ≡ 0
+        go true e = never (sym (rw e at t))
+        go false e = even (link sh s ((T i) .right)) (eqb-false (link sh s ((T i) .right) % 2) 1 e)
 
     -- right's successor: the end, or a node on which the call may stand
     next-right : Stands sh (view sh s) ch ((T i) .ticket) ((T i) .bucket) ((T i) .right)
@@ -371,7 +380,7 @@ module _ (sh : Shape) (s : List ℕ) (T : ℕ → Worker) (i : ℕ) (l : i < sh 
     inv-step inC (newer q t n) = back-to-8 (withSeen (link sh s (w .right)) w) refl (dequeues (omega arith))
     inv-step inC (on-11 q t n) =
         own m ch R _ refl (at-walk sh m ch (withSeen (link sh s (w .right)) w) 11 (dequeues (omega arith)) (omega arith) (λ a. k .walk (omega arith)) (λ a b. k .stand (omega arith) (omega arith))
-        (λ a. (ltb-false (w .current % 4294967296) (m .epoch (w .right)) n, even (link sh s (w .right)) (eqb-false (link sh s (w .right) % 2) 1 t))) (λ a. absurd (omega arith)))
+        (λ a. (ltb-false (w .current % 4294967296) (m .epoch (w .right)) n, unmarked-met t)) (λ a. absurd (omega arith)))
     inv-step inC (marked q t) = keeps-11 q t
     inv-step inC (back-10 q t) =
         own m ch R _ refl (at-walk sh m ch w 10 (dequeues (omega arith)) (omega arith) (λ a. k .walk (omega arith)) (λ a b. k .stand (omega arith) (omega arith)) (λ a. absurd (omega arith)) (λ a. absurd (omega arith)))

@@ -6,6 +6,7 @@ pub mod Encoding
 pub mod Front
 pub mod Encoded
 pub mod Found
+pub mod Rest
 pub mod OneReading
 pub mod Decimal
 pub mod Lines

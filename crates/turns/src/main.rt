@@ -1,9 +1,14 @@
 // `turns`: a turn file on standard input, its lines on standard output.
 ghost use mathlib.Core.Path.{_≡_};
-ghost use Prim.Native.Nat.{_-_, _≤_};
-ghost use lib.ListN.{length};
+ghost use Prim.Native.Nat.{_-_, _≤_, _<_};
+ghost use lib.ListN.{length, take};
+ghost use Rattle.turn_file.specs.Buffer.{written, after};
+ghost use Rattle.batch.specs.TurnFile.{zeros};
 ghost use Rattle.batch.specs.Ending.{Sound};
 ghost use Rattle.turns.specs.Moving.{moved};
+ghost use Rattle.turns.specs.Running.{lent, follows, lastLine, roundOf, atFirst};
+ghost use Rattle.turns.specs.Holding.{inHand, holding, leaves, Placed};
+ghost use Rattle.turns.specs.Following.{Outcome};
 use arrival::Response;
 use arrival::Shape;
 use arrival::Worker;
@@ -14,9 +19,42 @@ use libc::STDIN_FILENO;
 use libc::STDOUT_FILENO;
 use turn_file::write_line;
 
+// What follows a stretch: the rest of its bytes, more bytes behind that rest, or the run's end, without a last line or with the line of a refusal.
+enum Next {
+    Serve,
+    Read,
+    End,
+    Last(u64),
+}
+
+// Where a round leaves the run: the bytes not yet worked through stand from `at` on, the lines before `to`.
+struct Round {
+    desk: Desk,
+    at: usize,
+    to: usize,
+    next: Next,
+}
+
+// Why the rounds ended: one said so, the output was closed, or all were used up.
+enum Ended {
+    Finished,
+    Closed,
+    Spent,
+}
+
+// How many words are lent.
+const WORDS: usize = 4355;
+
+// The words that are lent.
+fn lent_words() -> [u64; WORDS]
+    ensures { λ r. ⌜ r ≡ lent .store ⌝ }
+{
+    [0; WORDS]
+}
+
 // Before the first opening: a shape of zeros and idle workers.
 fn fresh_desk(store: &[u64]) -> Desk
-    ensures { λ r. ⌜ Sound r (now (store .entry)) ⌝ }
+    ensures { λ r. ⌜ Sound r (now (store .entry)) × (r .shape ≡ zeros) × (r .records ≡ 64) × (r .table ≡ lent .table) ⌝ }
 {
     let idle = Worker {
         stage: 0,
@@ -39,7 +77,44 @@ fn fresh_desk(store: &[u64]) -> Desk
         shape,
         sound: false,
         records: 64,
+        held: 0,
         table: [idle; 64],
+    }
+}
+
+// What follows a stretch that stopped so; `ended` tells whether the input has ended.
+fn follow(stop: Stop, ended: bool) -> Next
+    ensures { λ r. ⌜ r ≡ follows ended stop ⌝ }
+{
+    match stop {
+        Stop::Full => Next::Serve,
+        Stop::Drained => {
+            if ended {
+                return Next::End;
+            }
+            Next::Read
+        }
+        Stop::Halted(k) => {
+            if ended {
+                return Next::Last(k);
+            }
+            if k == 8 {
+                return Next::Read;
+            }
+            Next::Last(k)
+        }
+    }
+}
+
+// Writes the last line, where there is one: the place behind it.
+fn close(next: Next, out: &mut [u8], to: usize) -> usize
+    ensures { λ r. ⌜ (r ≡ after (now (out .entry)) to (lastLine next)) × (now (out .exit) ≡ written (now (out .entry)) to (lastLine next)) ⌝ }
+{
+    match next {
+        Next::Last(k) => write_line(Response::Refused(k), out, to),
+        Next::Serve => to,
+        Next::Read => to,
+        Next::End => to,
     }
 }
 
@@ -57,69 +132,88 @@ fn keep_rest(input: &mut [u8], at: usize, have: usize) -> usize
     n
 }
 
-// Reads behind the first `have` bytes: how many there are then.
+// Reads behind the first `have` bytes, for which there is room: how many there are then.
 fn read_more(input: &mut [u8], have: usize) -> usize
-    requires { ⌜ have ≤ length (now input) ⌝ }
-    ensures { λ r. ⌜ (have ≤ r) × (r ≤ length (now (input .entry))) × (length (now (input .exit)) ≡ length (now (input .entry))) ⌝ }
+    requires { ⌜ have < length (now input) ⌝ }
+    ensures { λ r. ⌜ (have ≤ r) × (r ≤ length (now (input .entry))) × (length (now (input .exit)) ≡ length (now (input .entry)))
+        × (take have (now (input .exit)) ≡ take have (now (input .entry))) ⌝ }
 {
     let free = &mut input[have..];
     let got = libc::read(STDIN_FILENO, free);
     have + io::count(got, free)
 }
 
-// The last line of a run that ends by 7 or 8.
-fn refuse(k: u64) {
-    let mut line = io::buffer();
-    let end = write_line(Response::Refused(k), &mut line, 0);
-    io::write_all(STDOUT_FILENO, &line[..end]);
+// One round over the bytes from `at` to `have`: a stretch, the last line behind it, and what follows.
+fn one_round(
+    desk: Desk,
+    ended: bool,
+    input: &[u8],
+    at: usize,
+    have: usize,
+    out: &mut [u8],
+    store: &mut [u64],
+) -> Round
+    requires { ⌜ Sound desk (now store) × (at ≤ have) × (have ≤ length (now input)) ⌝ }
+    ensures { λ r. ⌜ (leaves r have (now (input .entry)) (now (out .exit)) (now (store .exit))
+        ≡ roundOf (holding desk (now (store .entry)) ended (inHand at have (now (input .entry))) (now (out .entry))))
+        × Sound (r .desk) (now (store .exit)) × Placed r have (now (out .exit)) × (length (now (out .exit)) ≡ length (now (out .entry))) ⌝ }
+{
+    let p = serve(desk, &input[at..have], 0, out, 0, store);
+    let stop = p.stop;
+    let next = follow(stop, ended);
+    let to = close(next, out, p.to);
+    let desk = p.desk;
+    Round {
+        desk,
+        at: at + p.at,
+        to,
+        next,
+    }
 }
 
-// Stretch by stretch, until the input ends, a record is refused by 7 or 8, or the output is closed.
-fn run(store: &mut [u64], input: &mut [u8], out: &mut [u8]) {
+// Round after round, until one says that the run ends, the output is closed, or all rounds are used up.
+fn run(store: &mut [u64], input: &mut [u8], out: &mut [u8]) -> Ended
+    requires { ⌜ (now store ≡ lent .store) × (12 ≤ length (now input)) × (89 ≤ length (now out)) ⌝ }
+    ensures { λ r. ⌜ Outcome (atFirst lent (now (out .entry))) (now (store .exit)) r ⌝ }
+{
     let mut desk = fresh_desk(store);
+    let mut ended = false;
     let mut at: usize = 0;
     let mut have: usize = 0;
     let mut left: u64 = 18446744073709551615;
     while 0 < left {
         left -= 1;
-        let p = serve(desk, &input[..have], at, out, 0, store);
-        let to = p.to;
+        let r = one_round(desk, ended, input, at, have, out, store);
+        let to = r.to;
         if !io::write_all(STDOUT_FILENO, &out[..to]) {
-            return;
+            return Ended::Closed;
         }
-        let next = p.desk;
-        desk = next;
-        at = p.at;
-        let stop = p.stop;
-        match stop {
-            Stop::Full => {}
-            Stop::Drained => {
+        let after = r.desk;
+        desk = after;
+        at = r.at;
+        let next = r.next;
+        match next {
+            Next::Serve => {}
+            Next::Read => {
+                let kept = keep_rest(input, at, have);
                 at = 0;
-                have = read_more(input, 0);
-                if have == 0 {
-                    return;
-                }
+                have = read_more(input, kept);
+                ended = have == kept;
             }
-            Stop::Halted(k) => {
-                if k != 8 {
-                    refuse(k);
-                    return;
-                }
-                let rest = keep_rest(input, at, have);
-                at = 0;
-                have = read_more(input, rest);
-                if have == rest {
-                    refuse(8);
-                    return;
-                }
+            Next::End => {
+                return Ended::Finished;
+            }
+            Next::Last(_) => {
+                return Ended::Finished;
             }
         }
     }
+    Ended::Spent
 }
 
 fn main() {
-    let mut store = [0u64; 4355];
+    let mut store = lent_words();
     let mut input = io::large_buffer();
     let mut out = io::large_buffer();
-    run(&mut store, &mut input, &mut out);
+    let _ended = run(&mut store, &mut input, &mut out);
 }

@@ -1,3 +1,4 @@
+pub mod Elements
 pub mod Literal
 pub mod Shared
 pub mod Stored

@@ -2,7 +2,7 @@
 use mathlib.Core.Path.{_≡_, refl, ap, _∙_}
 use mathlib.Core.List.{List, _++_}
 use mathlib.Core.Bool.{Bool, true, false, cond}
-use Prim.Native.Nat.{ℕ, _<_}
+use Prim.Native.Nat.{ℕ}
 use native.Mathlib.Omega.{arith}
 use lib.Dec.{eqb, ltb}
 use lib.ListN.{length, set, drop, replicate}
@@ -10,10 +10,10 @@ use borrow.Author.Tests.{eqb-true, eqb-false, ltb-false, le-ltb}
 use Rattle.arrival.specs.declared.Shape.{Shape}
 use Rattle.arrival.specs.declared.Arrival.{Arrival}
 use Rattle.arrival.specs.declared.Worker.{Worker}
-use Rattle.arrival.specs.declared.Response.{Response}
 use Rattle.arrival.specs.declared.Response.the-variants.{Opened, Refused}
 use Rattle.arrival.specs.declared.Action.{Action}
 use Rattle.arrival.specs.declared.Action.the-variants.{Enqueue, Dequeue, Step}
+use Rattle.arrival.specs.Responses.{Said, said}
 use Rattle.calendar.specs.Ranges.{blank, worker}
 use Rattle.calendar.specs.Opening.{openStore, openTable}
 use Rattle.calendar.specs.Refusals.{openRefusal}
@@ -28,23 +28,25 @@ use Rattle.wubraken.specs.declared.table.Survey.{Survey}
 use Rattle.wubraken.specs.declared.records.Opening.{Opening}
 use Rattle.wubraken.specs.declared.records.Handled.{Handled}
 use Rattle.wubraken.specs.declared.answers.Answer.{Answer}
-use Rattle.wubraken.specs.Answers.{answerOf}
+use Rattle.wubraken.specs.Answers.{answerOf, saidBy, answer-said}
 use Rattle.wubraken.specs.Survey.{surveyed, survey, survey-records, survey-ok-is, survey-low-is}
-use Rattle.wubraken.specs.Gate.{gateOn, passed}
+use Rattle.wubraken.specs.Gate.{gateOn}
 
 -- ── what a call leaves ──
 abbrev pub lent : List ℕ → List Worker → Memory
 lent s t = record { store = s; table = t }
 
+-- the memory, the answer, and the number and values that it says
 pub record Told : Type 0 where
   pub memory : Memory
   pub answer : Answer
+  pub said : Said
 
 abbrev pub leaves : List ℕ → List Worker → Answer → Told
-leaves s t a = record { memory = lent s t; answer = a }
+leaves s t a = record { memory = lent s t; answer = a; said = saidBy a }
 
 abbrev pub told : Result → Told
-told r = record { memory = r .memory; answer = answerOf (r .response) }
+told r = record { memory = r .memory; answer = answerOf (r .response); said = said (r .response) }
 
 -- the same of one record
 pub record Left : Type 0 where
@@ -60,6 +62,9 @@ coded d = record { store = d .store; worker = d .worker; answer = answerOf (d .r
 
 abbrev pub put-back : List Worker → ℕ → Left → Told
 put-back t i d = leaves (d .store) (set t i (d .worker)) (d .answer)
+
+pub put-back-told : (t : List Worker) (i : ℕ) (d : Done) → put-back t i (coded d) ≡ told (back t i d)
+put-back-told t i d = λ k. record { memory = lent (d .store) (set t i (d .worker)); answer = answerOf (d .response); said = answer-said (d .response) k }
 
 -- ── the operations on a record ──
 unfoldable pub enqueueOn : Shape → ℕ → Arrival → ℕ → Survey → List ℕ → Worker → Done

@@ -1,5 +1,5 @@
 // The library for hosts: entry points over lent memory, whatever it holds, for C and Rust to call. A start or turn copies one record out, calls a function
-// by value, and stores the record back; a stretch does so with all records.
+// by value, and stores the record back; a stretch does so with those of the shape at hand and those that its openings clear.
 ghost use mathlib.Core.Path.{_≡_};
 ghost use mathlib.Core.Bool.{cond};
 ghost use Rattle.arrival.specs.declared.Action.the-variants.{Enqueue, Dequeue, Step};
@@ -21,9 +21,10 @@ use records::open_words;
 use records::step_record;
 use records::turn_away;
 use stretch::Served;
-use stretch::records_held;
+use stretch::records_counted;
 use stretch::serve_records;
 use table::clear_table;
+use table::records_surveyed;
 use table::survey_table;
 use words::layout_words;
 
@@ -133,9 +134,10 @@ pub extern "C" fn wubraken_serve(
 ) -> Served
     ensures { λ r. ⌜ account (now (store .exit)) (now (table .exit)) (now (out .exit)) r ≡ stretchOn shape (now (store .entry)) (now (table .entry)) (now (input .entry)) (now (out .entry)) ⌝ }
 {
-    let n = records_held(table.len());
-    let held = copy_out(table, n);
+    let n = records_counted(table.len());
+    let k = records_surveyed(shape, n);
+    let held = copy_out(table, k);
     let r = serve_records(shape, n, held, input, out, store);
-    copy_back(table, r.table, n);
+    copy_back(table, r.table, r.held);
     r.served
 }

@@ -1,8 +1,11 @@
 // A stretch of a turn file on records that are held by value.
 ghost use mathlib.Core.Path.{_≡_};
-ghost use Prim.Native.Nat.{_≤_};
-ghost use lib.ListN.{length, take};
-ghost use Rattle.wubraken.specs.Stretch.{stopNumber, heldOf, heldInRange, account, stretchOn};
+ghost use mathlib.Core.Bool.{true};
+ghost use Prim.Native.Nat.{_≤_, _<_};
+ghost use lib.ListN.{take};
+ghost use Rattle.calendar.specs.Ranges.{shapeInRange};
+ghost use Rattle.batch.specs.Counting.{countedOf};
+ghost use Rattle.wubraken.specs.Stretch.{stopNumber, heldInRange, heldOn, account, stretchOn};
 use super::table::records_surveyed;
 use admission::is_sound;
 use arrival::Shape;
@@ -21,15 +24,16 @@ pub struct Served {
     pub stop: u64,
 }
 
-// What a stretch leaves of the records, and its account.
+// What a stretch leaves of the records, how many of them it held, and its account.
 pub struct Stretch {
     pub table: [Worker; 64],
+    pub held: usize,
     pub served: Served,
 }
 
-// How many of n lent records are held.
-pub fn records_held(n: usize) -> usize
-    ensures { λ r. ⌜ r ≡ heldOf n ⌝ }
+// How many of n lent records count: no shape has more than 64 workers.
+pub fn records_counted(n: usize) -> usize
+    ensures { λ r. ⌜ r ≡ countedOf n ⌝ }
 {
     if n < 64 { n } else { 64 }
 }
@@ -44,15 +48,14 @@ fn stop_number(stop: Stop) -> u64
     }
 }
 
-// Whether the workers' records are in range, as far as there are records.
+// Whether the first n records are in range.
 fn held_in_range(shape: Shape, n: usize, table: [Worker; 64]) -> bool
-    requires { ⌜ n ≤ 64 ⌝ }
+    requires { ⌜ (n ≤ 64) × (0 < n → shapeInRange shape ≡ true) ⌝ }
     ensures { λ r. ⌜ r ≡ heldInRange shape n table ⌝ }
 {
-    let end = records_surveyed(shape, n);
     let mut ok = true;
     let mut k: usize = 0;
-    while k < end {
+    while k < n {
         let w = table[k];
         ok = ok & record_in_range(shape, w);
         k += 1;
@@ -60,7 +63,7 @@ fn held_in_range(shape: Shape, n: usize, table: [Worker; 64]) -> bool
     ok
 }
 
-// Works through a stretch from its first byte on, with the first n records lent.
+// Works through a stretch from its first byte on, with n records lent, of which the table has those of the shape's workers.
 pub fn serve_records(
     shape: Shape,
     n: usize,
@@ -70,20 +73,24 @@ pub fn serve_records(
     store: &mut [u64],
 ) -> Stretch
     requires { ⌜ n ≤ 64 ⌝ }
-    ensures { λ r. ⌜ account (now (store .exit)) (take n (r .table)) (now (out .exit)) (r .served) ≡ stretchOn shape (now (store .entry)) (take n table) (now (input .entry)) (now (out .entry)) ⌝ }
+    ensures { λ r. ⌜ (account (now (store .exit)) (take n (r .table)) (now (out .exit)) (r .served) ≡ stretchOn shape (now (store .entry)) (take n table) (now (input .entry)) (now (out .entry)))
+        × (r .held ≡ heldOn shape (now (store .entry)) (take n table) (now (input .entry)) (now (out .entry))) ⌝ }
 {
-    let ok = held_in_range(shape, n, table);
+    let held = records_surveyed(shape, n);
+    let ok = held_in_range(shape, held, table);
     let sound = is_sound(shape, n, ok, store);
     let desk = Desk {
         shape,
         sound,
         records: n,
+        held,
         table,
     };
     let p = batch::serve(desk, input, 0, out, 0, store);
     let end = p.desk;
     let opened = end.shape;
     let left = end.table;
+    let held_at_end = end.held;
     let stop = p.stop;
     let number = stop_number(stop);
     let served = Served {
@@ -94,6 +101,7 @@ pub fn serve_records(
     };
     Stretch {
         table: left,
+        held: held_at_end,
         served,
     }
 }

@@ -6,6 +6,7 @@ pub mod by_hand;
 pub mod lent;
 pub mod orders;
 pub mod script;
+pub mod stored;
 
 mod damage;
 mod generator;

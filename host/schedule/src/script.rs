@@ -14,13 +14,19 @@ pub struct Script {
 impl Script {
     /// A script that begins with an opening.
     pub fn open(workers: u32, nodes: u32, buckets: u32, width: u32) -> Self {
+        Self::default().opened(workers, nodes, buckets, width)
+    }
+
+    /// An opening, after which calls are counted anew.
+    pub fn opened(mut self, workers: u32, nodes: u32, buckets: u32, width: u32) -> Self {
         let shape = Shape {
             workers,
             nodes,
             buckets,
             width,
         };
-        Self::default().and(Record::Open(shape), "open")
+        self.started = 0;
+        self.and(Record::Open(shape), "open")
     }
 
     pub fn records(&self) -> &[Record] {

@@ -8,12 +8,16 @@ use schedule::by_hand::WORKED_EXAMPLE;
 const INPUT: &[u8] = WORKED_EXAMPLE.0;
 const OUTPUT: &str = WORKED_EXAMPLE.1;
 
-/// The file that the README runs.
+/// The file that the README runs, and its lines.
 #[test]
-fn the_stored_file() {
+fn the_stored_files() {
     assert_eq!(
         include_bytes!("../../../examples/worked_example.turns"),
         INPUT
+    );
+    assert_eq!(
+        include_str!("../../../examples/worked_example.lines"),
+        OUTPUT
     );
 }
 

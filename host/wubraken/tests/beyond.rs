@@ -1,6 +1,6 @@
 //! Words beyond a shape's layout and records beyond its workers are not touched,
-//! not even read: the lengths count them, but they lie behind a fence. A stretch
-//! holds copies of up to 64 records, since an opening in it may need them.
+//! not even read: the lengths count them, but they lie behind a fence. In a
+//! stretch that is the shape of which it has the most workers.
 #![cfg(target_os = "linux")]
 
 mod common;
@@ -19,8 +19,8 @@ use wubraken::{Shape, Worker};
 
 const SPARE: usize = 5;
 const MEMORIES: usize = 2_000;
-/// As many records as a stretch holds.
-const HELD: usize = 64;
+/// How many workers an opening may have more than the shape before it.
+const MORE: usize = 3;
 
 /// Pointers and lengths as C hands them in.
 #[derive(Clone, Copy)]
@@ -31,9 +31,9 @@ struct Lent {
     records: usize,
 }
 
-/// Runs calls on memory in range that ends where its layout does, with so many
-/// records at least.
-fn on_each_memory(test: &str, least: usize, calls: impl Fn(&mut Random, Shape, Lent)) {
+/// Runs calls on memory in range that ends where its layout does, and so many
+/// records behind the workers'.
+fn on_each_memory(test: &str, more: usize, calls: impl Fn(&mut Random, Shape, Lent)) {
     on_seeds(test, |random| {
         let (mut store_pages, mut table_pages) = (Fenced::new(), Fenced::new());
         for _ in 0..MEMORIES {
@@ -41,7 +41,7 @@ fn on_each_memory(test: &str, least: usize, calls: impl Fn(&mut Random, Shape, L
             let memory = Memory::in_range(random, small);
             let store = store_pages.lend(&memory.store, true);
             let mut workers = translate::table_back(&memory.workers);
-            workers.resize(workers.len().max(least), Worker::default());
+            workers.resize(workers.len() + more, Worker::default());
             let table = table_pages.lend(&workers, true);
             let lent = Lent {
                 words: store.len() + SPARE,
@@ -126,7 +126,7 @@ fn single_calls() {
 
 #[test]
 fn stretches() {
-    on_each_memory("beyond, stretches", HELD, |random, shape, lent| {
+    on_each_memory("beyond, stretches", 0, |random, shape, lent| {
         let mut file = Vec::new();
         for _ in 0..4 {
             for worker in 0..shape.workers as u8 {
@@ -134,10 +134,52 @@ fn stretches() {
             }
         }
         assert!(!lent.serve(shape, &file).contains("no 4"));
-        Record::Open(translate::shape(shape)).encode(&mut file);
-        assert!(lent.serve(shape, &file).ends_with("open\n"));
+        for workers in [65, lent.records as u64 + 1, shape.workers] {
+            let opened = translate::shape(Shape { workers, ..shape });
+            Record::Open(opened).encode(&mut file);
+        }
+        assert!(lent.serve(shape, &file).ends_with("no 1\nno 2\nopen\n"));
         let no_worker = records_of(random, shape, shape.workers as u8);
         assert_eq!(lent.serve(shape, &no_worker), "no 4\n".repeat(4));
+    });
+}
+
+#[test]
+fn openings_in_a_stretch() {
+    on_each_memory("beyond, openings", MORE, |random, shape, lent| {
+        let most = shape.workers as u32 + MORE as u32;
+        let mut file = Vec::new();
+        for workers in [random.between(1, most), most, random.between(1, most)] {
+            let opened = Shape {
+                workers: workers.into(),
+                ..shape
+            };
+            Record::Open(translate::shape(opened)).encode(&mut file);
+            for worker in 0..=workers as u8 {
+                file.extend(records_of(random, opened, worker));
+            }
+        }
+        let lines = lent.serve(shape, &file);
+        assert_eq!(lines.matches("open\n").count(), 3);
+        assert_eq!(lines.matches("no 4\n").count(), 3 * 4);
+    });
+}
+
+/// Of a shape outside its limits not even the first record is there.
+#[test]
+fn stretches_of_no_shape() {
+    on_each_memory("beyond, no shape", 0, |random, shape, lent| {
+        let nothing = Lent {
+            table: lent.table.wrapping_add(lent.records - SPARE),
+            records: SPARE,
+            ..lent
+        };
+        let file = records_of(random, shape, 0);
+        let none = Shape {
+            workers: 65,
+            ..shape
+        };
+        assert_eq!(nothing.serve(none, &file), "no 1\n".repeat(4));
     });
 }
 

@@ -14,30 +14,31 @@ use Rattle.batch.proofs.serve.Statement.{statement}
 use Rattle.batch.proofs.serve.Tie as tie
 
 abbrev Inv-loop2 : tie.InvT-loop2
-Inv-loop2 input at out to store shape sound records table at' to' words room last next i arrival k w n low₀ j₀ low j =
+Inv-loop2 input at out to store shape sound records held table at' to' words room last next i arrival k w n low₀ j₀ low j =
     (j ≤ n) × (low ≡ leastTicket table j)
 
 abbrev μ-loop2 : tie.MeasureT-loop2
-μ-loop2 input at out to store shape sound records table at' to' words room last next i arrival k w n low₀ j₀ low j = n - j
+μ-loop2 input at out to store shape sound records held table at' to' words room last next i arrival k w n low₀ j₀ low j = n - j
 
 abbrev Inv-loop : tie.InvT-loop
-Inv-loop input at out₀ to store₀ shape₀ sound₀ records table₀ at₀ to₀ words room last out store shape sound table at' to' =
-    Round input (at-work shape₀ store₀ (take records table₀) at₀ out₀ to₀) words records last shape store table at' out to' sound
+Inv-loop input at out₀ to store₀ shape₀ sound₀ records held₀ table₀ at₀ to₀ words room last out store shape sound held table at' to' =
+    Round input (at-work shape₀ store₀ (take records table₀) at₀ out₀ to₀) held₀ words records last shape store table at' out to' sound held
     × (words ≡ length store₀) × (last + 89 ≡ length out₀)
 
 abbrev μ-loop : tie.MeasureT-loop
-μ-loop input at out₀ to store₀ shape₀ sound₀ records table₀ at₀ to₀ words room last out store shape sound table at' to' = length input - at'
+μ-loop input at out₀ to store₀ shape₀ sound₀ records held₀ table₀ at₀ to₀ words room last out store shape sound held table at' to' = length input - at'
 
 returns : tie.Need-returns Inv-loop2 μ-loop2 Inv-loop μ-loop
 returns c =
     let pre = c .before .before .before .before .before .before .pre in
     let bytes = c .before .before .before .before .before .before .args .input .now in
-    (no-room bytes _ _ _ _ _ _ _ (pre .2) (c .if1 .taken), pre, refl)
+    let full = no-room bytes _ _ _ _ _ _ _ _ (pre .2) (c .if1 .taken) in
+    (full .0, pre, refl, full .1)
 
 loop-holds : tie.Need-loop-holds Inv-loop2 μ-loop2 Inv-loop μ-loop
 loop-holds c =
     let pre = c .before .before .before .before .before .before .pre in
-    (first-round _ _ _ _ _ _ _ _ _ (pre .2) (pre .0) (pre .1) _ _ refl (omega arith) (pre .3), refl, omega arith)
+    (first-round _ _ _ _ _ _ _ _ _ _ (pre .2) (pre .0) (pre .1) _ _ refl (omega arith) (pre .3), refl, omega arith)
 
 read-record-requires : tie.Need-read-record-requires Inv-loop2 μ-loop2 Inv-loop μ-loop
 read-record-requires c κs = search needs
@@ -79,25 +80,28 @@ cleared-requires c κs =
     let g = c .before .before .before .before in
     lent-to (g .before .before .before .before .before .before .before .loop .inv .0) _ _ (g .before .open-gate .ensures) (g .if2 .left) .limits .workers
 
+greater-requires : tie.Need-greater-requires Inv-loop2 μ-loop2 Inv-loop μ-loop
+greater-requires c κs = search needs
+
 write-line-requires-2 : tie.Need-write-line-requires-2 Inv-loop2 μ-loop2 Inv-loop μ-loop
 write-line-requires-2 c κs = search needs
 
 loop-less-2 : tie.Need-loop-less-2 Inv-loop2 μ-loop2 Inv-loop μ-loop
 loop-less-2 c =
-    let g = c .before .before .before .before .before .before .before .before .before in
+    let g = c .before .before .before .before .before .before .before .before .before .before in
     let is = g .before .before .before .before .before .read-record .ensures in
     nearer-open _ _ _ is _ _ (g .before .before .before .«record» .given .1)
 
 loop-again-2 : tie.Need-loop-again-2 Inv-loop2 μ-loop2 Inv-loop μ-loop
 loop-again-2 c =
-    let g = c .before .before .before .before .before .before .before .before .before in
+    let g = c .before .before .before .before .before .before .before .before .before .before in
     let inv = g .before .before .before .before .before .before .before .loop .inv in
     let fits = g .before .before .before .before .before .before .loop-test .taken in
     let line = c .before .before .write-line2 .ensures in
     let is = g .before .before .before .before .before .read-record .ensures in
     let read = known-open _ _ _ is _ _ (g .before .before .before .«record» .given .1) in
     let did = opened (inv .0) fits _ _ _ _ line _ read _ (g .before .open-gate .ensures) (g .if2 .left) refl in
-    (did _ (c .before .before .before .before .before .before .before .open-store .ensures) _ (c .before .before .before .before .cleared .ensures), inv .1, inv .2)
+    (did _ (c .before .before .before .before .before .before .before .before .open-store .ensures) _ (c .before .before .before .before .before .cleared .ensures) _ (c .before .before .before .before .greater .ensures), inv .1, inv .2)
 
 enum-known-record-2 : tie.Need-enum-known-record-2 Inv-loop2 μ-loop2 Inv-loop μ-loop
 enum-known-record-2 c = search needs
@@ -383,7 +387,8 @@ returns-2 : tie.Need-returns-2 Inv-loop2 μ-loop2 Inv-loop μ-loop
 returns-2 c =
     let R = c .before .before .before .before .loop .inv .0 in
     let is = c .before .before .read-record .ensures in
-    (at-drained R (c .before .before .before .loop-test .taken) (sym (c .enum-told .given .1) ∙ is), kept R, refl)
+    let end = at-drained R (c .before .before .before .loop-test .taken) (sym (c .enum-told .given .1) ∙ is) in
+    (end .0, kept R, refl, end .1)
 
 enum-known-record-3 : tie.Need-enum-known-record-3 Inv-loop2 μ-loop2 Inv-loop μ-loop
 enum-known-record-3 c = search needs
@@ -398,7 +403,8 @@ returns-3 : tie.Need-returns-3 Inv-loop2 μ-loop2 Inv-loop μ-loop
 returns-3 c =
     let R = c .before .before .before .before .before .loop .inv .0 in
     let is = c .before .before .before .read-record .ensures in
-    (at-halted R (c .before .before .before .before .loop-test .taken) _ (sym (c .before .record3 .given .1) ∙ is), kept R, refl)
+    let end = at-halted R (c .before .before .before .before .loop-test .taken) _ (sym (c .before .record3 .given .1) ∙ is) in
+    (end .0, kept R, refl, end .1)
 
 same-length-5 : tie.Need-same-length-5 Inv-loop2 μ-loop2 Inv-loop μ-loop
 same-length-5 c = sym (c .before .loop .inv .0 .buffer) ∙ c .before .loop .inv .2
@@ -409,7 +415,8 @@ same-length-6 c = sym (c .before .loop .inv .0 .store) ∙ c .before .loop .inv 
 returns-4 : tie.Need-returns-4 Inv-loop2 μ-loop2 Inv-loop μ-loop
 returns-4 c =
     let R = c .before .loop .inv .0 in
-    (at-full R (c .loop-test .left), kept R, refl)
+    let end = at-full R (c .loop-test .left) in
+    (end .0, kept R, refl, end .1)
 
 pub serve-spec : {M : Type 1} → statement M
 serve-spec =
@@ -429,6 +436,7 @@ serve-spec =
     loop-again
     open-store-requires
     cleared-requires
+    greater-requires
     write-line-requires-2
     loop-less-2
     loop-again-2

@@ -57,7 +57,7 @@ use Rattle.wubraken.specs.Answers.{answerOf}
 use Rattle.wubraken.specs.declared.table.Survey.{Survey}
 use Rattle.wubraken.specs.Survey.{surveyed, survey, surveyed-bound, survey-records, survey-tells}
 use Rattle.wubraken.specs.Gate.{gateOn}
-use Rattle.wubraken.specs.Results.{lent, leaves, told, left, coded, put-back, dequeueOn, dequeue-is, away-is}
+use Rattle.wubraken.specs.Results.{lent, leaves, told, left, coded, put-back, put-back-told, dequeueOn, dequeue-is, away-is}
 use Rattle.arrival.proofs.Shape as Sh
 use Rattle.arrival.proofs.Shape.Laws as Sh′
 use Rattle.arrival.proofs.Worker as T
@@ -148,7 +148,7 @@ module _ (sh : Shape) (i : ℕ) (S : List ℕ) (ys : List Worker) where
   Says v zs ws = leaves zs ws v ≡ told (act sh (lent S ys) (Dequeue i))
 
   says-in : i < length ys → (r : Handled) (zs : List ℕ) → Said r zs → Says (r .answer) zs (set ys i (r .worker))
-  says-in inside r zs e = ap (put-back ys i) e ∙ ap told (dequeue-is sh S ys i)
+  says-in inside r zs e = ap (put-back ys i) e ∙ put-back-told ys i (dequeueOn sh i (length ys) (survey sh ys) S elem) ∙ ap told (dequeue-is sh S ys i)
 
   says-out : ltb i (survey sh ys .records) ≡ false → (r : Answer) (zs : List ℕ) → SaidAway r zs → Says r zs ys
   says-out beyond r zs e = (λ k. leaves (e .1 k) ys (e .0 k)) ∙ away-is sh S ys (Dequeue i) beyond
