@@ -14,18 +14,18 @@ use Rattle.arrival.specs.declared.Worker.{Worker}
 use Rattle.arrival.specs.declared.Response.the-variants.{Refused}
 use Rattle.arrival.specs.declared.Action.{Action}
 use Rattle.arrival.specs.declared.Action.the-variants.{Enqueue, Dequeue, Step}
-use Rattle.arrival.specs.Tests.{parts, neither}
-use Rattle.calendar.specs.Layout.{layout}
-use Rattle.calendar.specs.Ranges.{worker, shapeInRange, storeInRange, tableInRange}
-use Rattle.calendar.specs.RangeFacts.{Limits, limits, store-ranges, table-ranges}
-use Rattle.calendar.specs.Refusals.{firstOf, badShape, tooShort, outOfRange, noWorker, badArrival, tooLate, busy, idle, noTicket, noEpoch, noNode, openRefusal, enqueueRefusal, dequeueRefusal, stepRefusal}
-use Rattle.calendar.specs.Accepted.{Lent, Usable}
-use Rattle.calendar.specs.Operations.{Memory, Result, perform, actor, refusal, outcome, act}
+use Rattle.laws.specs.Tests.{parts, neither}
+use Rattle.calendar.specs.rules.Layout.{layout}
+use Rattle.calendar.specs.rules.Ranges.{worker, shapeInRange, storeInRange, tableInRange}
+use Rattle.calendar.specs.facts.RangeFacts.{Limits, limits, store-ranges, table-ranges}
+use Rattle.calendar.specs.rules.Refusals.{firstOf, badShape, tooShort, outOfRange, noWorker, badArrival, tooLate, busy, idle, noTicket, noEpoch, noNode, openRefusal, enqueueRefusal, dequeueRefusal, stepRefusal}
+use Rattle.calendar.specs.facts.Accepted.{Lent, Usable}
+use Rattle.calendar.specs.rules.Operations.{Memory, Result, perform, actor, refusal, outcome, act}
 use Rattle.words.specs.Done.{Done, done, refused, unlessRefused}
-use Rattle.stages.specs.Local.{localStep}
-use Rattle.starts.specs.Least.{leastTicket}
-use Rattle.starts.specs.Free.{first-free-is}
-use Rattle.starts.specs.Local.{localEnqueueRefusal, localEnqueue, localDequeueRefusal, localDequeue}
+use Rattle.stages.specs.LocalStep.{localStep}
+use Rattle.starts.specs.LeastTicket.{leastTicket}
+use Rattle.starts.specs.FreeSearch.{first-free-is}
+use Rattle.starts.specs.LocalStart.{localEnqueueRefusal, localEnqueue, localDequeueRefusal, localDequeue}
 use Rattle.admission.specs.Watched.{Watched}
 
 -- 2, of so many words and records

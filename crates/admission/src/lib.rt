@@ -1,7 +1,7 @@
 // Refusals 1 to 4. Of 3 there is a flag: computed by a look at every field, or carried from record to record.
 ghost use mathlib.Core.Path.{_≡_};
 ghost use mathlib.Core.Bool.{true};
-ghost use Rattle.calendar.specs.Ranges.{shapeInRange};
+ghost use Rattle.calendar.specs.rules.Ranges.{shapeInRange};
 ghost use Rattle.admission.specs.Gate.{short, gateOf, openGate, soundOf, Tight};
 use arrival::Shape;
 use ranges::shape_in_range;

@@ -10,7 +10,7 @@ use lib.Dec.{eqb, leb, ltb}
 use borrow.Author.Tests.{eqb-true, eq-eqb, ltb-true, ltb-false, lt-ltb, le-ltb}
 use Rattle.arrival.specs.declared.Shape.{Shape}
 use Rattle.arrival.specs.declared.Item.{Item}
-use Rattle.arrival.specs.Tests.{never, parts}
+use Rattle.laws.specs.Tests.{never, parts}
 
 -- by time, then ticket
 unfoldable pub lower : Item → Item → Bool

@@ -13,19 +13,19 @@ use Rattle.arrival.specs.declared.Action.{Action}
 use Rattle.arrival.specs.declared.Action.the-variants.{Enqueue, Dequeue, Step}
 use Rattle.arrival.specs.declared.Response.the-variants.{Refused}
 use Rattle.arrival.specs.Energy.{energyOf}
-use Rattle.calendar.specs.Layout.{Write}
-use Rattle.calendar.specs.Views.{view}
-use Rattle.calendar.specs.RangeFacts.{StoreRanges, RecordRanges}
-use Rattle.calendar.specs.Ranges.{worker}
-use Rattle.calendar.specs.Outcome.{Outcome}
-use Rattle.calendar.specs.Starts.{enqueueStart, dequeueStart}
-use Rattle.calendar.specs.Changes.{Found, put-found, take-ends, Settled, at-end, goes-on, Walked, out, out-last, meets, Change, head-read, mark-seen, passed, stopped, unlinked, again-3, prepared, linked, again-5, stored-6, on-7, stored-7, back-6, current-read, first-read, mark-passed, newer, on-11, marked, back-10, advanced, back-12, emptied, back-13, step-is}
-use Rattle.calendar.specs.Accepted.{enqueue-accepted, dequeue-accepted, step-accepted}
-use Rattle.calendar.specs.Refusals.{openTests, enqueueTests, dequeueTests, stepTests, firstOf, openRefusal, enqueueRefusal, dequeueRefusal, stepRefusal}
-use Rattle.calendar.specs.Operations.{Memory, Result, unless, open-pool, refusal, outcome, act}
+use Rattle.calendar.specs.rules.Layout.{Write}
+use Rattle.calendar.specs.facts.Views.{view}
+use Rattle.calendar.specs.facts.RangeFacts.{StoreRanges, RecordRanges}
+use Rattle.calendar.specs.rules.Ranges.{worker}
+use Rattle.calendar.specs.rules.Outcome.{Outcome}
+use Rattle.calendar.specs.rules.Starts.{enqueueStart, dequeueStart}
+use Rattle.calendar.specs.facts.Changes.{Found, put-found, take-ends, Settled, at-end, goes-on, Walked, out, out-last, meets, Change, head-read, mark-seen, passed, stopped, unlinked, again-3, prepared, linked, again-5, stored-6, on-7, stored-7, back-6, current-read, first-read, mark-passed, newer, on-11, marked, back-10, advanced, back-12, emptied, back-13, step-is}
+use Rattle.calendar.specs.facts.Accepted.{enqueue-accepted, dequeue-accepted, step-accepted}
+use Rattle.calendar.specs.rules.Refusals.{openTests, enqueueTests, dequeueTests, stepTests, firstOf, openRefusal, enqueueRefusal, dequeueRefusal, stepRefusal}
+use Rattle.calendar.specs.rules.Operations.{Memory, Result, unless, open-pool, refusal, outcome, act}
 use borrow.Author.Tests.{eqb-true}
 use Rattle.turn_file.specs.Lines.{lineOf, Words, line-most}
-use Rattle.batch.specs.Serving.{Session, opening, acting}
+use Rattle.batch.specs.Batch.{Session, opening, acting}
 
 -- ── values ──
 energy-word : (d : ℕ) → energyOf d < 2 ^ 64

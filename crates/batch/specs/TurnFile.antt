@@ -4,12 +4,12 @@ use Prim.Native.Nat.{ℕ, zero, suc}
 use lib.ListN.{length, drop}
 use Rattle.arrival.specs.declared.Shape.{Shape}
 use Rattle.arrival.specs.declared.Response.the-variants as response
-use Rattle.calendar.specs.Operations.{Memory}
+use Rattle.calendar.specs.rules.Operations.{Memory}
 use Rattle.turn_file.specs.declared.Read.{Read}
 use Rattle.turn_file.specs.declared.Read.the-variants.{Open, Act, End, Refused}
 use Rattle.turn_file.specs.Reading.{recordAt}
 use Rattle.turn_file.specs.Lines.{lineOf}
-use Rattle.batch.specs.Serving.{Session, opening, acting}
+use Rattle.batch.specs.Batch.{Session, opening, acting}
 
 -- the session at the end, and all lines, one behind the other
 pub record Ran : Type 0 where

@@ -7,24 +7,24 @@ use Rattle.arrival.specs.declared.Response.{Response}
 use Rattle.arrival.specs.declared.Response.the-variants.{Opened, Begun, On, Stored, Took, Refused}
 use Rattle.arrival.specs.Keys.{lower, bucketOf}
 use Rattle.arrival.specs.Energy.{energyOf}
-use Rattle.calendar.specs.Layout.{address, read, write}
-use Rattle.calendar.specs.Every.{every}
-use Rattle.calendar.specs.Ranges.{blank, storeInRange, tableInRange}
-use Rattle.calendar.specs.Reclaim.{isFree, firstFreeOf, firstFree}
-use Rattle.calendar.specs.Opening.{wordsFrom, openStore, openTable}
-use Rattle.calendar.specs.Starts.{enqueueStart, dequeueStart}
-use Rattle.calendar.specs.SearchSteps.{found, settle, step-1, step-2, step-3}
-use Rattle.calendar.specs.EnqueueSteps.{step-4, step-5, step-6, step-7}
-use Rattle.calendar.specs.DequeueSteps.{walk, step-8, step-9, step-10, step-11}
-use Rattle.calendar.specs.Steps.{no-step, step}
-use Rattle.calendar.specs.Refusals.{openRefusal, enqueueRefusal, dequeueRefusal, stepRefusal}
-use Rattle.calendar.specs.Operations.{Memory, open-pool, act}
+use Rattle.calendar.specs.rules.Layout.{address, read, write}
+use Rattle.laws.specs.Every.{every}
+use Rattle.calendar.specs.rules.Ranges.{blank, storeInRange, tableInRange}
+use Rattle.calendar.specs.rules.Reclaim.{isFree, firstFreeOf, firstFree}
+use Rattle.calendar.specs.rules.Opening.{wordsFrom, openStore, openTable}
+use Rattle.calendar.specs.rules.Starts.{enqueueStart, dequeueStart}
+use Rattle.calendar.specs.rules.SearchSteps.{found, settle, step-1, step-2, step-3}
+use Rattle.calendar.specs.rules.EnqueueSteps.{step-4, step-5, step-6, step-7}
+use Rattle.calendar.specs.rules.DequeueSteps.{walk, step-8, step-9, step-10, step-11}
+use Rattle.calendar.specs.rules.Steps.{no-step, step}
+use Rattle.calendar.specs.rules.Refusals.{openRefusal, enqueueRefusal, dequeueRefusal, stepRefusal}
+use Rattle.calendar.specs.rules.Operations.{Memory, open-pool, act}
 use Rattle.turn_file.specs.Fields.{shapeAt, arrivalAt}
 use Rattle.turn_file.specs.Records.{sizeOf}
 use Rattle.turn_file.specs.Reading.{fieldsAt, markedAt, recordAt}
 use Rattle.turn_file.specs.Decimal.{decimal, digits}
 use Rattle.turn_file.specs.Lines.{lineOf}
-use Rattle.batch.specs.Serving.{opening, acting}
+use Rattle.batch.specs.Batch.{opening, acting}
 use Rattle.batch.specs.TurnFile.{records, turnFile}
 
 -- as many words as the example's shape needs

@@ -1,10 +1,10 @@
 // A stretch of a turn file against a pool: whole records in, lines out.
 ghost use mathlib.Core.Path.{_≡_};
-ghost use Rattle.calendar.specs.RangesKept.{leaks};
+ghost use Rattle.calendar.specs.facts.RangesKept.{leaks};
 ghost use Rattle.stages.specs.Ready.{Ready};
-ghost use Rattle.batch.specs.Serving.{servedAll};
-ghost use Rattle.batch.specs.Holding.{heldAll};
-ghost use Rattle.batch.specs.Ending.{begins, ends, Sound};
+ghost use Rattle.batch.specs.Batch.{servedAll};
+ghost use Rattle.batch.specs.Held.{heldAll};
+ghost use Rattle.batch.specs.CodeView.{begins, ends, Sound};
 use admission::gate;
 use admission::open_gate;
 use arrival::Action;

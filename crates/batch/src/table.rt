@@ -3,8 +3,8 @@ ghost use mathlib.Core.Path.{_≡_};
 ghost use mathlib.Core.List.{_++_};
 ghost use Prim.Native.Nat.{_≤_};
 ghost use lib.ListN.{drop, replicate};
-ghost use Rattle.calendar.specs.Ranges.{blank};
-ghost use Rattle.batch.specs.Holding as holding;
+ghost use Rattle.calendar.specs.rules.Ranges.{blank};
+ghost use Rattle.batch.specs.Held as holding;
 use arrival::Worker;
 
 // The first n records become idle, all fields 0.

@@ -1,17 +1,17 @@
 -- DEMAND 3, whole: every history from an opening. Assumes nothing.
 use Prim.Native.Nat.{_≤_}
-use Rattle.calendar.specs.Ranges.{worker}
-use Rattle.calendar.specs.Accepted.{open-accepted}
-use Rattle.calendar.specs.Operations.{open-pool, run}
-use Rattle.calendar.specs.Ledger.{new, ledger}
-use Rattle.calendar.specs.Linearizability.{Demand3}
-use Rattle.lists.specs.Table.{Live}
-use Rattle.lists.specs.Reuse.{opened, reached-in-range, reached-not-held}
+use Rattle.calendar.specs.rules.Ranges.{worker}
+use Rattle.calendar.specs.facts.Accepted.{open-accepted}
+use Rattle.calendar.specs.rules.Operations.{open-pool, run}
+use Rattle.calendar.specs.rules.Ledger.{new, ledger}
+use Rattle.calendar.specs.rules.Linearizability.{Demand3}
+use Rattle.lists.specs.AllCalls.{Live}
+use Rattle.lists.specs.NodeReuse.{opened, reached-in-range, reached-not-held}
 use Rattle.lists.specs.Walks.{walk-meets}
-use Rattle.lists.specs.Sum.{sum-balances}
-use Rattle.interleavings.specs.Following.{followed}
-use Rattle.interleavings.specs.Linearized.{linearized}
-use Rattle.interleavings.specs.Fates.{marks-new, marked-once, marked-put, marked-kept, not-lost}
+use Rattle.lists.specs.SumHolds.{sum-balances}
+use Rattle.interleavings.specs.AlongHistory.{followed}
+use Rattle.interleavings.specs.Extraction.{linearized}
+use Rattle.interleavings.specs.TakenOnce.{marks-new, marked-once, marked-put, marked-kept, not-lost}
 
 pub demand-3 : Demand3
 unfolding Demand3

@@ -8,10 +8,10 @@ use native.Mathlib.Decide.{ℕ-discrete}
 use Rattle.arrival.specs.declared.Shape.{Shape}
 use Rattle.arrival.specs.declared.Worker.{Worker}
 use Rattle.arrival.specs.Keys.{lower-trans}
-use Rattle.calendar.specs.Views.{View, itemIn, Lt}
-use Rattle.lists.specs.Linking.{Chains, Safe, Follows, Lists, safe-next}
-use Rattle.lists.specs.Table.{Inv}
-use Rattle.lists.specs.Reach.{Reach}
+use Rattle.calendar.specs.facts.Views.{View, itemIn, Lt}
+use Rattle.lists.specs.LinkInvariant.{Chains, Safe, Follows, Lists, safe-next}
+use Rattle.lists.specs.AllCalls.{Inv}
+use Rattle.lists.specs.LinkPaths.{Reach}
 
 pub reach-trans : (sh : Shape) (c : ℕ → ℕ) {k n r : ℕ} → Reach sh c k n → Reach sh c n r → Reach sh c k r
 reach-trans sh c {k} {n} a (Reach.stop {n = r} e) = subst (λ y. Reach sh c k y) (sym e) a

@@ -15,7 +15,7 @@ use Rattle.arrival.specs.Keys.{lower}
 use Rattle.arrival.specs.Queue as queue
 use Rattle.arrival.specs.Queue.{Call, Reply, lowerOf, lowest, remove, taken, replies}
 use Rattle.order.specs.Entries.{Element, enqueue, dequeue, empty, scan, Q, Order, _≺_, ticket, irrefl, trans, same?, at-most-below, keep, without, without-mem, Below, Legal}
-use Rattle.interleavings.specs.Keys.{keys}
+use Rattle.interleavings.specs.ItemKeys.{keys}
 
 module _ (sh : Shape) (wd : 1 ≤ sh .width) where
   -- the order as calls, as tickets and as replies; scans are none

@@ -4,13 +4,13 @@ use mathlib.Core.Logic.{_≢_, _⊎_, inl, inr}
 use Prim.Native.Nat.{ℕ, _+_, _/_, _%_, _≤_, _<_}
 use native.Mathlib.Omega.{arith}
 use Rattle.arrival.specs.declared.Shape.{Shape}
-use Rattle.calendar.specs.Layout.{field}
+use Rattle.calendar.specs.rules.Layout.{field}
 use Rattle.arrival.specs.declared.Item.{Item}
 use Rattle.arrival.specs.Keys.{itemBucket}
-use Rattle.calendar.specs.Views.{View, update, itemIn, Lt, upd-same, upd-other, upd-cases}
+use Rattle.calendar.specs.facts.Views.{View, update, itemIn, Lt, upd-same, upd-other, upd-cases}
 use Rattle.lists.specs.Chain.{In, ascends-map}
 use Rattle.lists.specs.Knowledge.{Stable}
-use Rattle.lists.specs.Linking.{Chains, home, Safe, Follows, Lists}
+use Rattle.lists.specs.LinkInvariant.{Chains, home, Safe, Follows, Lists}
 
 abbrev pub filled : ℕ → Item → View → View
 filled x a m = update (field 7 x) 1 (update (field 5 x) (a .distance) (update (field 4 x) (a .order) (update (field 3 x) (a .path) (update (field 2 x) (a .ticket) (update (field 1 x) (a .time) m)))))

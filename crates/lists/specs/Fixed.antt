@@ -12,31 +12,31 @@ use Rattle.arrival.specs.declared.Worker.{Worker}
 use Rattle.arrival.specs.declared.Action.{Action}
 use Rattle.arrival.specs.declared.Action.the-variants.{Enqueue, Dequeue, Step}
 use Rattle.arrival.specs.declared.Response.the-variants.{Opened}
-use Rattle.arrival.specs.Tests.{never}
-use Rattle.calendar.specs.Layout.{Write, itemAt, epochAt, started}
-use Rattle.calendar.specs.Views.{View, view, updates, itemIn, view-writeAll, upd-other}
-use Rattle.calendar.specs.Ranges.{worker}
-use Rattle.calendar.specs.Reclaim.{firstFree}
-use Rattle.calendar.specs.FirstFree.{first-free-node, first-free-free}
-use Rattle.calendar.specs.Outcome.{Outcome}
-use Rattle.calendar.specs.Starts.{itemOf, enqueueStart, dequeueStart}
-use Rattle.calendar.specs.EnqueueSteps.{ownEpoch}
-use Rattle.calendar.specs.Accepted.{enqueue-accepted, step-accepted}
-use Rattle.calendar.specs.Changes.{Change, head-read, mark-seen, passed, stopped, unlinked, again-3, prepared, linked, again-5, stored-6, on-7, stored-7, back-6, current-read, first-read, mark-passed, newer, on-11, marked, back-10, advanced, back-12, emptied, back-13, step-is}
-use Rattle.calendar.specs.Inside.{found-writes, settled-writes, walked-writes}
-use Rattle.calendar.specs.Lists.{holds}
-use Rattle.calendar.specs.Untouched.{outcome-inside}
-use Rattle.calendar.specs.Ledger.{new}
-use Rattle.calendar.specs.Acting.{by-act}
-use Rattle.calendar.specs.Operations.{Memory, open-pool, refusal, outcome, act, run}
-use Rattle.lists.specs.Linking.{Chains, Safe, home}
+use Rattle.laws.specs.Tests.{never}
+use Rattle.calendar.specs.rules.Layout.{Write, itemAt, epochAt, started}
+use Rattle.calendar.specs.facts.Views.{View, view, updates, itemIn, view-writeAll, upd-other}
+use Rattle.calendar.specs.rules.Ranges.{worker}
+use Rattle.calendar.specs.rules.Reclaim.{firstFree}
+use Rattle.calendar.specs.facts.FirstFree.{first-free-node, first-free-free}
+use Rattle.calendar.specs.rules.Outcome.{Outcome}
+use Rattle.calendar.specs.rules.Starts.{itemOf, enqueueStart, dequeueStart}
+use Rattle.calendar.specs.rules.EnqueueSteps.{ownEpoch}
+use Rattle.calendar.specs.facts.Accepted.{enqueue-accepted, step-accepted}
+use Rattle.calendar.specs.facts.Changes.{Change, head-read, mark-seen, passed, stopped, unlinked, again-3, prepared, linked, again-5, stored-6, on-7, stored-7, back-6, current-read, first-read, mark-passed, newer, on-11, marked, back-10, advanced, back-12, emptied, back-13, step-is}
+use Rattle.calendar.specs.facts.Inside.{found-writes, settled-writes, walked-writes}
+use Rattle.calendar.specs.rules.Snapshot.{holds}
+use Rattle.calendar.specs.facts.Untouched.{outcome-inside}
+use Rattle.calendar.specs.rules.Ledger.{new}
+use Rattle.calendar.specs.facts.Acting.{by-act}
+use Rattle.calendar.specs.rules.Operations.{Memory, open-pool, refusal, outcome, act, run}
+use Rattle.lists.specs.LinkInvariant.{Chains, Safe, home}
 use Rattle.lists.specs.Knowledge.{Private}
 use Rattle.lists.specs.Filling.{key-same}
-use Rattle.lists.specs.Table.{Live}
-use Rattle.lists.specs.Stepping.{enqueues}
-use Rattle.lists.specs.Standing.{not-stood-on}
-use Rattle.lists.specs.Reached.{Reached, free-node}
-use Rattle.lists.specs.Reuse.{SomeReached, history-reaches, act-reaches, free-not-stood-on}
+use Rattle.lists.specs.AllCalls.{Live}
+use Rattle.lists.specs.TurnsKeepLists.{enqueues}
+use Rattle.lists.specs.SafeNodes.{not-stood-on}
+use Rattle.lists.specs.FromOpening.{Reached, free-node}
+use Rattle.lists.specs.NodeReuse.{SomeReached, history-reaches, act-reaches, free-not-stood-on}
 
 -- ── one action ──
 -- the arrival in x, and where the actor does not prepare x its epoch, are as they were

@@ -5,10 +5,10 @@ use mathlib.Core.Logic.{_≢_, _⊎_, inl, inr}
 use Prim.Native.Nat.{ℕ, _+_, _*_, _/_, _%_, _≤_, _<_}
 use native.Mathlib.Omega.{arith}
 use Rattle.arrival.specs.declared.Shape.{Shape}
-use Rattle.calendar.specs.Layout.{word, cell}
-use Rattle.calendar.specs.Views.{View, update, upd-other, upd-cases}
+use Rattle.calendar.specs.rules.Layout.{word, cell}
+use Rattle.calendar.specs.facts.Views.{View, update, upd-other, upd-cases}
 use Rattle.lists.specs.Chain.{In, runs-half, runs-frame}
-use Rattle.lists.specs.Linking.{Chains, Follows, Lists}
+use Rattle.lists.specs.LinkInvariant.{Chains, Follows, Lists}
 
 -- MARK
 module _ (sh : Shape) (m : View) (ch : Chains) (Live : ℕ → Type 0) (I : Lists sh m ch Live) (x seen : ℕ) (was : m .cells (sh .buckets + x) ≡ seen) where

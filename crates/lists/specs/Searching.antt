@@ -5,11 +5,11 @@ use Prim.Native.Nat.{ℕ, _+_, _*_, _%_, _≤_, _<_}
 use native.Mathlib.Omega.{arith}
 use Rattle.arrival.specs.declared.Shape.{Shape}
 use Rattle.arrival.specs.declared.Worker.{Worker}
-use Rattle.calendar.specs.Outcome.{withStage}
-use Rattle.calendar.specs.Views.{View, Lt}
-use Rattle.lists.specs.Linking.{Chains, home}
+use Rattle.calendar.specs.rules.Outcome.{withStage}
+use Rattle.calendar.specs.facts.Views.{View, Lt}
+use Rattle.lists.specs.LinkInvariant.{Chains, home}
 use Rattle.lists.specs.Knowledge.{Private, Stands}
-use Rattle.lists.specs.Table.{Knows}
+use Rattle.lists.specs.AllCalls.{Knows}
 
 abbrev pub Left : Shape → View → Chains → Worker → Type 0
 Left sh m ch w = (w .left ≡ w .bucket) ⊎ ((k : ℕ) × (w .left ≡ sh .buckets + k) × Stands sh m ch (w .ticket) (w .bucket) k × Lt m k (w .own))

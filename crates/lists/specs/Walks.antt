@@ -12,12 +12,12 @@ use lib.ListN.{length}
 use borrow.Author.Tests.{eqb-true, eqb-false, eq-eqb, ne-eqb}
 use Rattle.arrival.specs.declared.Shape.{Shape}
 use Rattle.arrival.specs.declared.Item.{Item}
-use Rattle.arrival.specs.Tests.{parts}
-use Rattle.calendar.specs.Layout.{link, itemAt, isMarked}
-use Rattle.calendar.specs.Views.{view}
-use Rattle.calendar.specs.Lists.{onto, nodesFrom, bucketList, sameItem, unmarkedOf}
+use Rattle.laws.specs.Tests.{parts}
+use Rattle.calendar.specs.rules.Layout.{link, itemAt, isMarked}
+use Rattle.calendar.specs.facts.Views.{view}
+use Rattle.calendar.specs.rules.Snapshot.{onto, nodesFrom, bucketList, sameItem, unmarkedOf}
 use Rattle.lists.specs.Chain.{In, Distinct, Runs}
-use Rattle.lists.specs.Linking.{Chains, chain-distinct, Lists}
+use Rattle.lists.specs.LinkInvariant.{Chains, chain-distinct, Lists}
 
 -- ── numbers that differ and lie below N are at most N ──
 keep : {P : Type 0} → Dec P → ℕ → List ℕ → List ℕ

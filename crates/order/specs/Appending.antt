@@ -6,9 +6,9 @@ use Prim.Native.Nat.{ℕ, _≤_, _<_}
 use native.Mathlib.Omega.{arith}
 use native.Mathlib.Decide.{ℕ-discrete}
 use Rattle.order.specs.Entries.{Keys, Element, Entry, enqueue, dequeue, empty, scan, Q, Order, keep, ticket, bucket, without, step, run, Walk, Ok, run-append, walk-append}
-use Rattle.order.specs.Time.{End, running, ended, Hist, NotBefore, Settled, end-of, ticket-of, InTime, Timely, pairs-snoc, Elder, AgeAt}
+use Rattle.order.specs.RealTime.{End, running, ended, Hist, NotBefore, Settled, end-of, ticket-of, InTime, Timely, pairs-snoc, Elder, AgeAt}
 use Rattle.order.specs.Scans.{Walker, Sight, Marks, marks-find, Alike, nil, both, right, alike-run, alike-unscan, sight-alike, unscan, running-ended}
-use Rattle.order.specs.Orders.{Inv, came, inv-alike, inv-unscan}
+use Rattle.order.specs.OrderAfterMark.{Inv, came, inv-alike, inv-unscan}
 
 -- the call c, which ran in H, is over in H′, at s
 pub record Ends (H H′ : Hist) (c s : ℕ) : Type 0 where

@@ -6,9 +6,9 @@ use Prim.Native.Nat.{ℕ, _+_}
 use native.Mathlib.Omega.{arith}
 use native.Mathlib.Decide.{ℕ-discrete}
 use Rattle.order.specs.Entries.{Keys, Element, Entry, enqueue, dequeue, empty, scan, Q, Order, keep, ticket, same?, without, mem-without, mem?, step, run}
-use Rattle.order.specs.Place.{Place, Own, own?, strip}
+use Rattle.order.specs.LastPlace.{Place, Own, own?, strip}
 use Rattle.order.specs.Insertion.{with-dequeue, with-enqueue}
-use Rattle.order.specs.Time.{ticket-of, Pairs, pairs-right, pairs-insert, pairs-strip, strip-mem}
+use Rattle.order.specs.RealTime.{ticket-of, Pairs, pairs-right, pairs-insert, pairs-strip, strip-mem}
 use Rattle.order.specs.Scans.{staying, moving, only, unscan}
 
 abbrev pub one-if : {P : Type 0} → Dec P → ℕ

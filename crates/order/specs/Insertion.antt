@@ -4,7 +4,7 @@ use mathlib.Core.Logic.{_⊎_, inl, inr}
 use mathlib.Core.List.{[], _∷_, _++_, List·Memᴰ as Mem, List·Memᴰ·head as here, List·Memᴰ·tail as there, List·Memᴰ·cases-cons as mem-cons}
 use Prim.Native.Nat.{ℕ}
 use Rattle.order.specs.Entries.{Keys, Element, Entry, enqueue, dequeue, empty, scan, Q, Order, keep, _≺_, irrefl, without, without-yes, mem-without, Below, step, run, Ok, Legal, Busy, run-append, walk-append, walk-left, walk-right}
-use Rattle.order.specs.Place.{Place, Own, own?, Calm, calm, strip, legal-less, run-less}
+use Rattle.order.specs.LastPlace.{Place, Own, own?, Calm, calm, strip, legal-less, run-less}
 
 module _ {K : Keys} where
   pub strip-none : (B : Order K) (x : Element K) → ((e : Entry K) → Mem e B → ¬ Own e x) → strip B x ≡ B

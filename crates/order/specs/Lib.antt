@@ -1,11 +1,11 @@
 pub mod Entries
-pub mod Place
+pub mod LastPlace
 pub mod Insertion
-pub mod Time
+pub mod RealTime
 pub mod Scans
-pub mod Orders
+pub mod OrderAfterMark
 pub mod Appending
 pub mod Calls
-pub mod Claimed
-pub mod Example
-pub mod Fate
+pub mod EntriesAfterMark
+pub mod Instance
+pub mod ElementFate

@@ -6,9 +6,9 @@ use Prim.Native.Nat.{ℕ, _≤_, _<_}
 use native.Mathlib.Omega.{arith}
 use native.Mathlib.Decide.{ℕ-discrete}
 use Rattle.order.specs.Entries.{Keys, Element, Entry, enqueue, dequeue, empty, scan, Q, Order, keep, _≺_, ticket, bucket, bucket-up, without, mem-without, without-mem, Below, mem?, step, run, Walk, run-append}
-use Rattle.order.specs.Place.{Own, own?, Calm, step-own, step-less, strip, run-less}
+use Rattle.order.specs.LastPlace.{Own, own?, Calm, step-own, step-less, strip, run-less}
 use Rattle.order.specs.Insertion.{stays}
-use Rattle.order.specs.Time.{End, running, ended, Hist, NotBefore, end-of, InTime, Timely, Pairs, strip-mem}
+use Rattle.order.specs.RealTime.{End, running, ended, Hist, NotBefore, end-of, InTime, Timely, Pairs, strip-mem}
 
 pub never-early : (d : End) → NotBefore 0 d
 never-early running = tt

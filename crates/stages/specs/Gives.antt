@@ -9,10 +9,10 @@ use Rattle.arrival.specs.declared.Worker.{Worker}
 use Rattle.arrival.specs.declared.Response.{Response}
 use Rattle.arrival.specs.declared.Response.the-variants.{On}
 use Rattle.arrival.specs.Queue.{taken}
-use Rattle.calendar.specs.Layout.{Write, writeAll, itemAt}
-use Rattle.calendar.specs.Outcome.{Outcome, on, answer, withStage}
-use Rattle.calendar.specs.SearchSteps.{found, settle}
-use Rattle.calendar.specs.DequeueSteps.{walk, moreBuckets}
+use Rattle.calendar.specs.rules.Layout.{Write, writeAll, itemAt}
+use Rattle.calendar.specs.rules.Outcome.{Outcome, on, answer, withStage}
+use Rattle.calendar.specs.rules.SearchSteps.{found, settle}
+use Rattle.calendar.specs.rules.DequeueSteps.{walk, moreBuckets}
 use Rattle.words.specs.Done.{Done, done, gives}
 use Rattle.words.specs.declared.replies.Reply.{Reply}
 

@@ -1,4 +1,4 @@
 pub mod Ready
 pub mod Gives
-pub mod Local
+pub mod LocalStep
 pub mod Unlinking

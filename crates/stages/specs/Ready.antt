@@ -8,10 +8,10 @@ use lib.ListN.{length}
 use Rattle.arrival.specs.declared.Shape.{Shape}
 use Rattle.arrival.specs.declared.Item.{Item}
 use Rattle.arrival.specs.declared.Worker.{Worker}
-use Rattle.calendar.specs.Layout.{Place, cell, field, read, write, writeAll, valid, same, address, read-write, itemAt, distanceAt, successor, unmarked, unlinkedAt, started}
-use Rattle.calendar.specs.Views.{view}
-use Rattle.calendar.specs.RangeFacts.{StoreRanges, RecordRanges}
-use Rattle.calendar.specs.SearchSteps.{unlink}
+use Rattle.calendar.specs.rules.Layout.{Place, cell, field, read, write, writeAll, valid, same, address, read-write, itemAt, distanceAt, successor, unmarked, unlinkedAt, started}
+use Rattle.calendar.specs.facts.Views.{view}
+use Rattle.calendar.specs.facts.RangeFacts.{StoreRanges, RecordRanges}
+use Rattle.calendar.specs.rules.SearchSteps.{unlink}
 use Rattle.words.specs.Laid.{Laid, laid-write, cell-in, field-in}
 
 pub record Ready (sh : Shape) (s : List ℕ) (w : Worker) : Type 0 where

@@ -5,9 +5,9 @@ use Prim.Native.Nat.{ℕ, _+_, _*_, _/_, _<_}
 use borrow.Author.Tests.{eq-eqb}
 use Rattle.arrival.specs.declared.Shape.{Shape}
 use Rattle.arrival.specs.declared.Worker.{Worker}
-use Rattle.calendar.specs.Layout.{word, cell, field, read, write, writeAll, itemAt}
-use Rattle.calendar.specs.Outcome.{withRight}
-use Rattle.calendar.specs.SearchSteps.{settle, unlink, step-3}
+use Rattle.calendar.specs.rules.Layout.{word, cell, field, read, write, writeAll, itemAt}
+use Rattle.calendar.specs.rules.Outcome.{withRight}
+use Rattle.calendar.specs.rules.SearchSteps.{settle, unlink, step-3}
 use Rattle.words.specs.Done.{done}
 use Rattle.stages.specs.Ready.{Ready, Holds, holds, item-unlinked, holds-unlinked}
 use Rattle.stages.specs.Gives.{settle-after}

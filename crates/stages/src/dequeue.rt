@@ -1,7 +1,7 @@
 // Stages 8 to 13: a take.
 ghost use mathlib.Core.Path.{_≡_};
 ghost use Prim.Native.Nat.{_<_};
-ghost use Rattle.calendar.specs.DequeueSteps.{walk, step-8, step-9, step-10, step-11, step-12, step-13};
+ghost use Rattle.calendar.specs.rules.DequeueSteps.{walk, step-8, step-9, step-10, step-11, step-12, step-13};
 ghost use Rattle.words.specs.Done.{done, gives};
 ghost use Rattle.stages.specs.Gives.{share};
 ghost use Rattle.stages.specs.Ready.{Ready};

@@ -1,8 +1,8 @@
 // Stages 4 to 7: a put after its search.
 ghost use mathlib.Core.Path.{_≡_};
-ghost use Rattle.calendar.specs.EnqueueSteps.{step-4, step-5, step-6};
+ghost use Rattle.calendar.specs.rules.EnqueueSteps.{step-4, step-5, step-6};
 ghost use Rattle.words.specs.Done.{done, gives};
-ghost use Rattle.stages.specs.Local.{localStep-7};
+ghost use Rattle.stages.specs.LocalStep.{localStep-7};
 ghost use Rattle.stages.specs.Ready.{Ready};
 use super::answer;
 use super::go_on;

@@ -3,7 +3,7 @@ ghost use mathlib.Core.Path.{_≡_};
 ghost use Prim.Native.Nat.{_≤_};
 ghost use Rattle.words.specs.Done.{gives, refuses};
 ghost use Rattle.stages.specs.Gives.{goesOn, answers};
-ghost use Rattle.stages.specs.Local.{localStep};
+ghost use Rattle.stages.specs.LocalStep.{localStep};
 ghost use Rattle.stages.specs.Ready.{Ready};
 use arrival::Response;
 use arrival::Shape;

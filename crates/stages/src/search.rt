@@ -2,7 +2,7 @@
 ghost use mathlib.Core.Path.{_≡_};
 ghost use mathlib.Core.List.{[]};
 ghost use Prim.Native.Nat.{_<_};
-ghost use Rattle.calendar.specs.SearchSteps.{found, settle, step-1, step-2, step-3};
+ghost use Rattle.calendar.specs.rules.SearchSteps.{found, settle, step-1, step-2, step-3};
 ghost use Rattle.words.specs.Done.{done, gives};
 ghost use Rattle.stages.specs.Ready.{Ready, Holds};
 use super::answer;

@@ -1,4 +1,4 @@
-pub mod Least
-pub mod Free
-pub mod Opening
-pub mod Local
+pub mod LeastTicket
+pub mod FreeSearch
+pub mod OpenLoop
+pub mod LocalStart

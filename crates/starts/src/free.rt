@@ -1,11 +1,11 @@
 // The first free node, by the least ticket of a call in progress.
 ghost use mathlib.Core.Path.{_≡_};
 ghost use Prim.Native.Nat.{_<_, _≤_};
-ghost use Rattle.calendar.specs.Layout.{lastNode};
-ghost use Rattle.calendar.specs.Reclaim.{nodeAfter};
+ghost use Rattle.calendar.specs.rules.Layout.{lastNode};
+ghost use Rattle.calendar.specs.rules.Reclaim.{nodeAfter};
 ghost use Rattle.words.specs.Laid.{Laid};
-ghost use Rattle.starts.specs.Least.{lower, freeBelow};
-ghost use Rattle.starts.specs.Free.{firstFreeBelow};
+ghost use Rattle.starts.specs.LeastTicket.{lower, freeBelow};
+ghost use Rattle.starts.specs.FreeSearch.{firstFreeBelow};
 use arrival::Shape;
 use arrival::Worker;
 use words::get_field;

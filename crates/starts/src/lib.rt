@@ -1,11 +1,11 @@
 // The by-value starts: one worker's record and the lent store, after refusals 1 to 4.
 ghost use mathlib.Core.Path.{_≡_};
 ghost use Prim.Native.Nat.{_<_, _≤_};
-ghost use Rattle.calendar.specs.Layout.{writeAll, started, lastNode};
-ghost use Rattle.calendar.specs.Starts.{fill, enqueueStart, dequeueStart};
+ghost use Rattle.calendar.specs.rules.Layout.{writeAll, started, lastNode};
+ghost use Rattle.calendar.specs.rules.Starts.{fill, enqueueStart, dequeueStart};
 ghost use Rattle.words.specs.Done.{done, gives, refuses};
 ghost use Rattle.words.specs.Laid.{Laid};
-ghost use Rattle.starts.specs.Local.{earlyRefusal, localEnqueue, localDequeue};
+ghost use Rattle.starts.specs.LocalStart.{earlyRefusal, localEnqueue, localDequeue};
 use arrival::Arrival;
 use arrival::Item;
 use arrival::Response;

@@ -1,7 +1,7 @@
 // Opening: the words that it writes to the lent store.
 ghost use mathlib.Core.Path.{_≡_};
 ghost use Prim.Native.Nat.{_≤_};
-ghost use Rattle.calendar.specs.Opening.{openWord, openStore};
+ghost use Rattle.calendar.specs.rules.Opening.{openWord, openStore};
 ghost use Rattle.words.specs.Laid.{Laid};
 use arrival::Shape;
 use words::layout_words;

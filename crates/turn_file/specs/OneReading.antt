@@ -10,9 +10,9 @@ use Rattle.turn_file.specs.Fields.{twoAt}
 use Rattle.turn_file.specs.Records.{Record, sizeOf, size-least}
 use Rattle.turn_file.specs.Reading.{fieldsAt, whole, recordAt}
 use Rattle.turn_file.specs.Encoding.{encode, Fits}
-use Rattle.turn_file.specs.Front.{mark-front, fields-front}
-use Rattle.turn_file.specs.Encoded.{Bytes, front-encoded, markOf, encoded-size, encoded-least, encoded-mark, encoded-fields}
-use Rattle.turn_file.specs.Found.{found, enough, same-record}
+use Rattle.turn_file.specs.FrontFields.{mark-front, fields-front}
+use Rattle.turn_file.specs.FrontRecords.{Bytes, front-encoded, markOf, encoded-size, encoded-least, encoded-mark, encoded-fields}
+use Rattle.turn_file.specs.FoundRecord.{found, enough, same-record}
 
 -- A record that is read ends further on, and within the bytes.
 pub read-on : (s : List ℕ) (at : ℕ) (r : Record) (next : ℕ) → recordAt s at ≡ whole r next → (at < next) × (next ≤ length s)

@@ -9,22 +9,22 @@ use lib.Dec.{eqb}
 use lib.ListN.{length, take, drop, length-append, length-drop, drop-of-length-le}
 use borrow.Author.Tests.{eqb-false}
 use Rattle.arrival.specs.declared.Response.the-variants as response
-use Rattle.calendar.specs.Operations.{Memory}
+use Rattle.calendar.specs.rules.Operations.{Memory}
 use Rattle.turn_file.specs.declared.Read.the-variants.{Refused}
 use Rattle.turn_file.specs.Reading.{recordAt}
-use Rattle.turn_file.specs.Rest.{Unknown, Cut, at-end, why-refused, unknown-refused, cut-refused, unknown-rest, cut-rest}
+use Rattle.turn_file.specs.MoreBytes.{Unknown, Cut, at-end, why-refused, unknown-refused, cut-refused, unknown-rest, cut-rest}
 use Rattle.turn_file.specs.Lines.{lineOf, line-most}
 use Rattle.turn_file.specs.Buffer.{written, after, written-length}
 use Rattle.batch.specs.declared.Stop.{Stop}
 use Rattle.batch.specs.declared.Stop.the-variants.{Drained, Full, Halted}
-use Rattle.batch.specs.Serving.{Session, Progress, Stopped, servedAll}
-use Rattle.batch.specs.Bounds.{within}
+use Rattle.batch.specs.Batch.{Session, Progress, Stopped, servedAll}
+use Rattle.batch.specs.WithinBuffers.{within}
 use Rattle.batch.specs.TurnFile.{behind, records, allRecords, turnFile}
-use Rattle.batch.specs.Stretches.{Stretch, stretch, line-behind}
+use Rattle.batch.specs.PartOfFile.{Stretch, stretch, line-behind}
 use Rattle.turns.specs.declared.Next.{Next}
 use Rattle.turns.specs.declared.Next.the-variants.{Serve, Read, End, Last}
-use Rattle.turns.specs.Closing.{nothing-written}
-use Rattle.turns.specs.Running.{follows, lastLine, Held, Rounded, rounded, roundOf, Reads, handed, later, isEmpty, served-on, read-on, nextRound, rounds, atFirst, inputOf}
+use Rattle.turns.specs.LastLines.{nothing-written}
+use Rattle.turns.specs.TurnsRun.{follows, lastLine, Held, Rounded, rounded, roundOf, Reads, handed, later, isEmpty, served-on, read-on, nextRound, rounds, atFirst, inputOf}
 
 -- ── the ends of a file ──
 nothing-left : (x : Session) → allRecords [] x ≡ record { session = x; lines = [] }

@@ -1,6 +1,5 @@
-pub mod Moving
-pub mod Running
-pub mod Closing
+pub mod TurnsRun
+pub mod LastLines
 pub mod InPieces
-pub mod Holding
-pub mod Following
+pub mod BetweenRounds
+pub mod RunFollows

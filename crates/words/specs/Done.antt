@@ -7,8 +7,8 @@ use Rattle.arrival.specs.declared.Shape.{Shape}
 use Rattle.arrival.specs.declared.Worker.{Worker}
 use Rattle.arrival.specs.declared.Response.{Response}
 use Rattle.arrival.specs.declared.Response.the-variants.{Refused}
-use Rattle.calendar.specs.Layout.{writeAll}
-use Rattle.calendar.specs.Outcome.{Outcome}
+use Rattle.calendar.specs.rules.Layout.{writeAll}
+use Rattle.calendar.specs.rules.Outcome.{Outcome}
 use Rattle.words.specs.declared.replies.Reply.{Reply}
 
 pub record Done : Type 0 where

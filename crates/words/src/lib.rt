@@ -1,7 +1,7 @@
 // The lent store by place: reading and writing one word. Only these functions know addresses.
 ghost use mathlib.Core.Path.{_≡_};
 ghost use Prim.Native.Nat.{_+_, _-_, _*_, _<_, _≤_};
-ghost use Rattle.calendar.specs.Layout.{word, cell, field, layout, read, write, itemAt};
+ghost use Rattle.calendar.specs.rules.Layout.{word, cell, field, layout, read, write, itemAt};
 ghost use Rattle.words.specs.Laid.{Laid};
 use arrival::Item;
 use arrival::Shape;

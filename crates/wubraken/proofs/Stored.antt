@@ -7,8 +7,8 @@ use native.Mathlib.Numerals.{add-one}
 use lib.ListN.{length, getD, set, take, drop, length-set}
 use lib.Seq.{take-at, length-take-le}
 use Rattle.arrival.specs.declared.Worker.{Worker}
-use Rattle.arrival.specs.Storing.{store-next}
-use Rattle.calendar.specs.Ranges.{blank}
+use Rattle.laws.specs.Storing.{store-next}
+use Rattle.calendar.specs.rules.Ranges.{blank}
 
 -- the first k of rs over those of ys
 unfoldable pub storedOf : List Worker → List Worker → ℕ → List Worker

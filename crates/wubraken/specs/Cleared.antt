@@ -3,7 +3,7 @@ use Prim.Native.Nat.{ℕ, zero, suc}
 use mathlib.Core.List.{List}
 use lib.ListN.{set}
 use Rattle.arrival.specs.declared.Worker.{Worker}
-use Rattle.calendar.specs.Ranges.{blank}
+use Rattle.calendar.specs.rules.Ranges.{blank}
 
 unfoldable pub clearedOf : List Worker → ℕ → List Worker
 clearedOf t zero = t

@@ -1,6 +1,6 @@
 pub mod Answers
 pub mod Survey
-pub mod Gate
+pub mod LentGate
 pub mod Results
-pub mod Stretch
+pub mod LentBatch
 pub mod Cleared

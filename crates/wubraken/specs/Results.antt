@@ -14,13 +14,13 @@ use Rattle.arrival.specs.declared.Response.the-variants.{Opened, Refused}
 use Rattle.arrival.specs.declared.Action.{Action}
 use Rattle.arrival.specs.declared.Action.the-variants.{Enqueue, Dequeue, Step}
 use Rattle.arrival.specs.Responses.{Said, said}
-use Rattle.calendar.specs.Ranges.{blank, worker}
-use Rattle.calendar.specs.Opening.{openStore, openTable}
-use Rattle.calendar.specs.Refusals.{openRefusal}
-use Rattle.calendar.specs.Operations.{Memory, Result, actor, act, open-pool}
+use Rattle.calendar.specs.rules.Ranges.{blank, worker}
+use Rattle.calendar.specs.rules.Opening.{openStore, openTable}
+use Rattle.calendar.specs.rules.Refusals.{openRefusal}
+use Rattle.calendar.specs.rules.Operations.{Memory, Result, actor, act, open-pool}
 use Rattle.words.specs.Done.{Done, refused, unlessRefused}
-use Rattle.stages.specs.Local.{localStep}
-use Rattle.starts.specs.Local.{localEnqueue, localDequeue}
+use Rattle.stages.specs.LocalStep.{localStep}
+use Rattle.starts.specs.LocalStart.{localEnqueue, localDequeue}
 use Rattle.admission.specs.Watched.{Watched}
 use Rattle.admission.specs.Gate as admission
 use Rattle.admission.specs.Gate.{soundOf, sound-watched, shape-tests, set-same, back, usable, refused-is, openGate}
@@ -30,7 +30,7 @@ use Rattle.wubraken.specs.declared.records.Handled.{Handled}
 use Rattle.wubraken.specs.declared.answers.Answer.{Answer}
 use Rattle.wubraken.specs.Answers.{answerOf, saidBy, answer-said}
 use Rattle.wubraken.specs.Survey.{surveyed, survey, survey-records, survey-ok-is, survey-low-is}
-use Rattle.wubraken.specs.Gate.{gateOn}
+use Rattle.wubraken.specs.LentGate.{gateOn}
 
 -- ── what a call leaves ──
 abbrev pub lent : List ℕ → List Worker → Memory

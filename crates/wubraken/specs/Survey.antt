@@ -10,9 +10,9 @@ use lib.ListN.{length}
 use borrow.Author.Tests.{ltb-false}
 use Rattle.arrival.specs.declared.Shape.{Shape}
 use Rattle.arrival.specs.declared.Worker.{Worker}
-use Rattle.calendar.specs.Every.{every, every-at}
-use Rattle.calendar.specs.Ranges.{shapeInRange, recordInRange, tableInRange, worker}
-use Rattle.starts.specs.Least.{lower, leastTicket, least-bound}
+use Rattle.laws.specs.Every.{every, every-at}
+use Rattle.calendar.specs.rules.Ranges.{shapeInRange, recordInRange, tableInRange, worker}
+use Rattle.starts.specs.LeastTicket.{lower, leastTicket, least-bound}
 use Rattle.wubraken.specs.declared.table.Survey.{Survey}
 
 -- nothing looked at yet, of e records

@@ -3,7 +3,7 @@ ghost use mathlib.Core.Path.{_≡_};
 ghost use mathlib.Core.List.{_++_};
 ghost use Prim.Native.Nat.{_≤_};
 ghost use lib.ListN.{length, take, drop, replicate};
-ghost use Rattle.calendar.specs.Ranges.{blank};
+ghost use Rattle.calendar.specs.rules.Ranges.{blank};
 use arrival::Worker;
 
 // 64 idle records.

@@ -3,11 +3,11 @@
 ghost use mathlib.Core.Path.{_≡_};
 ghost use mathlib.Core.Bool.{cond};
 ghost use Rattle.arrival.specs.declared.Action.the-variants.{Enqueue, Dequeue, Step};
-ghost use Rattle.calendar.specs.Layout.{layout};
-ghost use Rattle.calendar.specs.Ranges.{shapeInRange};
-ghost use Rattle.calendar.specs.Operations.{act, open-pool};
+ghost use Rattle.calendar.specs.rules.Layout.{layout};
+ghost use Rattle.calendar.specs.rules.Ranges.{shapeInRange};
+ghost use Rattle.calendar.specs.rules.Operations.{act, open-pool};
 ghost use Rattle.wubraken.specs.Results.{lent, leaves, told};
-ghost use Rattle.wubraken.specs.Stretch.{account, stretchOn};
+ghost use Rattle.wubraken.specs.LentBatch.{account, stretchOn};
 use answers::Answer;
 use arrival::Arrival;
 use arrival::Shape;

@@ -4,7 +4,7 @@ ghost use Prim.Native.Nat.{_≤_};
 ghost use Rattle.arrival.specs.declared.Response.the-variants.{Refused};
 ghost use Rattle.wubraken.specs.Answers.{answerOf};
 ghost use Rattle.wubraken.specs.Survey.{Surveyed};
-ghost use Rattle.wubraken.specs.Gate.{gateOn};
+ghost use Rattle.wubraken.specs.LentGate.{gateOn};
 ghost use Rattle.wubraken.specs.Results.{left, coded, enqueueOn, dequeueOn, stepOn, opensWords};
 use super::answers::Answer;
 use super::answers::answer_of;

@@ -4,7 +4,7 @@ ghost use mathlib.Core.Bool.{true};
 ghost use mathlib.Core.List.{_++_};
 ghost use Prim.Native.Nat.{_≤_};
 ghost use lib.ListN.{length, drop, replicate};
-ghost use Rattle.calendar.specs.Ranges.{shapeInRange, blank};
+ghost use Rattle.calendar.specs.rules.Ranges.{shapeInRange, blank};
 ghost use Rattle.wubraken.specs.Survey.{seen, surveyed, survey};
 use arrival::Shape;
 use arrival::Worker;

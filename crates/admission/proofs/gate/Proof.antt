@@ -1,7 +1,7 @@
 -- One look where the flag is up, else every refusal in its order. Assumes nothing.
 use mathlib.Core.Path.{sym}
 use borrow.Author.Tests.{ltb-true}
-use Rattle.arrival.specs.Tests.{parts}
+use Rattle.laws.specs.Tests.{parts}
 use Rattle.admission.specs.Gate.{passes}
 use borrow.Author.Needs.{needs}
 use Rattle.admission.proofs.gate.Statement.{statement}

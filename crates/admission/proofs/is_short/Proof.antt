@@ -1,5 +1,5 @@
 -- Whether so many words or records are too few. Assumes nothing.
-use Rattle.calendar.specs.RangeFacts.{limits}
+use Rattle.calendar.specs.facts.RangeFacts.{limits}
 use borrow.Author.Needs.{needs}
 use Rattle.admission.proofs.is_short.Statement.{statement}
 use Rattle.admission.proofs.is_short.Tie as tie

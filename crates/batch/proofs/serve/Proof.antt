@@ -3,12 +3,12 @@ use mathlib.Core.Path.{_≡_, refl, sym, ap, _∙_}
 use Prim.Native.Nat.{ℕ, _+_, _-_, _≤_}
 use native.Mathlib.Omega.{arith}
 use lib.ListN.{length, take}
-use Rattle.calendar.specs.Ranges.{blank, worker}
-use Rattle.starts.specs.Least.{lower, leastTicket, least-none, least-more, least-bound}
-use Rattle.batch.specs.Rounds.{at-work}
-use Rattle.batch.specs.Arms.{Round, in-use, below-64, laid-out, ready, lent-to, laid-for}
-use Rattle.batch.specs.Arms.{turned-away, enqueued, dequeued, stepped, not-opened, opened, at-drained, at-halted, at-full, kept}
-use Rattle.batch.specs.Arms.{known-open, known-act, nearer-open, nearer-act, first-round, no-room}
+use Rattle.calendar.specs.rules.Ranges.{blank, worker}
+use Rattle.starts.specs.LeastTicket.{lower, leastTicket, least-none, least-more, least-bound}
+use Rattle.batch.specs.BatchLoop.{at-work}
+use Rattle.batch.specs.RoundArms.{Round, in-use, below-64, laid-out, ready, lent-to, laid-for}
+use Rattle.batch.specs.RoundArms.{turned-away, enqueued, dequeued, stepped, not-opened, opened, at-drained, at-halted, at-full, kept}
+use Rattle.batch.specs.RoundArms.{known-open, known-act, nearer-open, nearer-act, first-round, no-room}
 use borrow.Author.Needs.{needs}
 use Rattle.batch.proofs.serve.Statement.{statement}
 use Rattle.batch.proofs.serve.Tie as tie

@@ -1,5 +1,5 @@
 -- `ranges::store_in_range` tests the three words, the heads and the nodes. Assumes nothing.
-use Rattle.calendar.specs.Ranges.{storeInRange}
+use Rattle.calendar.specs.rules.Ranges.{storeInRange}
 use borrow.Author.Needs.{needs}
 use Rattle.ranges.proofs.store_in_range.Statement.{statement}
 use Rattle.ranges.proofs.store_in_range.Tie as tie

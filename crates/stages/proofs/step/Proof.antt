@@ -1,7 +1,7 @@
 -- A turn is its stage's function, arm by arm. Assumes nothing.
 use mathlib.Core.Path.{_∙_}
 use native.Mathlib.Omega.{arith}
-use Rattle.stages.specs.Local.{at-idle, at-stage, at-seven, at-none, beyond}
+use Rattle.stages.specs.LocalStep.{at-idle, at-stage, at-seven, at-none, beyond}
 use borrow.Author.Needs.{needs}
 use Rattle.stages.proofs.step.Statement.{statement}
 use Rattle.stages.proofs.step.Tie as tie

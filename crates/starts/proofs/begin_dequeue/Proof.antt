@@ -1,5 +1,5 @@
 -- `starts::begin_dequeue` is a take start. Assumes nothing.
-use Rattle.calendar.specs.Starts.{dequeueStart}
+use Rattle.calendar.specs.rules.Starts.{dequeueStart}
 use borrow.Author.Needs.{needs}
 use Rattle.starts.proofs.begin_dequeue.Statement.{statement}
 use Rattle.starts.proofs.begin_dequeue.Tie as tie

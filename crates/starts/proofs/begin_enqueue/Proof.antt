@@ -1,5 +1,5 @@
 -- `starts::begin_enqueue` is a put start. Assumes nothing.
-use Rattle.calendar.specs.Starts.{enqueueStart}
+use Rattle.calendar.specs.rules.Starts.{enqueueStart}
 use borrow.Author.Needs.{needs}
 use Rattle.starts.proofs.begin_enqueue.Statement.{statement}
 use Rattle.starts.proofs.begin_enqueue.Tie as tie

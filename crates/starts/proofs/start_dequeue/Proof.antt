@@ -1,6 +1,6 @@
 -- `starts::start_dequeue` is refused by 9 or 11, or begins. Assumes nothing.
 use borrow.Author.Tests.{eq-eqb, ne-eqb}
-use Rattle.starts.specs.Local.{localDequeue, localDequeueRefusal}
+use Rattle.starts.specs.LocalStart.{localDequeue, localDequeueRefusal}
 use borrow.Author.Needs.{needs}
 use Rattle.starts.proofs.start_dequeue.Statement.{statement}
 use Rattle.starts.proofs.start_dequeue.Tie as tie

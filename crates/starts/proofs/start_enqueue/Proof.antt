@@ -1,7 +1,7 @@
 -- `starts::start_enqueue` is refused by 5, 6, 9, 11 or 12, or begins on the first free node. Assumes nothing.
 use mathlib.Core.Path.{_∙_}
 use native.Mathlib.Omega.{arith}
-use Rattle.starts.specs.Local.{at-early, at-full, at-begun}
+use Rattle.starts.specs.LocalStart.{at-early, at-full, at-begun}
 use borrow.Author.Needs.{needs}
 use Rattle.starts.proofs.start_enqueue.Statement.{statement}
 use Rattle.starts.proofs.start_enqueue.Tie as tie

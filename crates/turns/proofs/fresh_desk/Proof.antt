@@ -2,8 +2,8 @@
 use mathlib.Core.Path.{_≡_, refl}
 use Prim.Native.Nat.{ℕ}
 use native.Mathlib.Omega.{arith}
-use Rattle.calendar.specs.Ranges.{blank}
-use Rattle.turns.specs.Running.{lent}
+use Rattle.calendar.specs.rules.Ranges.{blank}
+use Rattle.turns.specs.TurnsRun.{lent}
 use Rattle.turns.proofs.fresh_desk.Statement.{statement}
 use Rattle.turns.proofs.fresh_desk.Tie as tie
 

@@ -1,6 +1,6 @@
 -- The array is what is lent. Assumes nothing.
 use mathlib.Core.Path.{refl}
-use Rattle.turns.specs.Running.{lent}
+use Rattle.turns.specs.TurnsRun.{lent}
 use Rattle.turns.proofs.lent_words.Statement.{statement}
 use Rattle.turns.proofs.lent_words.Tie as tie
 

@@ -1,6 +1,6 @@
 -- A stretch, what follows it and its last line make up the round. Assumes nothing.
 use native.Mathlib.Omega.{arith}
-use Rattle.turns.specs.Holding.{round-left}
+use Rattle.turns.specs.BetweenRounds.{round-left}
 use borrow.Author.Needs.{needs}
 use Rattle.turns.proofs.one_round.Statement.{statement}
 use Rattle.turns.proofs.one_round.Tie as tie

@@ -1,5 +1,5 @@
 -- `words::get_cell` reads a cell. Assumes nothing.
-use Rattle.calendar.specs.Layout.{read, address}
+use Rattle.calendar.specs.rules.Layout.{read, address}
 use borrow.Author.Needs.{needs}
 use Rattle.words.proofs.get_cell.Statement.{statement}
 use Rattle.words.proofs.get_cell.Tie as tie

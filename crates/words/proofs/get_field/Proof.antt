@@ -1,5 +1,5 @@
 -- `words::get_field` reads a node's field. Assumes nothing.
-use Rattle.calendar.specs.Layout.{read, address}
+use Rattle.calendar.specs.rules.Layout.{read, address}
 use borrow.Author.Needs.{needs}
 use Rattle.words.proofs.get_field.Statement.{statement}
 use Rattle.words.proofs.get_field.Tie as tie

@@ -1,5 +1,5 @@
 -- `words::get_word` reads one of the first three words. Assumes nothing.
-use Rattle.calendar.specs.Layout.{read, address}
+use Rattle.calendar.specs.rules.Layout.{read, address}
 use borrow.Author.Needs.{needs}
 use Rattle.words.proofs.get_word.Statement.{statement}
 use Rattle.words.proofs.get_word.Tie as tie

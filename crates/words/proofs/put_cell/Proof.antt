@@ -1,5 +1,5 @@
 -- `words::put_cell` writes a cell. Assumes nothing.
-use Rattle.calendar.specs.Layout.{write, address}
+use Rattle.calendar.specs.rules.Layout.{write, address}
 use borrow.Author.Needs.{needs}
 use Rattle.words.proofs.put_cell.Statement.{statement}
 use Rattle.words.proofs.put_cell.Tie as tie

@@ -1,5 +1,5 @@
 -- `words::put_field` writes a node's field. Assumes nothing.
-use Rattle.calendar.specs.Layout.{write, address}
+use Rattle.calendar.specs.rules.Layout.{write, address}
 use borrow.Author.Needs.{needs}
 use Rattle.words.proofs.put_field.Statement.{statement}
 use Rattle.words.proofs.put_field.Tie as tie

@@ -1,5 +1,5 @@
 -- `words::put_word` writes one of the first three words. Assumes nothing.
-use Rattle.calendar.specs.Layout.{write, address}
+use Rattle.calendar.specs.rules.Layout.{write, address}
 use borrow.Author.Needs.{needs}
 use Rattle.words.proofs.put_word.Statement.{statement}
 use Rattle.words.proofs.put_word.Tie as tie

@@ -50,13 +50,13 @@ use Rattle.arrival.specs.declared.Worker.{Worker}
 use Rattle.wubraken.specs.declared.answers.Answer.{Answer}
 use Rattle.arrival.specs.declared.Response.the-variants.{Refused}
 use Rattle.arrival.specs.declared.Action.the-variants.{Dequeue}
-use Rattle.calendar.specs.Ranges.{blank}
-use Rattle.calendar.specs.Operations.{act}
+use Rattle.calendar.specs.rules.Ranges.{blank}
+use Rattle.calendar.specs.rules.Operations.{act}
 use Rattle.wubraken.specs.declared.records.Handled.{Handled}
 use Rattle.wubraken.specs.Answers.{answerOf}
 use Rattle.wubraken.specs.declared.table.Survey.{Survey}
 use Rattle.wubraken.specs.Survey.{surveyed, survey, surveyed-bound, survey-records, survey-tells}
-use Rattle.wubraken.specs.Gate.{gateOn}
+use Rattle.wubraken.specs.LentGate.{gateOn}
 use Rattle.wubraken.specs.Results.{lent, leaves, told, left, coded, put-back, put-back-told, dequeueOn, dequeue-is, away-is}
 use Rattle.arrival.proofs.Shape as Sh
 use Rattle.arrival.proofs.Shape.Laws as Sh′

@@ -41,8 +41,8 @@ use denote.Exit.{yes}
 use Rattle.arrival.specs.declared.Shape.{Shape}
 use Rattle.arrival.specs.declared.Worker.{Worker}
 use Rattle.wubraken.specs.declared.answers.Answer.{Answer}
-use Rattle.calendar.specs.Ranges.{blank}
-use Rattle.calendar.specs.Operations.{open-pool}
+use Rattle.calendar.specs.rules.Ranges.{blank}
+use Rattle.calendar.specs.rules.Operations.{open-pool}
 use Rattle.wubraken.specs.declared.records.Opening.{Opening}
 use Rattle.wubraken.specs.Results.{lent, leaves, told, opensWords, open-is}
 use Rattle.arrival.proofs.Shape as Sh

@@ -44,12 +44,12 @@ use denote.Triple.Walked.{says, Stays, gave-slice, stay-dropped, walkOf, Walks, 
 use denote.Exit.{yes}
 use Rattle.arrival.specs.declared.Shape.{Shape}
 use Rattle.arrival.specs.declared.Worker.{Worker}
-use Rattle.batch.specs.Counting.{countedOf, counted-bound}
-use Rattle.calendar.specs.Ranges.{blank}
+use Rattle.batch.specs.RecordsCounted.{countedOf, counted-bound}
+use Rattle.calendar.specs.rules.Ranges.{blank}
 use Rattle.wubraken.specs.Survey.{surveyed}
 use Rattle.wubraken.specs.declared.stretch.Served.{Served}
 use Rattle.wubraken.specs.declared.stretch.Stretch.{Stretch}
-use Rattle.wubraken.specs.Stretch.{account, stretchOn, heldOn, copied-bound, back-bound, stretch-is}
+use Rattle.wubraken.specs.LentBatch.{account, stretchOn, heldOn, copied-bound, back-bound, stretch-is}
 use Rattle.arrival.proofs.Shape as Sh
 use Rattle.arrival.proofs.Shape.Laws as Sh′
 use Rattle.arrival.proofs.Worker as T

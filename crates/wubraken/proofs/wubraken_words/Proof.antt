@@ -2,8 +2,8 @@
 use mathlib.Core.Path.{_≡_, sym, _∙_}
 use mathlib.Core.Bool.{true, false}
 use borrow.Author.Tests.{not-false, not-true}
-use Rattle.calendar.specs.Ranges.{shapeInRange}
-use Rattle.calendar.specs.RangeFacts.{limits}
+use Rattle.calendar.specs.rules.Ranges.{shapeInRange}
+use Rattle.calendar.specs.facts.RangeFacts.{limits}
 use borrow.Author.Needs.{needs}
 use Rattle.wubraken.proofs.wubraken_words.Statement.{statement}
 use Rattle.wubraken.proofs.wubraken_words.Tie as tie

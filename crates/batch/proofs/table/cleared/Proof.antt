@@ -4,8 +4,8 @@ use mathlib.Core.List.{_++_}
 use Prim.Native.Nat.{_≤_, _-_}
 use native.Mathlib.Omega.{arith}
 use lib.ListN.{set, drop, replicate}
-use Rattle.calendar.specs.Ranges.{blank}
-use Rattle.batch.specs.Clearing.{cleared-more}
+use Rattle.calendar.specs.rules.Ranges.{blank}
+use Rattle.laws.specs.FillFront.{cleared-more}
 use borrow.Author.Needs.{needs}
 use Rattle.batch.proofs.table.cleared.Statement.{statement}
 use Rattle.batch.proofs.table.cleared.Tie as tie

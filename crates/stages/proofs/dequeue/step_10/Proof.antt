@@ -1,5 +1,5 @@
 -- Stage 10 is its rule, case by case. Assumes nothing.
-use Rattle.calendar.specs.DequeueSteps.{step-10}
+use Rattle.calendar.specs.rules.DequeueSteps.{step-10}
 use Rattle.stages.specs.Gives.{walk-gives}
 use borrow.Author.Tests.{eq-eqb, ne-eqb, lt-ltb, le-ltb}
 use borrow.Author.Needs.{needs}

@@ -1,5 +1,5 @@
 -- Stage 11 is its rule. Assumes nothing.
-use Rattle.calendar.specs.DequeueSteps.{step-11}
+use Rattle.calendar.specs.rules.DequeueSteps.{step-11}
 use borrow.Author.Tests.{eq-eqb, ne-eqb}
 use borrow.Author.Needs.{needs}
 use Rattle.stages.proofs.dequeue.step_11.Statement.{statement}

@@ -1,5 +1,5 @@
 -- Stage 8 is its rule. Assumes nothing.
-use Rattle.calendar.specs.DequeueSteps.{step-8}
+use Rattle.calendar.specs.rules.DequeueSteps.{step-8}
 use borrow.Author.Needs.{needs}
 use Rattle.stages.proofs.dequeue.step_8.Statement.{statement}
 use Rattle.stages.proofs.dequeue.step_8.Tie as tie

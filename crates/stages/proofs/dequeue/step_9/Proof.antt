@@ -1,5 +1,5 @@
 -- Stage 9 is its rule. Assumes nothing.
-use Rattle.calendar.specs.DequeueSteps.{step-9}
+use Rattle.calendar.specs.rules.DequeueSteps.{step-9}
 use Rattle.stages.specs.Gives.{walk-gives}
 use borrow.Author.Needs.{needs}
 use Rattle.stages.proofs.dequeue.step_9.Statement.{statement}

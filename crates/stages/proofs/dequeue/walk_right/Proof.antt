@@ -1,5 +1,5 @@
 -- A take's walk at the end of the list, and before it. Assumes nothing.
-use Rattle.calendar.specs.DequeueSteps.{walk}
+use Rattle.calendar.specs.rules.DequeueSteps.{walk}
 use borrow.Author.Tests.{eq-eqb, ne-eqb, lt-ltb, le-ltb}
 use borrow.Author.Needs.{needs}
 use Rattle.stages.proofs.dequeue.walk_right.Statement.{statement}

@@ -1,5 +1,5 @@
 -- Stage 4 is its rule. Assumes nothing.
-use Rattle.calendar.specs.EnqueueSteps.{step-4}
+use Rattle.calendar.specs.rules.EnqueueSteps.{step-4}
 use borrow.Author.Needs.{needs}
 use Rattle.stages.proofs.enqueue.step_4.Statement.{statement}
 use Rattle.stages.proofs.enqueue.step_4.Tie as tie

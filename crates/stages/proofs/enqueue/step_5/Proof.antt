@@ -1,5 +1,5 @@
 -- Stage 5 is its rule. Assumes nothing.
-use Rattle.calendar.specs.EnqueueSteps.{step-5}
+use Rattle.calendar.specs.rules.EnqueueSteps.{step-5}
 use borrow.Author.Tests.{eq-eqb, ne-eqb}
 use borrow.Author.Needs.{needs}
 use Rattle.stages.proofs.enqueue.step_5.Statement.{statement}

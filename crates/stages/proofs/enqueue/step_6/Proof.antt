@@ -1,5 +1,5 @@
 -- Stage 6 is its rule. Assumes nothing.
-use Rattle.calendar.specs.EnqueueSteps.{step-6}
+use Rattle.calendar.specs.rules.EnqueueSteps.{step-6}
 use borrow.Author.Tests.{lt-ltb, le-ltb}
 use borrow.Author.Needs.{needs}
 use Rattle.stages.proofs.enqueue.step_6.Statement.{statement}

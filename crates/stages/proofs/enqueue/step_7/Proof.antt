@@ -1,5 +1,5 @@
 -- Stage 7 is its rule, and is refused at the last epoch. Assumes nothing.
-use Rattle.calendar.specs.EnqueueSteps.{step-7}
+use Rattle.calendar.specs.rules.EnqueueSteps.{step-7}
 use borrow.Author.Tests.{eq-eqb, ne-eqb}
 use borrow.Author.Needs.{needs}
 use Rattle.stages.proofs.enqueue.step_7.Statement.{statement}

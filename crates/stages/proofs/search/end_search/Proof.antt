@@ -1,5 +1,5 @@
 -- The end of a search, by kind. Assumes nothing.
-use Rattle.calendar.specs.SearchSteps.{found}
+use Rattle.calendar.specs.rules.SearchSteps.{found}
 use borrow.Author.Tests.{eq-eqb, ne-eqb}
 use borrow.Author.Needs.{needs}
 use Rattle.stages.proofs.search.end_search.Statement.{statement}

@@ -1,5 +1,5 @@
 -- At the end of the list the search ends, otherwise it goes on at 2. Assumes nothing.
-use Rattle.calendar.specs.SearchSteps.{settle}
+use Rattle.calendar.specs.rules.SearchSteps.{settle}
 use borrow.Author.Tests.{eq-eqb, ne-eqb}
 use borrow.Author.Needs.{needs}
 use Rattle.stages.proofs.search.settle_right.Statement.{statement}

@@ -1,5 +1,5 @@
 -- Stage 1 is its rule. Assumes nothing.
-use Rattle.calendar.specs.SearchSteps.{step-1}
+use Rattle.calendar.specs.rules.SearchSteps.{step-1}
 use Rattle.stages.specs.Ready.{holds}
 use borrow.Author.Needs.{needs}
 use Rattle.stages.proofs.search.step_1.Statement.{statement}

@@ -1,5 +1,5 @@
 -- Stage 2 is its rule, case by case. Assumes nothing.
-use Rattle.calendar.specs.SearchSteps.{step-2}
+use Rattle.calendar.specs.rules.SearchSteps.{step-2}
 use borrow.Author.Tests.{eq-eqb, ne-eqb}
 use Rattle.stages.specs.Ready.{holds}
 use borrow.Author.Needs.{needs}

@@ -1,6 +1,6 @@
 -- Stage 3 is its rule: what it reads after its writes is what stood there before them. Assumes nothing.
 use mathlib.Core.Path.{sym, _∙_}
-use Rattle.calendar.specs.SearchSteps.{step-3}
+use Rattle.calendar.specs.rules.SearchSteps.{step-3}
 use borrow.Author.Tests.{ne-eqb}
 use Rattle.stages.specs.Unlinking.{unlinked-holds, unlinked-step}
 use borrow.Author.Needs.{needs}

@@ -2,7 +2,7 @@
 use mathlib.Core.Path.{_≡_, refl, sym, _∙_}
 use Prim.Native.Nat.{_≤_, _<_}
 use native.Mathlib.Omega.{arith}
-use Rattle.starts.specs.Free.{freeOfBelow, firstFreeBelow, free-none, free-here, free-on, after-below}
+use Rattle.starts.specs.FreeSearch.{freeOfBelow, firstFreeBelow, free-none, free-here, free-on, after-below}
 use borrow.Author.Needs.{needs}
 use Rattle.starts.proofs.free.first_free.Statement.{statement}
 use Rattle.starts.proofs.free.first_free.Tie as tie

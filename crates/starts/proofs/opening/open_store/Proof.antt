@@ -4,9 +4,9 @@ use mathlib.Core.List.{_++_}
 use Prim.Native.Nat.{_≤_, _-_}
 use native.Mathlib.Omega.{arith}
 use lib.ListN.{length, drop, length-set}
-use Rattle.calendar.specs.Layout.{layout}
-use Rattle.calendar.specs.Opening.{wordsFrom, openWord, openStore}
-use Rattle.starts.specs.Opening.{words-none, words-more}
+use Rattle.calendar.specs.rules.Layout.{layout}
+use Rattle.calendar.specs.rules.Opening.{wordsFrom, openWord, openStore}
+use Rattle.starts.specs.OpenLoop.{words-none, words-more}
 use borrow.Author.Needs.{needs}
 use Rattle.starts.proofs.opening.open_store.Statement.{statement}
 use Rattle.starts.proofs.opening.open_store.Tie as tie

@@ -49,7 +49,7 @@ use denote.Triple.Table.{entered}
 use denote.Triple.Walked.{says, needs, Stays, stay-slice, stay-none, walkOf, Walks, ends-at, walked, goes-slice, goes-none, walk-meets}
 use denote.Exit.{yes}
 use Rattle.arrival.specs.declared.Worker.{Worker}
-use Rattle.calendar.specs.Ranges.{blank}
+use Rattle.calendar.specs.rules.Ranges.{blank}
 use Rattle.arrival.proofs.Worker as T
 use Rattle.arrival.proofs.Worker.Laws as T′
 use Rattle.wubraken.proofs.Elements.{apart, joined}

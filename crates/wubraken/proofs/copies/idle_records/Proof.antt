@@ -1,6 +1,6 @@
 -- 64 idle records. Assumes nothing.
 use borrow.Author.Needs.{needs}
-use Rattle.calendar.specs.Ranges.{blank}
+use Rattle.calendar.specs.rules.Ranges.{blank}
 use Rattle.wubraken.proofs.copies.idle_records.Statement.{statement}
 use Rattle.wubraken.proofs.copies.idle_records.Tie as tie
 

@@ -1,7 +1,7 @@
 -- A take start is refused by the gate, or is the record's start. Assumes nothing.
 use mathlib.Core.Path.{sym, _∙_}
 use borrow.Author.Tests.{eq-eqb, ne-eqb}
-use Rattle.wubraken.specs.Gate.{passed}
+use Rattle.wubraken.specs.LentGate.{passed}
 use Rattle.wubraken.specs.Results.{dequeueOn}
 use borrow.Author.Needs.{needs}
 use Rattle.wubraken.proofs.records.dequeue_record.Statement.{statement}

@@ -1,7 +1,7 @@
 -- A put start is refused by the gate, or is the record's start. Assumes nothing.
 use mathlib.Core.Path.{sym, _∙_}
 use borrow.Author.Tests.{eq-eqb, ne-eqb}
-use Rattle.wubraken.specs.Gate.{passed}
+use Rattle.wubraken.specs.LentGate.{passed}
 use Rattle.wubraken.specs.Results.{enqueueOn}
 use borrow.Author.Needs.{needs}
 use Rattle.wubraken.proofs.records.enqueue_record.Statement.{statement}

@@ -1,7 +1,7 @@
 -- The gate with the flag of a look at every field. Assumes nothing.
 use mathlib.Core.Path.{sym, _∙_}
 use Rattle.admission.specs.Gate.{sound-opens}
-use Rattle.wubraken.specs.Gate.{gateOn}
+use Rattle.wubraken.specs.LentGate.{gateOn}
 use borrow.Author.Needs.{needs}
 use Rattle.wubraken.proofs.records.gate_on.Statement.{statement}
 use Rattle.wubraken.proofs.records.gate_on.Tie as tie

@@ -1,9 +1,9 @@
 -- A turn is refused by the gate, or is the record's turn. Assumes nothing.
 use mathlib.Core.Path.{sym, _∙_}
 use borrow.Author.Tests.{eq-eqb, ne-eqb}
-use Rattle.calendar.specs.RangeFacts.{record-ranges}
+use Rattle.calendar.specs.facts.RangeFacts.{record-ranges}
 use Rattle.admission.specs.Gate.{shape-tests}
-use Rattle.wubraken.specs.Gate.{passed}
+use Rattle.wubraken.specs.LentGate.{passed}
 use Rattle.wubraken.specs.Results.{stepOn}
 use borrow.Author.Needs.{needs}
 use Rattle.wubraken.proofs.records.step_record.Statement.{statement}

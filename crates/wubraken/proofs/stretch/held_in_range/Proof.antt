@@ -3,10 +3,10 @@ use mathlib.Core.Path.{_≡_, sym, ap, _∙_}
 use mathlib.Core.Bool.{_&&_}
 use Prim.Native.Nat.{ℕ, _≤_, _-_}
 use native.Mathlib.Omega.{arith}
-use Rattle.calendar.specs.Every.{every, every-none, every-step}
-use Rattle.calendar.specs.Ranges.{blank, worker, recordInRange}
-use Rattle.calendar.specs.RangeFacts.{limits}
-use Rattle.wubraken.specs.Stretch.{heldInRange}
+use Rattle.laws.specs.Every.{every, every-none, every-step}
+use Rattle.calendar.specs.rules.Ranges.{blank, worker, recordInRange}
+use Rattle.calendar.specs.facts.RangeFacts.{limits}
+use Rattle.wubraken.specs.LentBatch.{heldInRange}
 use Rattle.wubraken.proofs.stretch.held_in_range.Statement.{statement}
 use Rattle.wubraken.proofs.stretch.held_in_range.Tie as tie
 

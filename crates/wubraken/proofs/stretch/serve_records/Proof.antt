@@ -7,10 +7,10 @@ use Prim.Native.Nat.{ℕ}
 use native.Mathlib.Omega.{arith}
 use Rattle.admission.specs.Watched.{Watched}
 use Rattle.admission.specs.Gate.{soundOf, sound-opens}
-use Rattle.batch.specs.Holding.{heldAll}
-use Rattle.batch.specs.Rounds.{at-work}
+use Rattle.batch.specs.Held.{heldAll}
+use Rattle.batch.specs.BatchLoop.{at-work}
 use Rattle.wubraken.specs.Survey.{surveyed, surveyed-bound, surveyed-shape}
-use Rattle.wubraken.specs.Stretch.{Account, stretchOn, heldOn, stopNumber, accountOf, heldInRange, held-watched}
+use Rattle.wubraken.specs.LentBatch.{Account, stretchOn, heldOn, stopNumber, accountOf, heldInRange, held-watched}
 use Rattle.wubraken.specs.Results.{lent}
 use borrow.Author.Needs.{needs}
 use Rattle.wubraken.proofs.stretch.serve_records.Statement.{statement}

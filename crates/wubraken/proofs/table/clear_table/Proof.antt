@@ -48,7 +48,7 @@ use denote.Triple.Table.{entered}
 use denote.Triple.Walked.{says, needs, Stays, stay-slice, stay-none, walkOf, Walks, ends-at, walked, goes-slice, goes-none, walk-meets}
 use denote.Exit.{yes}
 use Rattle.arrival.specs.declared.Worker.{Worker}
-use Rattle.calendar.specs.Ranges.{blank}
+use Rattle.calendar.specs.rules.Ranges.{blank}
 use Rattle.wubraken.specs.Cleared.{clearedOf}
 use Rattle.arrival.proofs.Worker as T
 use Rattle.arrival.proofs.Worker.Laws as T′

@@ -1,7 +1,7 @@
 -- One record more in the look over the table. Assumes nothing.
 use native.Mathlib.Omega.{arith}
 use borrow.Author.Needs.{needs}
-use Rattle.calendar.specs.RangeFacts.{limits}
+use Rattle.calendar.specs.facts.RangeFacts.{limits}
 use Rattle.wubraken.specs.Survey.{seen}
 use Rattle.wubraken.proofs.table.look.Statement.{statement}
 use Rattle.wubraken.proofs.table.look.Tie as tie

@@ -51,7 +51,7 @@ use denote.Triple.Walked.{says, Stays, stay-none-slice, stay-none, walkOf, Walks
 use denote.Exit.{yes}
 use Rattle.arrival.specs.declared.Shape.{Shape}
 use Rattle.arrival.specs.declared.Worker.{Worker}
-use Rattle.calendar.specs.Ranges.{blank, shapeInRange}
+use Rattle.calendar.specs.rules.Ranges.{blank, shapeInRange}
 use Rattle.wubraken.specs.declared.table.Survey.{Survey}
 use Rattle.wubraken.specs.Survey.{unseen, seen, surveyOf, surveyed, surveyed-bound, surveyed-shape, survey-start, survey-more}
 use Rattle.arrival.proofs.Shape as Sh

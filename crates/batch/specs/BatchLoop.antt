@@ -1,0 +1,144 @@
+-- The loop over a stretch, round by round: what is still to be served is what was to be served at first. Assumes nothing.
+use mathlib.Core.Path.{_≡_, refl, sym, ap, _∙_}
+use mathlib.Core.List.{List}
+use mathlib.Core.Bool.{Bool, true, false, cond, not}
+use mathlib.Core.Logic.{_≢_}
+use Prim.Native.Nat.{ℕ, zero, suc, _-_, _≤_, _<_}
+use native.Mathlib.Omega.{arith}
+use lib.Dec.{eqb}
+use lib.ListN.{length}
+use borrow.Author.Tests.{eqb-true, eqb-false}
+use Rattle.arrival.specs.declared.Shape.{Shape}
+use Rattle.arrival.specs.declared.Arrival.{Arrival}
+use Rattle.arrival.specs.declared.Worker.{Worker}
+use Rattle.arrival.specs.declared.Action.{Action}
+use Rattle.arrival.specs.declared.Action.the-variants.{Enqueue, Dequeue, Step}
+use Rattle.arrival.specs.declared.Response.the-variants as response
+use Rattle.calendar.specs.rules.Ranges.{worker}
+use Rattle.calendar.specs.facts.RangesKept.{leaks}
+use Rattle.calendar.specs.facts.Accepted.{Usable, enqueue-accepted, dequeue-accepted, step-accepted}
+use Rattle.calendar.specs.rules.Operations.{Memory, actor, refusal, perform, outcome, act}
+use Rattle.turn_file.specs.declared.Read.the-variants.{End, Refused}
+use Rattle.turn_file.specs.Records.{Record, opens, acts}
+use Rattle.turn_file.specs.Reading.{recordAt, whole}
+use Rattle.turn_file.specs.OneReading.{read-on}
+use Rattle.batch.specs.declared.Stop.the-variants.{Drained, Full, Halted}
+use Rattle.batch.specs.Held.{pastOpening, held, heldAll}
+use Rattle.batch.specs.Batch.{Session, Answered, opening, acting, Progress, Stopped, hasRoom, wrote, served, servedAll}
+use Rattle.admission.specs.Watched.{inRange, Watched, enqueue-sound, dequeue-sound, step-sound}
+use Rattle.admission.specs.Gate.{gateOf, gate-passed, usable, turn-at-3}
+
+-- ── the flag past an action that the gate lets in ──
+module _ (sh : Shape) (m : Memory) (i : ℕ) (sound : Bool) (watched : Watched sh m sound) (z : gateOf sh (length (m .store)) (length (m .table)) i sound ≡ 0) where
+  U : Usable sh (m .store) (m .table) i
+  U = usable sh m sound watched i z
+
+  up : sound ≡ true
+  up = gate-passed sh (length (m .store)) (length (m .table)) i sound z .0
+
+  ranged : inRange sh m ≡ true
+  ranged = sym (watched (U .lent)) ∙ up
+
+  -- by whether it is refused after all
+  past : (a : Action) (b : Bool) → (refusal sh m a ≡ 0 → inRange sh (perform sh m (actor a) (outcome sh m a) .memory) ≡ b) → (refusal sh m a ≢ 0 → b ≡ true) → b ≡ inRange sh (act sh m a .memory)
+  unfolding act
+  past a b did not-done = go (eqb (refusal sh m a) 0) refl
+    where
+      go : (c : Bool) → eqb (refusal sh m a) 0 ≡ c → b ≡ inRange sh (cond c (perform sh m (actor a) (outcome sh m a)) (record { memory = m; response = response.Refused (refusal sh m a) }) .memory)
+      go true e = sym (did (eqb-true (refusal sh m a) 0 e))
+      go false e = not-done (eqb-false (refusal sh m a) 0 e) ∙ sym ranged
+
+  pub enqueue-watched : (a : Arrival) → Watched sh (act sh m (Enqueue i a) .memory) sound
+  enqueue-watched a l = past (Enqueue i a) sound (λ e. enqueue-sound sh m i a (enqueue-accepted sh (m .store) (m .table) i a e) ∙ sym up) (λ n. up)
+
+  pub dequeue-watched : Watched sh (act sh m (Dequeue i) .memory) sound
+  dequeue-watched l = past (Dequeue i) sound (λ e. dequeue-sound sh m i (dequeue-accepted sh (m .store) (m .table) i e) ∙ sym up) (λ n. up)
+
+  -- a turn that is refused does not leak: it is not at stage 3
+  idle-tight : refusal sh m (Step i) ≢ 0 → not (leaks sh (m .store) (worker (m .table) i)) ≡ true
+  idle-tight n = go (eqb (worker (m .table) i .stage) 3) refl
+    where
+      go : (b : Bool) → eqb (worker (m .table) i .stage) 3 ≡ b → not (leaks sh (m .store) (worker (m .table) i)) ≡ true
+      go false e = rw e
+      go true e = absurd (n (turn-at-3 sh m sound watched i z (eqb-true (worker (m .table) i .stage) 3 e)))
+
+  pub step-watched : Watched sh (act sh m (Step i) .memory) (not (leaks sh (m .store) (worker (m .table) i)))
+  step-watched l = past (Step i) (not (leaks sh (m .store) (worker (m .table) i))) (λ e. step-sound sh m i (step-accepted sh (m .store) (m .table) i e)) idle-tight
+
+-- ── rounds ──
+-- h and h₀ of the lent records are held
+pub record Going (bytes : List ℕ) (p₀ : Progress) (h₀ : ℕ) (p : Progress) (h : ℕ) (sound : Bool) : Type 0 where
+  pub left : ℕ
+  pub enough : length bytes - p .at ≤ left
+  pub same : served (suc left) bytes p ≡ servedAll bytes p₀
+  pub holds : held (suc left) bytes h p ≡ heldAll bytes h₀ p₀
+  pub watched : Watched (p .session .shape) (p .session .memory) sound
+
+pub going : (bytes : List ℕ) (p : Progress) (h : ℕ) (sound : Bool) → Watched (p .session .shape) (p .session .memory) sound → Going bytes p h p h sound
+going bytes p h sound w = record {
+  left = length bytes;
+  enough = omega arith;
+  same = ap (λ (n : ℕ). served n bytes p) (omega arith);
+  holds = ap (λ (n : ℕ). held n bytes h p) (omega arith);
+  watched = w;
+}
+
+abbrev answer : Record → Session → Answered
+answer (opens sh) x = opening sh x
+answer (acts a) x = acting a x
+
+abbrev pub holding : Record → Session → ℕ → ℕ
+holding (opens sh) x h = pastOpening sh x h
+holding (acts a) x h = h
+
+module _ (bytes : List ℕ) (p₀ : Progress) (h₀ : ℕ) (p : Progress) (h : ℕ) (sound : Bool) (G : Going bytes p₀ h₀ p h sound) where
+  served-on : (n : ℕ) → hasRoom (p .lines) (p .to) ≡ true → (r : Record) (next : ℕ) → whole r next ≡ recordAt bytes (p .at) → served (suc n) bytes p ≡ served n bytes (wrote p next (answer r (p .session)))
+  unfolding served
+  served-on n room (opens sh) next e = rw (room, ← e)
+  served-on n room (acts a) next e = rw (room, ← e)
+
+  held-on : (n : ℕ) → hasRoom (p .lines) (p .to) ≡ true → (r : Record) (next : ℕ) → whole r next ≡ recordAt bytes (p .at) → held (suc n) bytes h p ≡ held n bytes (holding r (p .session) h) (wrote p next (answer r (p .session)))
+  unfolding held
+  held-on n room (opens sh) next e = rw (room, ← e)
+  held-on n room (acts a) next e = rw (room, ← e)
+
+  -- one record more
+  pub go-on : hasRoom (p .lines) (p .to) ≡ true → (r : Record) (next : ℕ) → whole r next ≡ recordAt bytes (p .at) → (p′ : Progress) → p′ ≡ wrote p next (answer r (p .session))
+      → (h′ : ℕ) → h′ ≡ holding r (p .session) h → (sound′ : Bool) → Watched (p′ .session .shape) (p′ .session .memory) sound′ → Going bytes p₀ h₀ p′ h′ sound′
+  go-on room r next e p′ is h′ holds sound′ w = go (G .left) (G .enough) (G .same) (G .holds)
+    where
+      on : (p .at < next) × (next ≤ length bytes)
+      on = read-on bytes (p .at) r next (sym e)
+
+      there : p′ .at ≡ next
+      there = ap (λ (q : Progress). q .at) is
+
+      go : (left : ℕ) → length bytes - p .at ≤ left → served (suc left) bytes p ≡ servedAll bytes p₀ → held (suc left) bytes h p ≡ heldAll bytes h₀ p₀ → Going bytes p₀ h₀ p′ h′ sound′
+      go zero b s k = absurd (omega (arith, on .0, on .1))
+      go (suc left) b s k = record {
+        left = left;
+        enough = omega (arith, on .0, on .1, there);
+        same = ap (served (suc left) bytes) is ∙ sym (served-on (suc left) room r next e) ∙ s;
+        holds = ap (held (suc left) bytes h′) is ∙ ap (λ (i : ℕ). held (suc left) bytes i (wrote p next (answer r (p .session)))) holds ∙ sym (held-on (suc left) room r next e) ∙ k;
+        watched = w;
+      }
+
+  -- the ends
+  from : (stopped : Stopped) → ((n : ℕ) → stopped ≡ served (suc n) bytes p) → ((n : ℕ) → h ≡ held (suc n) bytes h p) → (stopped ≡ servedAll bytes p₀) × (h ≡ heldAll bytes h₀ p₀)
+  from stopped f g = (f (G .left) ∙ G .same, g (G .left) ∙ G .holds)
+
+  pub drained : hasRoom (p .lines) (p .to) ≡ true → End ≡ recordAt bytes (p .at) → (record { progress = p; stop = Drained } ≡ servedAll bytes p₀) × (h ≡ heldAll bytes h₀ p₀)
+  unfolding served held
+  drained room e = from _ (λ n. rw (room, ← e)) (λ n. rw (room, ← e))
+
+  pub halted : hasRoom (p .lines) (p .to) ≡ true → (k : ℕ) → Refused k ≡ recordAt bytes (p .at) → (record { progress = p; stop = Halted k } ≡ servedAll bytes p₀) × (h ≡ heldAll bytes h₀ p₀)
+  unfolding served held
+  halted room k e = from _ (λ n. rw (room, ← e)) (λ n. rw (room, ← e))
+
+  pub full : hasRoom (p .lines) (p .to) ≡ false → (record { progress = p; stop = Full } ≡ servedAll bytes p₀) × (h ≡ heldAll bytes h₀ p₀)
+  unfolding served held
+  full none = from _ (λ n. rw none) (λ n. rw none)
+
+-- the loop's own values as a progress
+abbrev pub at-work : Shape → List ℕ → List Worker → ℕ → List ℕ → ℕ → Progress
+at-work sh s t at lines to = record { session = record { shape = sh; memory = record { store = s; table = t } }; at = at; lines = lines; to = to }

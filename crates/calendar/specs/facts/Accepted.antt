@@ -1,0 +1,129 @@
+-- What an operation that is not refused may count on. Assumes nothing.
+use mathlib.Core.Path.{_≡_, refl, sym, ap, _∙_}
+use mathlib.Core.List.{List}
+use mathlib.Core.Bool.{Bool, true, false, cond, not, _&&_, _||_}
+use mathlib.Core.Logic.{_≢_}
+use Prim.Native.Nat.{ℕ, zero, suc, _+_, _*_, _<_, _≤_}
+use native.Mathlib.Omega.{arith}
+use lib.Dec.{eqb, leb, ltb}
+use lib.ListN.{length}
+use borrow.Author.Tests.{ltb-false, leb-false, leb-true, eqb-false, eqb-true, not-true}
+use Rattle.arrival.specs.declared.Shape.{Shape}
+use Rattle.arrival.specs.declared.Arrival.{Arrival}
+use Rattle.arrival.specs.declared.Worker.{Worker}
+use Rattle.laws.specs.Tests.{left-true, right-true, parts, neither}
+use Rattle.calendar.specs.rules.Layout.{layout, started}
+use Rattle.calendar.specs.rules.Ranges.{worker, pathInRange, orderInRange, distanceInRange, storeInRange, tableInRange}
+use Rattle.calendar.specs.facts.RangeFacts.{Limits, limits, StoreRanges, store-ranges, RecordRanges, table-ranges}
+use Rattle.calendar.specs.facts.Views.{view}
+use Rattle.calendar.specs.rules.Reclaim.{firstFree}
+use Rattle.calendar.specs.rules.Refusals.{badShape, tooShort, outOfRange, noWorker, badArrival, tooLate, busy, idle, noTicket, noEpoch, noNode, openRefusal, enqueueRefusal, dequeueRefusal, stepRefusal}
+
+-- shape and lengths: refusals 1 and 2
+pub record Lent (sh : Shape) (s : List ℕ) (t : List Worker) : Type 0 where
+  pub limits : Limits sh
+  pub store : layout sh ≤ length s
+  pub table : sh .workers ≤ length t
+
+-- and 3 and 4
+pub record Usable (sh : Shape) (s : List ℕ) (t : List Worker) (i : ℕ) : Type 0 where
+  pub lent : Lent sh s t
+  pub store : StoreRanges sh (view sh s)
+  pub table : (j : ℕ) → j < sh .workers → RecordRanges sh (worker t j)
+  pub exists : i < sh .workers
+
+pub record EnqueueAccepted (sh : Shape) (s : List ℕ) (t : List Worker) (i : ℕ) (a : Arrival) : Type 0 where
+  pub usable : Usable sh s t i
+  pub path : a .path ≤ 65535
+  pub order : a .order ≤ 63
+  pub some-distance : 1 ≤ a .distance
+  pub distance : a .distance ≤ 1024
+  pub time : a .time < sh .buckets * sh .width
+  pub idle : worker t i .stage ≡ 0
+  pub ticket : started sh s ≢ 4294967295
+  pub node : firstFree sh s t ≢ sh .nodes
+
+pub record DequeueAccepted (sh : Shape) (s : List ℕ) (t : List Worker) (i : ℕ) : Type 0 where
+  pub usable : Usable sh s t i
+  pub idle : worker t i .stage ≡ 0
+  pub ticket : started sh s ≢ 4294967295
+
+pub record StepAccepted (sh : Shape) (s : List ℕ) (t : List Worker) (i : ℕ) : Type 0 where
+  pub usable : Usable sh s t i
+  pub busy : worker t i .stage ≢ 0
+  pub epoch : noEpoch sh s (worker t i) ≡ false
+
+-- the first of a chain of refusals does not apply, and the rest gives none
+passed : (b : Bool) (k rest : ℕ) → cond b (suc k) rest ≡ 0 → (b ≡ false) × (rest ≡ 0)
+passed true k rest e = absurd (omega arith)
+passed false k rest e = (refl, e)
+
+holds : (b : Bool) → not b ≡ false → b ≡ true
+holds true e = refl
+holds false e = sym e
+
+lent : (sh : Shape) (s : List ℕ) (t : List Worker) → badShape sh ≡ false → tooShort sh s t ≡ false → Lent sh s t
+lent sh s t one two =
+    let (p, q) = neither _ _ two in
+    record { limits = limits sh (holds _ one); store = ltb-false _ _ p; table = ltb-false _ _ q }
+
+usable : (sh : Shape) (s : List ℕ) (t : List Worker) (i : ℕ) → badShape sh ≡ false → tooShort sh s t ≡ false → outOfRange sh s t ≡ false → noWorker sh i ≡ false → Usable sh s t i
+usable sh s t i one two three four =
+    let (p, q) = parts (storeInRange sh s) (tableInRange sh t) (holds _ three) in
+    record { lent = lent sh s t one two; store = store-ranges sh s p; table = table-ranges sh t q; exists = leb-false _ _ four }
+
+pub open-accepted : (sh : Shape) (s : List ℕ) (t : List Worker) → openRefusal sh s t ≡ 0 → Lent sh s t
+unfolding openRefusal
+open-accepted sh s t e =
+    let (one, e) = passed _ 0 _ e in
+    let (two, e) = passed _ 1 _ e in
+    lent sh s t one two
+
+pub enqueue-accepted : (sh : Shape) (s : List ℕ) (t : List Worker) (i : ℕ) (a : Arrival) → enqueueRefusal sh s t i a ≡ 0 → EnqueueAccepted sh s t i a
+unfolding enqueueRefusal
+enqueue-accepted sh s t i a e =
+    let (one, e) = passed _ 0 _ e in
+    let (two, e) = passed _ 1 _ e in
+    let (three, e) = passed _ 2 _ e in
+    let (four, e) = passed _ 3 _ e in
+    let (five, e) = passed _ 4 _ e in
+    let (six, e) = passed _ 5 _ e in
+    let (nine, e) = passed _ 8 _ e in
+    let (eleven, e) = passed _ 10 _ e in
+    let (twelve, e) = passed _ 11 _ e in
+    let (p, far) = parts _ _ (holds _ five) in
+    let (path, order) = parts _ _ p in
+    let (some-distance, distance) = parts _ _ far in
+    record {
+      usable = usable sh s t i one two three four;
+      path = leb-true _ _ path;
+      order = leb-true _ _ order;
+      some-distance = leb-true _ _ some-distance;
+      distance = leb-true _ _ distance;
+      time = leb-false _ _ six;
+      idle = eqb-true _ _ (holds _ nine);
+      ticket = eqb-false _ _ eleven;
+      node = eqb-false _ _ twelve;
+    }
+
+pub dequeue-accepted : (sh : Shape) (s : List ℕ) (t : List Worker) (i : ℕ) → dequeueRefusal sh s t i ≡ 0 → DequeueAccepted sh s t i
+unfolding dequeueRefusal
+dequeue-accepted sh s t i e =
+    let (one, e) = passed _ 0 _ e in
+    let (two, e) = passed _ 1 _ e in
+    let (three, e) = passed _ 2 _ e in
+    let (four, e) = passed _ 3 _ e in
+    let (nine, e) = passed _ 8 _ e in
+    let (eleven, e) = passed _ 10 _ e in
+    record { usable = usable sh s t i one two three four; idle = eqb-true _ _ (holds _ nine); ticket = eqb-false _ _ eleven }
+
+pub step-accepted : (sh : Shape) (s : List ℕ) (t : List Worker) (i : ℕ) → stepRefusal sh s t i ≡ 0 → StepAccepted sh s t i
+unfolding stepRefusal
+step-accepted sh s t i e =
+    let (one, e) = passed _ 0 _ e in
+    let (two, e) = passed _ 1 _ e in
+    let (three, e) = passed _ 2 _ e in
+    let (four, e) = passed _ 3 _ e in
+    let (ten, e) = passed _ 9 _ e in
+    let (eleven, e) = passed _ 10 _ e in
+    record { usable = usable sh s t i one two three four; busy = eqb-false _ _ (not-true _ (holds _ ten)); epoch = eleven }

@@ -1,0 +1,93 @@
+-- Guards of the statement of demand 3: ledgers that no correct pool leaves have no linearization, and beside each a ledger that
+-- has at most one. Assumes nothing.
+use mathlib.Core.Path.{_≡_, refl, subst}
+use mathlib.Core.List.{List, [], _∷_, List·Memᴰ, List·Memᴰ·not-nil, List·Memᴰ·eq-of-singleton}
+use Prim.Native.Nat.{ℕ}
+use Rattle.arrival.specs.declared.Item.{Item}
+use Rattle.arrival.specs.declared.Response.the-variants.{Stored, Empty}
+use Rattle.arrival.specs.Keys.{lower}
+use Rattle.arrival.specs.Energy.{energyOf}
+use Rattle.arrival.specs.Queue.{enqueue, dequeue, taken}
+use Rattle.calendar.specs.rules.Ledger.{Ledger, new, begins, ends, marks}
+use Rattle.calendar.specs.rules.Linearizability.{Linearization}
+use Rattle.calendar.specs.facts.AdmittedOrders.{upTo, ordersOf, admitted, linearization-admitted}
+
+-- ── from the list of orders to linearizations ──
+pub none-there : (L : Ledger) → admitted L ≡ [] → Linearization L → ⊥
+none-there L e X = List·Memᴰ·not-nil (subst (λ (os : List (List ℕ)). List·Memᴰ (X .order) os) e (linearization-admitted L X))
+
+pub forced : (L : Ledger) (o : List ℕ) → admitted L ≡ o ∷ [] → (X : Linearization L) → X .order ≡ o
+forced L o e X = List·Memᴰ·eq-of-singleton (subst (λ (os : List (List ℕ)). List·Memᴰ (X .order) os) e (linearization-admitted L X))
+
+-- ── ledgers, written call by call ──
+-- an arrival by time and ticket
+pub item : ℕ → ℕ → Item
+item time ticket = record { time = time; path = 7; order = 1; distance = 3; ticket = ticket }
+
+-- worker i's put, whole; its take begins, and ends with x or empty
+pub stores : ℕ → Item → Ledger → Ledger
+stores i x L = ends i (Stored (x .ticket)) 1 0 (begins i (enqueue x) L)
+
+pub asks : ℕ → Ledger → Ledger
+asks i L = begins i dequeue L
+
+pub takes : ℕ → Item → Ledger → Ledger
+takes i x L = ends i (taken x) 0 1 (marks i x L)
+
+pub finds-none : ℕ → Ledger → Ledger
+finds-none i L = ends i Empty 0 0 L
+
+-- 10 and 20 are stored; the taker of worker 0 has read current and pauses; 12 and then 15 are stored; others take 10 and 12; the
+-- paused taker takes x.
+pub paused : Item → Ledger
+paused x =
+    takes 0 x
+    (takes 1 (item 12 4) (asks 1
+    (takes 1 (item 10 1) (asks 1
+    (stores 1 (item 15 5)
+    (stores 1 (item 12 4)
+    (asks 0
+    (stores 1 (item 20 2)
+    (stores 1 (item 10 1) new)))))))))
+
+-- two equal arrivals are stored, then taken one after the other
+pub twins : Item → Item → Ledger
+twins x y = takes 0 y (asks 0 (takes 0 x (asks 0 (stores 0 (item 10 2) (stores 0 (item 10 1) new)))))
+
+-- an arrival is stored, and a take that starts later finds none
+pub emptied : Ledger
+emptied = finds-none 1 (asks 1 (stores 0 (item 10 1) new))
+
+-- an arrival is taken before its put has ended
+pub unfinished : Ledger
+unfinished = takes 1 (item 10 1) (asks 1 (begins 0 (enqueue (item 10 1)) new))
+
+-- ── what they admit ──
+-- PASSING OVER 15 AND TAKING 20: no order
+pub passed-over : Linearization (paused (item 20 2)) → ⊥
+unfolding paused item stores asks takes ordersOf upTo lower energyOf
+passed-over = none-there (paused (item 20 2)) refl
+
+-- taking 15: one order
+pub not-passed-over : (X : Linearization (paused (item 15 5))) → X .order ≡ 1 ∷ 2 ∷ 4 ∷ 5 ∷ 6 ∷ 7 ∷ 3 ∷ []
+unfolding paused item stores asks takes ordersOf upTo lower energyOf
+not-passed-over = forced (paused (item 15 5)) _ refl
+
+-- the later of two equal arrivals first: no order, though all answers read the same
+pub later-twin-first : Linearization (twins (item 10 2) (item 10 1)) → ⊥
+unfolding twins item stores asks takes ordersOf upTo lower energyOf
+later-twin-first = none-there (twins (item 10 2) (item 10 1)) refl
+
+pub earlier-twin-first : (X : Linearization (twins (item 10 1) (item 10 2))) → X .order ≡ 1 ∷ 2 ∷ 3 ∷ 4 ∷ []
+unfolding twins item stores asks takes ordersOf upTo lower energyOf
+earlier-twin-first = forced (twins (item 10 1) (item 10 2)) _ refl
+
+-- empty after something was stored: no order
+pub not-empty : Linearization emptied → ⊥
+unfolding emptied item stores asks finds-none ordersOf upTo lower energyOf
+not-empty = none-there emptied refl
+
+-- the unfinished put has to be added
+pub put-added : (X : Linearization unfinished) → X .order ≡ 1 ∷ 2 ∷ []
+unfolding unfinished item asks takes ordersOf upTo lower energyOf
+put-added = forced unfinished _ refl

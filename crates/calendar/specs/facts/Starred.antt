@@ -1,0 +1,130 @@
+-- The starred cases of "Arrivals to check by hand", as one table under one theorem: computed, entry by entry. Assumes nothing.
+use mathlib.Core.Path.{_≡_, refl}
+use mathlib.Core.List.{List, [], _∷_, _++_}
+use Prim.Native.Nat.{ℕ, zero, suc, _+_}
+use lib.Dec.{eqb}
+use lib.ListN.{replicate}
+use Rattle.arrival.specs.declared.Shape.{Shape}
+use Rattle.arrival.specs.declared.Arrival.{Arrival}
+use Rattle.arrival.specs.declared.Action.{Action}
+use Rattle.arrival.specs.declared.Action.the-variants.{Enqueue, Dequeue, Step}
+use Rattle.arrival.specs.declared.Response.{Response}
+use Rattle.arrival.specs.declared.Response.the-variants.{Opened, Begun, On, Stored, Took, Empty, Refused}
+use Rattle.arrival.specs.Keys.{lower, bucketOf}
+use Rattle.arrival.specs.Energy.{energyOf}
+use Rattle.calendar.specs.rules.Layout.{address, read, write, current, currentWord, layout}
+use Rattle.laws.specs.Every.{every}
+use Rattle.calendar.specs.rules.Ranges.{blank, storeInRange, tableInRange}
+use Rattle.calendar.specs.rules.Reclaim.{isFree, firstFreeOf, firstFree}
+use Rattle.calendar.specs.rules.Opening.{wordsFrom, openStore, openTable}
+use Rattle.calendar.specs.rules.Starts.{enqueueStart, dequeueStart}
+use Rattle.calendar.specs.rules.SearchSteps.{found, settle, step-1, step-2, step-3}
+use Rattle.calendar.specs.rules.EnqueueSteps.{step-4, step-5, step-6, step-7}
+use Rattle.calendar.specs.rules.DequeueSteps.{walk, step-8, step-9, step-10, step-11, step-12, step-13}
+use Rattle.calendar.specs.rules.Steps.{no-step, step}
+use Rattle.calendar.specs.rules.Refusals.{openRefusal, enqueueRefusal, dequeueRefusal, stepRefusal}
+use Rattle.calendar.specs.rules.Operations.{Memory, open-pool, act, run, responses}
+
+-- A case: a history after an opening, the responses that it gets, and current's bucket and epoch at its end.
+pub record Case : Type 0 where
+  pub shape : Shape
+  pub history : List Action
+  pub gives : List Response
+  pub bucket : ℕ
+  pub epoch : ℕ
+
+unfoldable pub two-workers : Shape
+two-workers = record { workers = 2; nodes = 4; buckets = 2; width = 10 }
+
+four-workers : Shape
+four-workers = record { workers = 4; nodes = 4; buckets = 2; width = 10 }
+
+-- an arrival by time and distance
+unfoldable pub arrival : ℕ → ℕ → Arrival
+arrival time distance = record { time = time; path = 7; order = 1; distance = distance }
+
+unfoldable pub turns : ℕ → ℕ → List Action
+turns i k = replicate k (Step i)
+
+ons : ℕ → List Response
+ons k = replicate k On
+
+-- a put of worker i and k turns; the responses of a put that is call c: begun, k times on, stored; a take and k turns
+unfoldable pub put : ℕ → Arrival → ℕ → List Action
+put i a k = Enqueue i a ∷ turns i k
+
+stored : ℕ → ℕ → List Response
+stored c k = Begun c ∷ (ons k ++ (Stored c ∷ []))
+
+unfoldable pub take : ℕ → ℕ → List Action
+take i k = Dequeue i ∷ turns i k
+
+pub table : List Case
+table =
+    -- fresh, take: 5 turns, empty, current (1, 0)
+    record { shape = two-workers; history = take 0 5; gives = Begun 1 ∷ (ons 4 ++ (Empty ∷ [])); bucket = 1; epoch = 0 }
+    -- then put at 5: 5 turns, current (0, 1)
+    ∷ record { shape = two-workers; history = take 0 5 ++ put 1 (arrival 5 3) 5; gives = (Begun 1 ∷ (ons 4 ++ (Empty ∷ []))) ++ stored 2 4; bucket = 0; epoch = 1 }
+    -- fresh, put at 15: 4 turns
+    ∷ record { shape = two-workers; history = put 0 (arrival 15 3) 4; gives = stored 1 3; bucket = 0; epoch = 0 }
+    -- fresh, put at 5: 5 turns
+    ∷ record { shape = two-workers; history = put 0 (arrival 5 3) 5; gives = stored 1 4; bucket = 0; epoch = 1 }
+    -- then take: 7 turns, gives 5
+    ∷ record { shape = two-workers; history = put 0 (arrival 5 3) 5 ++ take 0 7; gives = stored 1 4 ++ (Begun 2 ∷ (ons 6 ++ (Took 5 7 1 3 1864135 ∷ []))); bucket = 0; epoch = 1 }
+    -- time 19 begins, 20 is 6
+    ∷ record { shape = two-workers; history = Enqueue 0 (arrival 19 3) ∷ []; gives = Begun 1 ∷ []; bucket = 0; epoch = 0 }
+    ∷ record { shape = two-workers; history = Enqueue 0 (arrival 20 3) ∷ []; gives = Refused 6 ∷ []; bucket = 0; epoch = 0 }
+    -- four puts begin on four workers, a fifth call on a busy worker is 9
+    ∷ record {
+      shape = four-workers;
+      history = Enqueue 0 (arrival 1 3) ∷ Enqueue 1 (arrival 2 3) ∷ Enqueue 2 (arrival 3 3) ∷ Enqueue 3 (arrival 4 3) ∷ Dequeue 2 ∷ [];
+      gives = Begun 1 ∷ Begun 2 ∷ Begun 3 ∷ Begun 4 ∷ Refused 9 ∷ [];
+      bucket = 0;
+      epoch = 0;
+    }
+    -- with four stored, a put is 12
+    ∷ record {
+      shape = four-workers;
+      history = put 0 (arrival 15 3) 4 ++ put 1 (arrival 14 3) 5 ++ put 2 (arrival 13 3) 5 ++ put 3 (arrival 12 3) 5 ++ (Enqueue 0 (arrival 11 3) ∷ []);
+      gives = stored 1 3 ++ stored 2 4 ++ stored 3 4 ++ stored 4 4 ++ (Refused 12 ∷ []);
+      bucket = 0;
+      epoch = 0;
+    }
+    ∷ record {
+      shape = two-workers;
+      history = put 0 (arrival 15 3) 4 ++ put 1 (arrival 14 3) 5 ++ put 0 (arrival 13 3) 5 ++ put 1 (arrival 12 3) 5 ++ (Enqueue 0 (arrival 11 3) ∷ []);
+      gives = stored 1 3 ++ stored 2 4 ++ stored 3 4 ++ stored 4 4 ++ (Refused 12 ∷ []);
+      bucket = 0;
+      epoch = 0;
+    }
+    -- distance 1 gives 16,777,216, 5 gives 671,088, 1,024 gives 16
+    ∷ record { shape = two-workers; history = put 0 (arrival 5 1) 5 ++ take 0 7; gives = stored 1 4 ++ (Begun 2 ∷ (ons 6 ++ (Took 5 7 1 1 16777216 ∷ []))); bucket = 0; epoch = 1 }
+    ∷ record { shape = two-workers; history = put 0 (arrival 5 5) 5 ++ take 0 7; gives = stored 1 4 ++ (Begun 2 ∷ (ons 6 ++ (Took 5 7 1 5 671088 ∷ []))); bucket = 0; epoch = 1 }
+    ∷ record { shape = two-workers; history = put 0 (arrival 5 1024) 5 ++ take 0 7; gives = stored 1 4 ++ (Begun 2 ∷ (ons 6 ++ (Took 5 7 1 1024 16 ∷ []))); bucket = 0; epoch = 1 }
+    ∷ []
+
+-- memory as it is lent, with something in it and more of it than the shape needs
+unfoldable pub lent : Memory
+lent = record { store = replicate 40 9; table = replicate 5 (record { stage = 3; kind = 1; own = 9; bucket = 9; left = 9; right = 9; seen = 9; current = 9; ticket = 9 }) }
+
+pub Holds : Case → Type 0
+Holds c = let m = open-pool (c .shape) lent .memory in
+    (open-pool (c .shape) lent .response ≡ Opened)
+    × (responses (c .shape) m (c .history) ≡ c .gives)
+    × (current (c .shape) (run (c .shape) m (c .history) .store) ≡ currentWord (c .bucket) (c .epoch))
+
+pub All : List Case → Type 0
+All [] = Unit {0}
+All (c ∷ cs) = Holds c × All cs
+
+pub starred-cases : All table
+unfolding All Holds table lent two-workers four-workers arrival turns ons put stored take address read write every blank storeInRange tableInRange isFree firstFreeOf firstFree wordsFrom openStore openTable enqueueStart dequeueStart found settle step-1 step-2 step-3 step-4 step-5 step-6 step-7 walk step-8 step-9 step-10 step-11 step-12 step-13 no-step step openRefusal enqueueRefusal dequeueRefusal stepRefusal open-pool act run responses lower bucketOf energyOf
+starred-cases =
+    ((refl, refl, refl), ((refl, refl, refl), ((refl, refl, refl), ((refl, refl, refl), ((refl, refl, refl), ((refl, refl, refl), ((refl, refl, refl), ((refl, refl, refl), ((refl, refl, refl), ((refl, refl, refl), ((refl, refl, refl), ((refl, refl, refl), ((refl, refl, refl), tt)))))))))))))
+
+-- Every word after an arrival was put and taken: current (0, 1), two calls, node 0 handed out and retired when two calls had
+-- started, its item and its marked link as they were.
+pub words-after : run two-workers (open-pool two-workers lent .memory) (put 0 (arrival 5 3) 5 ++ take 0 7) .store
+    ≡ 1 ∷ 2 ∷ 0 ∷ 8 ∷ 8 ∷ 9 ∷ 5 ∷ 1 ∷ 7 ∷ 1 ∷ 3 ∷ 0 ∷ 4 ∷ (replicate 24 0 ++ (9 ∷ 9 ∷ 9 ∷ []))
+unfolding lent two-workers arrival turns put take address read write every blank storeInRange tableInRange isFree firstFreeOf firstFree wordsFrom openStore openTable enqueueStart dequeueStart found settle step-1 step-2 step-3 step-4 step-5 step-6 step-7 walk step-8 step-9 step-10 step-11 step-12 step-13 no-step step openRefusal enqueueRefusal dequeueRefusal stepRefusal open-pool act run lower bucketOf energyOf
+words-after = refl

@@ -1,0 +1,157 @@
+-- What no operation changes: a refused one changes nothing; words beyond the layout, records beyond the workers and the
+-- records of other workers stay; lengths stay. Assumes nothing.
+use mathlib.Core.Path.{_≡_, refl, sym, ap, _∙_, subst}
+use mathlib.Core.List.{List, [], _∷_, _++_}
+use mathlib.Core.Bool.{Bool, true, false, cond}
+use mathlib.Core.Logic.{_≢_}
+use Prim.Native.Nat.{ℕ, zero, suc, _+_, _≤_, _<_}
+use native.Mathlib.Omega.{arith}
+use lib.Dec.{eqb}
+use lib.ListN.{length, set, drop, getD, replicate, length-set, length-append, length-drop, length-replicate}
+use lib.Seq.{drop-set-lt, drop-at, getD-set-other}
+use borrow.Author.Tests.{eqb-true, eqb-false}
+use Rattle.arrival.specs.declared.Shape.{Shape}
+use Rattle.arrival.specs.declared.Arrival.{Arrival}
+use Rattle.arrival.specs.declared.Worker.{Worker}
+use Rattle.arrival.specs.declared.Action.{Action}
+use Rattle.arrival.specs.declared.Action.the-variants.{Enqueue, Dequeue, Step}
+use Rattle.arrival.specs.declared.Response.{Response}
+use Rattle.arrival.specs.declared.Response.the-variants.{Opened, Refused}
+use Rattle.arrival.specs.Responses.{said}
+use Rattle.calendar.specs.rules.Layout.{Write, _≔_, write, writeAll, layout, address}
+use Rattle.calendar.specs.rules.Ranges.{blank, worker}
+use Rattle.calendar.specs.rules.Opening.{openWord, wordsFrom, openStore, openTable}
+use Rattle.calendar.specs.rules.Reclaim.{firstFree}
+use Rattle.calendar.specs.facts.FirstFree.{first-free-node}
+use Rattle.calendar.specs.rules.Outcome.{Outcome}
+use Rattle.calendar.specs.rules.Starts.{enqueueStart, dequeueStart}
+use Rattle.calendar.specs.rules.Refusals.{openRefusal}
+use Rattle.calendar.specs.facts.Accepted.{Lent, open-accepted, enqueue-accepted, dequeue-accepted, step-accepted}
+use Rattle.calendar.specs.facts.Views.{AllInside}
+use Rattle.calendar.specs.facts.Changes.{step-is}
+use Rattle.calendar.specs.facts.Inside.{enqueue-inside, dequeue-inside, change-inside, change-said, length-writeAll}
+use Rattle.calendar.specs.rules.Operations.{Memory, Result, unless, perform, open-pool, actor, refusal, outcome, act, run}
+
+-- ── a refused operation ──
+-- A refusal as response: the memory is as it was.
+refused : (k n : ℕ) (m : Memory) (r : Result) → (k ≡ 0 → said (r .response) .number ≡ 0) → unless k m r .response ≡ Refused (suc n) → unless k m r .memory ≡ m
+refused k n m r ok e = go (eqb k 0) refl e
+  where
+    go : (t : Bool) → eqb k 0 ≡ t → cond t r (record { memory = m; response = Refused k }) .response ≡ Refused (suc n) → cond t r (record { memory = m; response = Refused k }) .memory ≡ m
+    go true q e = absurd (omega (arith, ok (eqb-true k 0 q), ap (λ (x : Response). said x .number) e))
+    go false q e = refl
+
+pub outcome-said : (sh : Shape) (m : Memory) (a : Action) → refusal sh m a ≡ 0 → said (outcome sh m a .response) .number ≡ 0
+unfolding enqueueStart dequeueStart
+outcome-said sh m (Enqueue i a) e = refl
+outcome-said sh m (Dequeue i) e = refl
+outcome-said sh m (Step i) e =
+    let A = step-accepted sh (m .store) (m .table) i e in
+    change-said sh (m .store) (step-is sh (m .store) (worker (m .table) i) (A .busy) (A .usable .table i (A .usable .exists) .stage))
+
+pub act-refused-untouched : (sh : Shape) (m : Memory) (a : Action) (n : ℕ) → act sh m a .response ≡ Refused (suc n) → act sh m a .memory ≡ m
+unfolding act
+act-refused-untouched sh m a n e = refused (refusal sh m a) n m (perform sh m (actor a) (outcome sh m a)) (outcome-said sh m a) e
+
+pub open-refused-untouched : (sh : Shape) (m : Memory) (n : ℕ) → open-pool sh m .response ≡ Refused (suc n) → open-pool sh m .memory ≡ m
+unfolding open-pool
+open-refused-untouched sh m n e = refused (openRefusal sh (m .store) (m .table)) n m (record { memory = record { store = openStore sh (m .store); table = openTable sh (m .table) }; response = Opened }) (λ q. refl) e
+
+-- ── lengths, and what lies beyond ──
+pub record SameSize (m m′ : Memory) : Type 0 where
+  pub store : length (m′ .store) ≡ length (m .store)
+  pub table : length (m′ .table) ≡ length (m .table)
+
+pub record SameBeyond (sh : Shape) (m m′ : Memory) : Type 0 where
+  pub store : drop (layout sh) (m′ .store) ≡ drop (layout sh) (m .store)
+  pub table : drop (sh .workers) (m′ .table) ≡ drop (sh .workers) (m .table)
+
+-- an operation that keeps both unless it is refused keeps both
+by-refusal : (P : Memory → Type 0) (k : ℕ) (m : Memory) (r : Result) → P m → (k ≡ 0 → P (r .memory)) → P (unless k m r .memory)
+by-refusal P k m r same h = go (eqb k 0) refl
+  where
+    go : (t : Bool) → eqb k 0 ≡ t → P (cond t r (record { memory = m; response = Refused k }) .memory)
+    go true e = h (eqb-true k 0 e)
+    go false e = same
+
+writeAll-beyond : (sh : Shape) (s : List ℕ) (ws : List Write) → AllInside sh ws → drop (layout sh) (writeAll sh s ws) ≡ drop (layout sh) s
+unfolding write
+writeAll-beyond sh s [] h = refl
+writeAll-beyond sh s ((p ≔ v) ∷ ws) h = writeAll-beyond sh (write sh s p v) ws (h .2) ∙ drop-set-lt (layout sh) s (address sh p) v (h .1)
+
+perform-size : (sh : Shape) (m : Memory) (i : ℕ) (o : Outcome) → SameSize m (perform sh m i o .memory)
+perform-size sh m i o = record { store = length-writeAll sh (m .store) (o .writes); table = length-set (m .table) i (o .worker) }
+
+perform-beyond : (sh : Shape) (m : Memory) (i : ℕ) (o : Outcome) → i < sh .workers → AllInside sh (o .writes) → SameBeyond sh m (perform sh m i o .memory)
+perform-beyond sh m i o l h = record { store = writeAll-beyond sh (m .store) (o .writes) h; table = drop-set-lt (sh .workers) (m .table) i (o .worker) l }
+
+pub act-same-size : (sh : Shape) (m : Memory) (a : Action) → SameSize m (act sh m a .memory)
+unfolding act
+act-same-size sh m a =
+    by-refusal (SameSize m) (refusal sh m a) m (perform sh m (actor a) (outcome sh m a)) (record { store = refl; table = refl }) (λ e. perform-size sh m (actor a) (outcome sh m a))
+
+-- an accepted action acts for a worker of the shape, and writes inside the layout
+pub outcome-inside : (sh : Shape) (m : Memory) (a : Action) → refusal sh m a ≡ 0 → (actor a < sh .workers) × AllInside sh (outcome sh m a .writes)
+outcome-inside sh m (Enqueue i a) e =
+    let A = enqueue-accepted sh (m .store) (m .table) i a e in
+    (A .usable .exists, enqueue-inside sh (m .store) (firstFree sh (m .store) (m .table)) a (worker (m .table) i) (first-free-node sh (m .store) (m .table) (A .usable .store .last) (A .node)))
+outcome-inside sh m (Dequeue i) e = (dequeue-accepted sh (m .store) (m .table) i e .usable .exists, dequeue-inside sh (m .store) (worker (m .table) i))
+outcome-inside sh m (Step i) e =
+    let A = step-accepted sh (m .store) (m .table) i e in
+    let r = A .usable .table i (A .usable .exists) in
+    (A .usable .exists, change-inside sh (m .store) (worker (m .table) i) r (step-is sh (m .store) (worker (m .table) i) (A .busy) (r .stage)))
+
+pub act-same-beyond : (sh : Shape) (m : Memory) (a : Action) → SameBeyond sh m (act sh m a .memory)
+unfolding act
+act-same-beyond sh m a =
+    by-refusal (SameBeyond sh m) (refusal sh m a) m (perform sh m (actor a) (outcome sh m a)) (record { store = refl; table = refl })
+    (λ e. let (l, h) = outcome-inside sh m a e in perform-beyond sh m (actor a) (outcome sh m a) l h)
+
+-- ── the records of other workers ──
+pub others-untouched : (sh : Shape) (m : Memory) (a : Action) (j : ℕ) → j ≢ actor a → worker (act sh m a .memory .table) j ≡ worker (m .table) j
+unfolding act
+others-untouched sh m a j h =
+    by-refusal (λ n. worker (n .table) j ≡ worker (m .table) j) (refusal sh m a) m (perform sh m (actor a) (outcome sh m a)) refl
+    (λ e. getD-set-other (m .table) (actor a) j (outcome sh m a .worker) blank h)
+
+-- ── the opening ──
+length-words : (g : ℕ → ℕ) (i n : ℕ) → length (wordsFrom g i n) ≡ n
+unfolding wordsFrom
+length-words g i zero = refl
+length-words g i (suc n) = ap suc (length-words g (suc i) n)
+
+pub open-same-size : (sh : Shape) (m : Memory) → SameSize m (open-pool sh m .memory)
+unfolding open-pool openStore openTable
+open-same-size sh m =
+    by-refusal (SameSize m) (openRefusal sh (m .store) (m .table)) m _ (record { store = refl; table = refl })
+    (λ e. let A = open-accepted sh (m .store) (m .table) e in
+    record {
+      store = length-append (wordsFrom (openWord sh) 0 (layout sh)) (drop (layout sh) (m .store)) ∙ omega (arith, length-words (openWord sh) 0 (layout sh), length-drop (layout sh) (m .store), A .store);
+      table = length-append (replicate (sh .workers) blank) (drop (sh .workers) (m .table)) ∙ omega (arith, length-replicate (sh .workers) blank, length-drop (sh .workers) (m .table), A .table);
+    })
+
+pub open-same-beyond : (sh : Shape) (m : Memory) → SameBeyond sh m (open-pool sh m .memory)
+unfolding open-pool openStore openTable
+open-same-beyond sh m =
+    by-refusal (SameBeyond sh m) (openRefusal sh (m .store) (m .table)) m _ (record { store = refl; table = refl })
+    (λ e. record {
+      store = drop-at (wordsFrom (openWord sh) 0 (layout sh)) (drop (layout sh) (m .store)) (layout sh) (length-words (openWord sh) 0 (layout sh));
+      table = drop-at (replicate (sh .workers) blank) (drop (sh .workers) (m .table)) (sh .workers) (length-replicate (sh .workers) blank);
+    })
+
+-- ── along a history ──
+pub run-same-size : (sh : Shape) (m : Memory) (h : List Action) → SameSize m (run sh m h)
+unfolding run
+run-same-size sh m [] = record { store = refl; table = refl }
+run-same-size sh m (a ∷ h) =
+    let x = act-same-size sh m a in
+    let y = run-same-size sh (act sh m a .memory) h in
+    record { store = y .store ∙ x .store; table = y .table ∙ x .table }
+
+pub run-same-beyond : (sh : Shape) (m : Memory) (h : List Action) → SameBeyond sh m (run sh m h)
+unfolding run
+run-same-beyond sh m [] = record { store = refl; table = refl }
+run-same-beyond sh m (a ∷ h) =
+    let x = act-same-beyond sh m a in
+    let y = run-same-beyond sh (act sh m a .memory) h in
+    record { store = y .store ∙ x .store; table = y .table ∙ x .table }

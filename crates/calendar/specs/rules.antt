@@ -1,0 +1,15 @@
+pub mod Layout
+pub mod Ranges
+pub mod Reclaim
+pub mod Opening
+pub mod Outcome
+pub mod Starts
+pub mod SearchSteps
+pub mod EnqueueSteps
+pub mod DequeueSteps
+pub mod Steps
+pub mod Refusals
+pub mod Operations
+pub mod Ledger
+pub mod Snapshot
+pub mod Linearizability

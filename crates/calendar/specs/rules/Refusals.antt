@@ -1,0 +1,111 @@
+-- The refusals by number, and which of them each operation gets. Assumes nothing.
+use mathlib.Core.List.{List, [], _∷_}
+use mathlib.Core.Bool.{Bool, cond, not, _&&_, _||_}
+use Prim.Native.Nat.{ℕ, _*_}
+use lib.Dec.{eqb, leb, ltb}
+use lib.ListN.{length}
+use Rattle.arrival.specs.declared.Shape.{Shape}
+use Rattle.arrival.specs.declared.Arrival.{Arrival}
+use Rattle.arrival.specs.declared.Worker.{Worker}
+use Rattle.calendar.specs.rules.Layout.{layout, started, epochIn}
+use Rattle.calendar.specs.rules.Ranges.{shapeInRange, pathInRange, orderInRange, distanceInRange, storeInRange, tableInRange, worker}
+use Rattle.calendar.specs.rules.Reclaim.{inProgress, firstFree}
+use Rattle.calendar.specs.rules.EnqueueSteps.{currentHolds}
+
+-- 1: shape outside its limits
+abbrev pub badShape : Shape → Bool
+badShape sh = not (shapeInRange sh)
+
+-- 2: store or worker table too short
+abbrev pub tooShort : Shape → List ℕ → List Worker → Bool
+tooShort sh s t = ltb (length s) (layout sh) || ltb (length t) (sh .workers)
+
+-- 3: a field of the lent store or table out of range
+abbrev pub outOfRange : Shape → List ℕ → List Worker → Bool
+outOfRange sh s t = not (storeInRange sh s && tableInRange sh t)
+
+-- 4: no such worker
+abbrev pub noWorker : Shape → ℕ → Bool
+noWorker sh i = leb (sh .workers) i
+
+-- 5: path, order or distance out of range
+abbrev pub badArrival : Arrival → Bool
+badArrival a = not (pathInRange (a .path) && orderInRange (a .order) && distanceInRange (a .distance))
+
+-- 6: time past the last bucket
+abbrev pub tooLate : Shape → Arrival → Bool
+tooLate sh a = leb (sh .buckets * sh .width) (a .time)
+
+-- 9: start on a worker with a call in progress
+abbrev pub busy : Worker → Bool
+busy w = inProgress w
+
+-- 10: turn on an idle worker
+abbrev pub idle : Worker → Bool
+idle w = not (inProgress w)
+
+-- 11: word 1 is 2^32 − 1 at a start, or the epoch is 2^32 − 1 at a successful swap of stage 7
+abbrev pub noTicket : Shape → List ℕ → Bool
+noTicket sh s = eqb (started sh s) 4294967295
+
+abbrev pub noEpoch : Shape → List ℕ → Worker → Bool
+noEpoch sh s w = eqb (w .stage) 7 && currentHolds sh s w && eqb (epochIn (w .current)) 4294967295
+
+-- 12: a put with no free node
+abbrev pub noNode : Shape → List ℕ → List Worker → Bool
+noNode sh s t = eqb (firstFree sh s t) (sh .nodes)
+
+-- the first number of a list whose test applies, 0 where none does
+abbrev pub firstOf : List (ℕ × Bool) → ℕ
+firstOf [] = 0
+firstOf (x ∷ xs) = cond (x .1) (x .0) (firstOf xs)
+
+-- Which refusals an operation can get.
+abbrev pub openTests : Shape → List ℕ → List Worker → List (ℕ × Bool)
+openTests sh s t = (1, badShape sh) ∷ (2, tooShort sh s t) ∷ []
+
+abbrev pub enqueueTests : Shape → List ℕ → List Worker → ℕ → Arrival → List (ℕ × Bool)
+enqueueTests sh s t i a =
+    (1, badShape sh)
+    ∷ (2, tooShort sh s t)
+    ∷ (3, outOfRange sh s t)
+    ∷ (4, noWorker sh i)
+    ∷ (5, badArrival a)
+    ∷ (6, tooLate sh a)
+    ∷ (9, busy (worker t i))
+    ∷ (11, noTicket sh s)
+    ∷ (12, noNode sh s t)
+    ∷ []
+
+abbrev pub dequeueTests : Shape → List ℕ → List Worker → ℕ → List (ℕ × Bool)
+dequeueTests sh s t i =
+    (1, badShape sh)
+    ∷ (2, tooShort sh s t)
+    ∷ (3, outOfRange sh s t)
+    ∷ (4, noWorker sh i)
+    ∷ (9, busy (worker t i))
+    ∷ (11, noTicket sh s)
+    ∷ []
+
+abbrev pub stepTests : Shape → List ℕ → List Worker → ℕ → List (ℕ × Bool)
+stepTests sh s t i =
+    (1, badShape sh)
+    ∷ (2, tooShort sh s t)
+    ∷ (3, outOfRange sh s t)
+    ∷ (4, noWorker sh i)
+    ∷ (10, idle (worker t i))
+    ∷ (11, noEpoch sh s (worker t i))
+    ∷ []
+
+-- The lowest number that applies is the answer.
+unfoldable pub openRefusal : Shape → List ℕ → List Worker → ℕ
+openRefusal sh s t = firstOf (openTests sh s t)
+
+unfoldable pub enqueueRefusal : Shape → List ℕ → List Worker → ℕ → Arrival → ℕ
+enqueueRefusal sh s t i a = firstOf (enqueueTests sh s t i a)
+
+unfoldable pub dequeueRefusal : Shape → List ℕ → List Worker → ℕ → ℕ
+dequeueRefusal sh s t i = firstOf (dequeueTests sh s t i)
+
+unfoldable pub stepRefusal : Shape → List ℕ → List Worker → ℕ → ℕ
+stepRefusal sh s t i = firstOf (stepTests sh s t i)

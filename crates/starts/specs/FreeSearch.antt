@@ -1,0 +1,64 @@
+-- The first free node, found by the least ticket in progress. Assumes nothing.
+use mathlib.Core.Path.{_≡_, refl, _∙_}
+use mathlib.Core.List.{List}
+use mathlib.Core.Bool.{Bool, true, false, cond}
+use Prim.Native.Nat.{ℕ, zero, suc, _+_, _-_, _<_}
+use native.Mathlib.Omega.{arith}
+use lib.Dec.{ltb}
+use borrow.Author.Tests.{ltb-true}
+use Rattle.arrival.specs.declared.Shape.{Shape}
+use Rattle.arrival.specs.declared.Worker.{Worker}
+use Rattle.calendar.specs.rules.Layout.{field, read, lastNode, standing}
+use Rattle.calendar.specs.facts.Views.{view}
+use Rattle.calendar.specs.facts.RangeFacts.{StoreRanges}
+use Rattle.calendar.specs.rules.Reclaim.{nodeAfter, firstFreeOf, firstFree}
+use Rattle.starts.specs.LeastTicket.{leastTicket, freeBelow, free-is}
+
+-- the first free one of the k nodes that follow n; `nodes` where none is
+unfoldable pub freeOfBelow : Shape → List ℕ → ℕ → ℕ → ℕ → ℕ
+freeOfBelow sh s low zero n = sh .nodes
+freeOfBelow sh s low (suc k) n =
+    cond (freeBelow low (standing sh s (nodeAfter sh n))) (nodeAfter sh n) (freeOfBelow sh s low k (nodeAfter sh n))
+
+unfoldable pub firstFreeBelow : Shape → List ℕ → ℕ → ℕ
+firstFreeBelow sh s low = freeOfBelow sh s low (sh .nodes) (lastNode sh s)
+
+pub after-below : (sh : Shape) (n : ℕ) → n < sh .nodes → nodeAfter sh n < sh .nodes
+after-below sh n h = go (ltb (n + 1) (sh .nodes)) refl
+  where
+    go : (t : Bool) → ltb (n + 1) (sh .nodes) ≡ t → cond t (n + 1) 0 < sh .nodes
+    go true e = ltb-true _ _ e
+    go false e = omega arith
+
+pub free-none : (sh : Shape) (s : List ℕ) (low n : ℕ) → freeOfBelow sh s low 0 n ≡ sh .nodes
+unfolding freeOfBelow
+free-none sh s low n = refl
+
+-- one node on, by what the code has read: the next node m, its standing x, the test's outcome
+module _ (sh : Shape) (s : List ℕ) (low k n m x : ℕ) (t : Bool) (some : 0 < k) (here : m ≡ nodeAfter sh n) (seen : x ≡ read sh s (field 7 m)) (test : t ≡ freeBelow low x) where
+  one-on : freeOfBelow sh s low k n ≡ cond (freeBelow low (standing sh s (nodeAfter sh n))) (nodeAfter sh n) (freeOfBelow sh s low (k - 1) (nodeAfter sh n))
+  unfolding freeOfBelow
+  one-on = go k some
+    where
+      go : (k : ℕ) → 0 < k → freeOfBelow sh s low k n ≡ cond (freeBelow low (standing sh s (nodeAfter sh n))) (nodeAfter sh n) (freeOfBelow sh s low (k - 1) (nodeAfter sh n))
+      go zero h = absurd (omega arith)
+      go (suc j) h = let e : suc j - 1 ≡ j = omega arith in rw e
+
+  pub free-here : t ≡ true → freeOfBelow sh s low k n ≡ m
+  free-here e = one-on ∙ rw (← here, ← seen, ← test, e)
+
+  pub free-on : t ≡ false → freeOfBelow sh s low k n ≡ freeOfBelow sh s low (k - 1) m
+  free-on e = one-on ∙ rw (← here, ← seen, ← test, e)
+
+-- With the least ticket of the table it is the first free node.
+module _ (sh : Shape) (s : List ℕ) (t : List Worker) (ranges : StoreRanges sh (view sh s)) where
+  same-of : (k n : ℕ) → n < sh .nodes → freeOfBelow sh s (leastTicket t (sh .workers)) k n ≡ firstFreeOf sh s t k n
+  unfolding freeOfBelow firstFreeOf
+  same-of zero n h = refl
+  same-of (suc k) n h =
+      let l = after-below sh n h in
+      rw (free-is sh t (standing sh s (nodeAfter sh n)) (ranges .nodes (nodeAfter sh n) l .standing), same-of k (nodeAfter sh n) l)
+
+  pub first-free-is : firstFreeBelow sh s (leastTicket t (sh .workers)) ≡ firstFree sh s t
+  unfolding firstFreeBelow firstFree
+  first-free-is = same-of (sh .nodes) (lastNode sh s) (ranges .last)
