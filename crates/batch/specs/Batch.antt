@@ -1,4 +1,4 @@
--- A stretch of a turn file, record by record: what each record does, its line, and where it stops. Assumes nothing.
+-- A batch of a turn file, record by record: what each record does, its line, and where it stops. Assumes nothing.
 use mathlib.Core.Bool.{Bool, cond}
 use mathlib.Core.List.{List}
 use Prim.Native.Nat.{ℕ, zero, suc, _+_}
@@ -18,29 +18,29 @@ use Rattle.batch.specs.declared.Stop.{Stop}
 use Rattle.batch.specs.declared.Stop.the-variants.{Drained, Full, Halted}
 
 -- the shape so far, and the lent memory
-pub record Session : Type 0 where
+pub record Pool : Type 0 where
   pub shape : Shape
   pub memory : Memory
 
 pub record Answered : Type 0 where
-  pub session : Session
+  pub pool : Pool
   pub response : Response
 
 -- An opening sets the shape, unless it is refused.
-unfoldable pub opening : Shape → Session → Answered
+unfoldable pub opening : Shape → Pool → Answered
 opening sh x =
     let r = open-pool sh (x .memory) in
-    record { session = record { shape = cond (eqb (openRefusal sh (x .memory .store) (x .memory .table)) 0) sh (x .shape); memory = r .memory }; response = r .response }
+    record { pool = record { shape = cond (eqb (openRefusal sh (x .memory .store) (x .memory .table)) 0) sh (x .shape); memory = r .memory }; response = r .response }
 
 -- A start or turn is handed the shape so far.
-unfoldable pub acting : Action → Session → Answered
+unfoldable pub acting : Action → Pool → Answered
 acting a x =
     let r = act (x .shape) (x .memory) a in
-    record { session = record { shape = x .shape; memory = r .memory }; response = r .response }
+    record { pool = record { shape = x .shape; memory = r .memory }; response = r .response }
 
 -- `at`: the next byte to be read; `lines`: the lent buffer; `to`: where the next line goes
 pub record Progress : Type 0 where
-  pub session : Session
+  pub pool : Pool
   pub at : ℕ
   pub lines : List ℕ
   pub to : ℕ
@@ -56,23 +56,23 @@ hasRoom lines to = leb (to + 89) (length lines)
 -- the record has been answered, its line written, and the next one stands at `next`
 abbrev pub wrote : Progress → ℕ → Answered → Progress
 wrote p next a = record {
-  session = a .session;
+  pool = a .pool;
   at = next;
   lines = written (p .lines) (p .to) (lineOf (a .response));
   to = after (p .lines) (p .to) (lineOf (a .response));
 }
 
 abbrev pub onward : (Progress → Stopped) → Progress → Read → Stopped
-onward rest p (Open sh next) = rest (wrote p next (opening sh (p .session)))
-onward rest p (Act a next) = rest (wrote p next (acting a (p .session)))
+onward rest p (Open sh next) = rest (wrote p next (opening sh (p .pool)))
+onward rest p (Act a next) = rest (wrote p next (acting a (p .pool)))
 onward rest p End = record { progress = p; stop = Drained }
 onward rest p (Refused k) = record { progress = p; stop = Halted k }
 
 -- at most n records
-unfoldable pub served : ℕ → List ℕ → Progress → Stopped
-served zero bytes p = record { progress = p; stop = Drained }
-served (suc n) bytes p = cond (hasRoom (p .lines) (p .to)) (onward (served n bytes) p (recordAt bytes (p .at))) (record { progress = p; stop = Full })
+unfoldable pub worked : ℕ → List ℕ → Progress → Stopped
+worked zero bytes p = record { progress = p; stop = Drained }
+worked (suc n) bytes p = cond (hasRoom (p .lines) (p .to)) (onward (worked n bytes) p (recordAt bytes (p .at))) (record { progress = p; stop = Full })
 
--- The whole stretch: no record is empty, so there are at most as many as bytes.
-abbrev pub servedAll : List ℕ → Progress → Stopped
-servedAll bytes p = served (length bytes + 1) bytes p
+-- The whole batch: no record is empty, so there are at most as many as bytes.
+abbrev pub workedAll : List ℕ → Progress → Stopped
+workedAll bytes p = worked (length bytes + 1) bytes p

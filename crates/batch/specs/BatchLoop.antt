@@ -1,4 +1,4 @@
--- The loop over a stretch, round by round: what is still to be served is what was to be served at first. Assumes nothing.
+-- The loop over a batch, round by round: what is still to be worked is what was to be worked at first. Assumes nothing.
 use mathlib.Core.Path.{_≡_, refl, sym, ap, _∙_}
 use mathlib.Core.List.{List}
 use mathlib.Core.Bool.{Bool, true, false, cond, not}
@@ -24,7 +24,7 @@ use Rattle.turn_file.specs.Reading.{recordAt, whole}
 use Rattle.turn_file.specs.OneReading.{read-on}
 use Rattle.batch.specs.declared.Stop.the-variants.{Drained, Full, Halted}
 use Rattle.batch.specs.Held.{pastOpening, held, heldAll}
-use Rattle.batch.specs.Batch.{Session, Answered, opening, acting, Progress, Stopped, hasRoom, wrote, served, servedAll}
+use Rattle.batch.specs.Batch.{Pool, Answered, opening, acting, Progress, Stopped, hasRoom, wrote, worked, workedAll}
 use Rattle.admission.specs.Watched.{inRange, Watched, enqueue-sound, dequeue-sound, step-sound}
 use Rattle.admission.specs.Gate.{gateOf, gate-passed, usable, turn-at-3}
 
@@ -70,41 +70,41 @@ module _ (sh : Shape) (m : Memory) (i : ℕ) (sound : Bool) (watched : Watched s
 pub record Going (bytes : List ℕ) (p₀ : Progress) (h₀ : ℕ) (p : Progress) (h : ℕ) (sound : Bool) : Type 0 where
   pub left : ℕ
   pub enough : length bytes - p .at ≤ left
-  pub same : served (suc left) bytes p ≡ servedAll bytes p₀
+  pub same : worked (suc left) bytes p ≡ workedAll bytes p₀
   pub holds : held (suc left) bytes h p ≡ heldAll bytes h₀ p₀
-  pub watched : Watched (p .session .shape) (p .session .memory) sound
+  pub watched : Watched (p .pool .shape) (p .pool .memory) sound
 
-pub going : (bytes : List ℕ) (p : Progress) (h : ℕ) (sound : Bool) → Watched (p .session .shape) (p .session .memory) sound → Going bytes p h p h sound
+pub going : (bytes : List ℕ) (p : Progress) (h : ℕ) (sound : Bool) → Watched (p .pool .shape) (p .pool .memory) sound → Going bytes p h p h sound
 going bytes p h sound w = record {
   left = length bytes;
   enough = omega arith;
-  same = ap (λ (n : ℕ). served n bytes p) (omega arith);
+  same = ap (λ (n : ℕ). worked n bytes p) (omega arith);
   holds = ap (λ (n : ℕ). held n bytes h p) (omega arith);
   watched = w;
 }
 
-abbrev answer : Record → Session → Answered
+abbrev answer : Record → Pool → Answered
 answer (opens sh) x = opening sh x
 answer (acts a) x = acting a x
 
-abbrev pub holding : Record → Session → ℕ → ℕ
+abbrev pub holding : Record → Pool → ℕ → ℕ
 holding (opens sh) x h = pastOpening sh x h
 holding (acts a) x h = h
 
 module _ (bytes : List ℕ) (p₀ : Progress) (h₀ : ℕ) (p : Progress) (h : ℕ) (sound : Bool) (G : Going bytes p₀ h₀ p h sound) where
-  served-on : (n : ℕ) → hasRoom (p .lines) (p .to) ≡ true → (r : Record) (next : ℕ) → whole r next ≡ recordAt bytes (p .at) → served (suc n) bytes p ≡ served n bytes (wrote p next (answer r (p .session)))
-  unfolding served
-  served-on n room (opens sh) next e = rw (room, ← e)
-  served-on n room (acts a) next e = rw (room, ← e)
+  worked-on : (n : ℕ) → hasRoom (p .lines) (p .to) ≡ true → (r : Record) (next : ℕ) → whole r next ≡ recordAt bytes (p .at) → worked (suc n) bytes p ≡ worked n bytes (wrote p next (answer r (p .pool)))
+  unfolding worked
+  worked-on n room (opens sh) next e = rw (room, ← e)
+  worked-on n room (acts a) next e = rw (room, ← e)
 
-  held-on : (n : ℕ) → hasRoom (p .lines) (p .to) ≡ true → (r : Record) (next : ℕ) → whole r next ≡ recordAt bytes (p .at) → held (suc n) bytes h p ≡ held n bytes (holding r (p .session) h) (wrote p next (answer r (p .session)))
+  held-on : (n : ℕ) → hasRoom (p .lines) (p .to) ≡ true → (r : Record) (next : ℕ) → whole r next ≡ recordAt bytes (p .at) → held (suc n) bytes h p ≡ held n bytes (holding r (p .pool) h) (wrote p next (answer r (p .pool)))
   unfolding held
   held-on n room (opens sh) next e = rw (room, ← e)
   held-on n room (acts a) next e = rw (room, ← e)
 
   -- one record more
-  pub go-on : hasRoom (p .lines) (p .to) ≡ true → (r : Record) (next : ℕ) → whole r next ≡ recordAt bytes (p .at) → (p′ : Progress) → p′ ≡ wrote p next (answer r (p .session))
-      → (h′ : ℕ) → h′ ≡ holding r (p .session) h → (sound′ : Bool) → Watched (p′ .session .shape) (p′ .session .memory) sound′ → Going bytes p₀ h₀ p′ h′ sound′
+  pub go-on : hasRoom (p .lines) (p .to) ≡ true → (r : Record) (next : ℕ) → whole r next ≡ recordAt bytes (p .at) → (p′ : Progress) → p′ ≡ wrote p next (answer r (p .pool))
+      → (h′ : ℕ) → h′ ≡ holding r (p .pool) h → (sound′ : Bool) → Watched (p′ .pool .shape) (p′ .pool .memory) sound′ → Going bytes p₀ h₀ p′ h′ sound′
   go-on room r next e p′ is h′ holds sound′ w = go (G .left) (G .enough) (G .same) (G .holds)
     where
       on : (p .at < next) × (next ≤ length bytes)
@@ -113,32 +113,32 @@ module _ (bytes : List ℕ) (p₀ : Progress) (h₀ : ℕ) (p : Progress) (h : �
       there : p′ .at ≡ next
       there = ap (λ (q : Progress). q .at) is
 
-      go : (left : ℕ) → length bytes - p .at ≤ left → served (suc left) bytes p ≡ servedAll bytes p₀ → held (suc left) bytes h p ≡ heldAll bytes h₀ p₀ → Going bytes p₀ h₀ p′ h′ sound′
+      go : (left : ℕ) → length bytes - p .at ≤ left → worked (suc left) bytes p ≡ workedAll bytes p₀ → held (suc left) bytes h p ≡ heldAll bytes h₀ p₀ → Going bytes p₀ h₀ p′ h′ sound′
       go zero b s k = absurd (omega (arith, on .0, on .1))
       go (suc left) b s k = record {
         left = left;
         enough = omega (arith, on .0, on .1, there);
-        same = ap (served (suc left) bytes) is ∙ sym (served-on (suc left) room r next e) ∙ s;
-        holds = ap (held (suc left) bytes h′) is ∙ ap (λ (i : ℕ). held (suc left) bytes i (wrote p next (answer r (p .session)))) holds ∙ sym (held-on (suc left) room r next e) ∙ k;
+        same = ap (worked (suc left) bytes) is ∙ sym (worked-on (suc left) room r next e) ∙ s;
+        holds = ap (held (suc left) bytes h′) is ∙ ap (λ (i : ℕ). held (suc left) bytes i (wrote p next (answer r (p .pool)))) holds ∙ sym (held-on (suc left) room r next e) ∙ k;
         watched = w;
       }
 
   -- the ends
-  from : (stopped : Stopped) → ((n : ℕ) → stopped ≡ served (suc n) bytes p) → ((n : ℕ) → h ≡ held (suc n) bytes h p) → (stopped ≡ servedAll bytes p₀) × (h ≡ heldAll bytes h₀ p₀)
+  from : (stopped : Stopped) → ((n : ℕ) → stopped ≡ worked (suc n) bytes p) → ((n : ℕ) → h ≡ held (suc n) bytes h p) → (stopped ≡ workedAll bytes p₀) × (h ≡ heldAll bytes h₀ p₀)
   from stopped f g = (f (G .left) ∙ G .same, g (G .left) ∙ G .holds)
 
-  pub drained : hasRoom (p .lines) (p .to) ≡ true → End ≡ recordAt bytes (p .at) → (record { progress = p; stop = Drained } ≡ servedAll bytes p₀) × (h ≡ heldAll bytes h₀ p₀)
-  unfolding served held
+  pub drained : hasRoom (p .lines) (p .to) ≡ true → End ≡ recordAt bytes (p .at) → (record { progress = p; stop = Drained } ≡ workedAll bytes p₀) × (h ≡ heldAll bytes h₀ p₀)
+  unfolding worked held
   drained room e = from _ (λ n. rw (room, ← e)) (λ n. rw (room, ← e))
 
-  pub halted : hasRoom (p .lines) (p .to) ≡ true → (k : ℕ) → Refused k ≡ recordAt bytes (p .at) → (record { progress = p; stop = Halted k } ≡ servedAll bytes p₀) × (h ≡ heldAll bytes h₀ p₀)
-  unfolding served held
+  pub halted : hasRoom (p .lines) (p .to) ≡ true → (k : ℕ) → Refused k ≡ recordAt bytes (p .at) → (record { progress = p; stop = Halted k } ≡ workedAll bytes p₀) × (h ≡ heldAll bytes h₀ p₀)
+  unfolding worked held
   halted room k e = from _ (λ n. rw (room, ← e)) (λ n. rw (room, ← e))
 
-  pub full : hasRoom (p .lines) (p .to) ≡ false → (record { progress = p; stop = Full } ≡ servedAll bytes p₀) × (h ≡ heldAll bytes h₀ p₀)
-  unfolding served held
+  pub full : hasRoom (p .lines) (p .to) ≡ false → (record { progress = p; stop = Full } ≡ workedAll bytes p₀) × (h ≡ heldAll bytes h₀ p₀)
+  unfolding worked held
   full none = from _ (λ n. rw none) (λ n. rw none)
 
 -- the loop's own values as a progress
 abbrev pub at-work : Shape → List ℕ → List Worker → ℕ → List ℕ → ℕ → Progress
-at-work sh s t at lines to = record { session = record { shape = sh; memory = record { store = s; table = t } }; at = at; lines = lines; to = to }
+at-work sh s t at lines to = record { pool = record { shape = sh; memory = record { store = s; table = t } }; at = at; lines = lines; to = to }

@@ -1,4 +1,4 @@
--- A desk's array has 64 records, of which only the first are lent: what is done within them is the same seen from both. Assumes nothing.
+-- A pool's array has 64 records, of which only the first are lent: what is done within them is the same seen from both. Assumes nothing.
 use mathlib.Core.Path.{_≡_, refl, ap}
 use mathlib.Core.List.{List, [], _∷_, _++_}
 use Prim.Native.Nat.{ℕ, zero, suc, _≤_}

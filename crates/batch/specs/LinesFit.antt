@@ -1,4 +1,4 @@
--- On any memory every answer's line fits the room that a stretch asks for: its values are in range, or it is a refusal. Assumes nothing.
+-- On any memory every answer's line fits the room that a batch asks for: its values are in range, or it is a refusal. Assumes nothing.
 use mathlib.Core.Path.{_≡_, refl}
 use mathlib.Core.List.{List, [], _∷_}
 use mathlib.Core.Bool.{Bool, true, false, cond}
@@ -25,7 +25,7 @@ use Rattle.calendar.specs.rules.Refusals.{openTests, enqueueTests, dequeueTests
 use Rattle.calendar.specs.rules.Operations.{Memory, Result, unless, open-pool, refusal, outcome, act}
 use borrow.Author.Tests.{eqb-true}
 use Rattle.turn_file.specs.Lines.{lineOf, Words, line-most}
-use Rattle.batch.specs.Batch.{Session, opening, acting}
+use Rattle.batch.specs.Batch.{Pool, opening, acting}
 
 -- ── values ──
 energy-word : (d : ℕ) → energyOf d < 2 ^ 64
@@ -118,10 +118,10 @@ either-words k m r low h = go (eqb k 0) refl
     go true e = h (eqb-true k 0 e)
     go false e = omega arith
 
-pub opening-fits : (sh : Shape) (x : Session) → length (lineOf (opening sh x .response)) ≤ 89
+pub opening-fits : (sh : Shape) (x : Pool) → length (lineOf (opening sh x .response)) ≤ 89
 unfolding opening open-pool
 opening-fits sh x = line-most _ (either-words (openRefusal sh (x .memory .store) (x .memory .table)) (x .memory) _ (open-low sh (x .memory)) (λ e. tt))
 
-pub acting-fits : (a : Action) (x : Session) → length (lineOf (acting a x .response)) ≤ 89
+pub acting-fits : (a : Action) (x : Pool) → length (lineOf (acting a x .response)) ≤ 89
 unfolding acting act
 acting-fits a x = line-most _ (either-words (refusal (x .shape) (x .memory) a) (x .memory) _ (act-low (x .shape) (x .memory) a) (outcome-words (x .shape) (x .memory) a))

@@ -1,4 +1,4 @@
--- A stretch is a part of its turn file: its text, and then what the file says from where the stretch stopped, whatever bytes follow. Assumes nothing.
+-- A batch is a part of its turn file: its text, and then what the file says from where the batch stopped, whatever bytes follow. Assumes nothing.
 use mathlib.Core.Path.{_≡_, refl, sym, ap, _∙_}
 use mathlib.Core.Bool.{Bool, true, false, cond}
 use mathlib.Core.List.{List, [], _++_, append-assoc, append-nil}
@@ -20,35 +20,35 @@ use Rattle.turn_file.specs.Lines.{lineOf}
 use Rattle.turn_file.specs.Buffer.{written, after, roomy}
 use Rattle.batch.specs.declared.Stop.{Stop}
 use Rattle.batch.specs.declared.Stop.the-variants.{Drained, Full, Halted}
-use Rattle.batch.specs.Batch.{Session, Answered, opening, acting, Progress, Stopped, hasRoom, wrote, onward, served}
+use Rattle.batch.specs.Batch.{Pool, Answered, opening, acting, Progress, Stopped, hasRoom, wrote, onward, worked}
 use Rattle.batch.specs.TurnFile.{Ran, behind, fromFirst, records, allRecords}
 use Rattle.batch.specs.LinesFit.{opening-fits, acting-fits}
 
 -- ── the file, record by record ──
 -- more records than bytes make no difference
-pub same-records : (n m : ℕ) (bytes : List ℕ) (x : Session) → length bytes < n → length bytes < m → records n bytes x ≡ records m bytes x
+pub same-records : (n m : ℕ) (bytes : List ℕ) (x : Pool) → length bytes < n → length bytes < m → records n bytes x ≡ records m bytes x
 unfolding records
 same-records zero m bytes x h k = absurd (omega arith)
 same-records (suc n) zero bytes x h k = absurd (omega arith)
 same-records (suc n) (suc m) bytes x h k = go (λ b y. same-records n m b y) (recordAt bytes 0) refl
   where
-    go : ((b : List ℕ) (y : Session) → length b < n → length b < m → records n b y ≡ records m b y)
+    go : ((b : List ℕ) (y : Pool) → length b < n → length b < m → records n b y ≡ records m b y)
         → (r : Read) → recordAt bytes 0 ≡ r → fromFirst (λ next. records n (drop next bytes)) x r ≡ fromFirst (λ next. records m (drop next bytes)) x r
     go same (Open sh next) e =
         let on = read-on bytes 0 (opens sh) next e in
-        ap (behind (lineOf (opening sh x .response))) (same (drop next bytes) (opening sh x .session) (omega (arith, on .0, on .1, length-drop next bytes)) (omega (arith, on .0, on .1, length-drop next bytes)))
+        ap (behind (lineOf (opening sh x .response))) (same (drop next bytes) (opening sh x .pool) (omega (arith, on .0, on .1, length-drop next bytes)) (omega (arith, on .0, on .1, length-drop next bytes)))
     go same (Act a next) e =
         let on = read-on bytes 0 (acts a) next e in
-        ap (behind (lineOf (acting a x .response))) (same (drop next bytes) (acting a x .session) (omega (arith, on .0, on .1, length-drop next bytes)) (omega (arith, on .0, on .1, length-drop next bytes)))
+        ap (behind (lineOf (acting a x .response))) (same (drop next bytes) (acting a x .pool) (omega (arith, on .0, on .1, length-drop next bytes)) (omega (arith, on .0, on .1, length-drop next bytes)))
     go same End e = refl
     go same (Refused k) e = refl
 
 pub behind-behind : (l m : List ℕ) (r : Ran) → behind (l ++ m) r ≡ behind l (behind m r)
-behind-behind l m r = ap (λ (t : List ℕ). record { session = r .session; lines = t }) (append-assoc l m (r .lines))
+behind-behind l m r = ap (λ (t : List ℕ). record { pool = r .pool; lines = t }) (append-assoc l m (r .lines))
 
 module _ (bytes more : List ℕ) where
   -- what the file says from a position on
-  abbrev pub fileFrom : ℕ → Session → Ran
+  abbrev pub fileFrom : ℕ → Pool → Ran
   fileFrom at x = allRecords (drop at bytes ++ more) x
 
   rest-of-rest : (at next : ℕ) → at < next → next ≤ length bytes → drop (next - at) (drop at bytes ++ more) ≡ drop next bytes ++ more
@@ -57,25 +57,25 @@ module _ (bytes more : List ℕ) where
       drop-append-le (next - at) (drop at bytes) more (omega (arith, length-drop at bytes))
       ∙ ap (λ (l : List ℕ). l ++ more) (drop-drop (next - at) at bytes ∙ ap (λ (n : ℕ). drop n bytes) sum)
 
-  fewer : (at next : ℕ) (x : Session) → at < next → next ≤ length bytes
+  fewer : (at next : ℕ) (x : Pool) → at < next → next ≤ length bytes
       → records (length (drop at bytes ++ more)) (drop (next - at) (drop at bytes ++ more)) x ≡ fileFrom next x
   fewer at next x h k =
       ap (λ (b : List ℕ). records (length (drop at bytes ++ more)) b x) (rest-of-rest at next h k)
       ∙ same-records _ _ (drop next bytes ++ more) x (omega (arith, length-append (drop at bytes) more, length-append (drop next bytes) more, length-drop at bytes, length-drop next bytes)) (omega arith)
 
-  opening-first : (at : ℕ) (x : Session) (sh : Shape) (next : ℕ) → recordAt bytes at ≡ Open sh next → fileFrom at x ≡ behind (lineOf (opening sh x .response)) (fileFrom next (opening sh x .session))
+  opening-first : (at : ℕ) (x : Pool) (sh : Shape) (next : ℕ) → recordAt bytes at ≡ Open sh next → fileFrom at x ≡ behind (lineOf (opening sh x .response)) (fileFrom next (opening sh x .pool))
   unfolding records
   opening-first at x sh next e =
       let on = read-on bytes at (opens sh) next e in
-      rw (read-rest bytes at more (opens sh) next e) (ap (behind (lineOf (opening sh x .response))) (fewer at next (opening sh x .session) (on .0) (on .1)))
+      rw (read-rest bytes at more (opens sh) next e) (ap (behind (lineOf (opening sh x .response))) (fewer at next (opening sh x .pool) (on .0) (on .1)))
 
-  acting-first : (at : ℕ) (x : Session) (a : Action) (next : ℕ) → recordAt bytes at ≡ Act a next → fileFrom at x ≡ behind (lineOf (acting a x .response)) (fileFrom next (acting a x .session))
+  acting-first : (at : ℕ) (x : Pool) (a : Action) (next : ℕ) → recordAt bytes at ≡ Act a next → fileFrom at x ≡ behind (lineOf (acting a x .response)) (fileFrom next (acting a x .pool))
   unfolding records
   acting-first at x a next e =
       let on = read-on bytes at (acts a) next e in
-      rw (read-rest bytes at more (acts a) next e) (ap (behind (lineOf (acting a x .response))) (fewer at next (acting a x .session) (on .0) (on .1)))
+      rw (read-rest bytes at more (acts a) next e) (ap (behind (lineOf (acting a x .response))) (fewer at next (acting a x .pool) (on .0) (on .1)))
 
--- ── the stretch ──
+-- ── the batch ──
 -- the lines that a buffer holds
 abbrev pub text : Progress → List ℕ
 text p = take (p .to) (p .lines)
@@ -93,20 +93,20 @@ Reason bytes p Drained = recordAt bytes (p .at) ≡ End
 Reason bytes p Full = length (p .lines) < p .to + 89
 Reason bytes p (Halted k) = (recordAt bytes (p .at) ≡ Refused k) × (p .to + 89 ≤ length (p .lines))
 
-pub record Stretch (bytes more : List ℕ) (p : Progress) (q : Stopped) : Type 0 where
+pub record PartOf (bytes more : List ℕ) (p : Progress) (q : Stopped) : Type 0 where
   pub new : List ℕ
   pub holds : text (q .progress) ≡ text p ++ new
-  pub file : fileFrom bytes more (p .at) (p .session) ≡ behind new (fileFrom bytes more (q .progress .at) (q .progress .session))
+  pub file : fileFrom bytes more (p .at) (p .pool) ≡ behind new (fileFrom bytes more (q .progress .at) (q .progress .pool))
   pub reason : Reason bytes (q .progress) (q .stop)
   pub on : (q .progress ≡ p) ⊎ (p .at < q .progress .at)
 
 module _ (bytes more : List ℕ) where
-  stays : (p : Progress) (stop : Stop) → Reason bytes p stop → Stretch bytes more p (record { progress = p; stop = stop })
+  stays : (p : Progress) (stop : Stop) → Reason bytes p stop → PartOf bytes more p (record { progress = p; stop = stop })
   stays p stop why = record { new = []; holds = sym (append-nil (text p)); file = refl; reason = why; on = inl refl }
 
-  -- one record, and then the rest of the stretch
+  -- one record, and then the rest of the batch
   after-one : (p : Progress) (next : ℕ) (a : Answered) (q : Stopped) → p .at < next → text (wrote p next a) ≡ text p ++ lineOf (a .response)
-      → fileFrom bytes more (p .at) (p .session) ≡ behind (lineOf (a .response)) (fileFrom bytes more next (a .session)) → Stretch bytes more (wrote p next a) q → Stretch bytes more p q
+      → fileFrom bytes more (p .at) (p .pool) ≡ behind (lineOf (a .response)) (fileFrom bytes more next (a .pool)) → PartOf bytes more (wrote p next a) q → PartOf bytes more p q
   after-one p next a q h held first S = record {
     new = lineOf (a .response) ++ S .new;
     holds = S .holds ∙ ap (λ (l : List ℕ). l ++ S .new) held ∙ append-assoc (text p) (lineOf (a .response)) (S .new);
@@ -119,23 +119,23 @@ module _ (bytes more : List ℕ) where
       further (inl e) = rw e h
       further (inr k) = omega arith
 
-  pub stretch : (n : ℕ) (p : Progress) → length bytes - p .at < n → Stretch bytes more p (served n bytes p)
-  unfolding served
-  stretch zero p h = absurd (omega arith)
-  stretch (suc n) p h = go (λ q. stretch n q) (hasRoom (p .lines) (p .to)) refl (recordAt bytes (p .at)) refl
+  pub part-of-file : (n : ℕ) (p : Progress) → length bytes - p .at < n → PartOf bytes more p (worked n bytes p)
+  unfolding worked
+  part-of-file zero p h = absurd (omega arith)
+  part-of-file (suc n) p h = go (λ q. part-of-file n q) (hasRoom (p .lines) (p .to)) refl (recordAt bytes (p .at)) refl
     where
-      go : ((q : Progress) → length bytes - q .at < n → Stretch bytes more q (served n bytes q)) → (b : Bool) → hasRoom (p .lines) (p .to) ≡ b → (r : Read) → recordAt bytes (p .at) ≡ r
-          → Stretch bytes more p (cond b (onward (served n bytes) p r) (record { progress = p; stop = Full }))
+      go : ((q : Progress) → length bytes - q .at < n → PartOf bytes more q (worked n bytes q)) → (b : Bool) → hasRoom (p .lines) (p .to) ≡ b → (r : Read) → recordAt bytes (p .at) ≡ r
+          → PartOf bytes more p (cond b (onward (worked n bytes) p r) (record { progress = p; stop = Full }))
       go rest false full r e = stays p Full (leb-false (p .to + 89) (length (p .lines)) full)
       go rest true room (Open sh next) e =
           let on = read-on bytes (p .at) (opens sh) next e in
-          let a = opening sh (p .session) in
-          after-one p next a _ (on .0) (line-behind (p .lines) (lineOf (a .response)) (p .to) (opening-fits sh (p .session)) (leb-true (p .to + 89) (length (p .lines)) room))
-          (opening-first bytes more (p .at) (p .session) sh next e) (rest (wrote p next a) (omega (arith, on .0, on .1)))
+          let a = opening sh (p .pool) in
+          after-one p next a _ (on .0) (line-behind (p .lines) (lineOf (a .response)) (p .to) (opening-fits sh (p .pool)) (leb-true (p .to + 89) (length (p .lines)) room))
+          (opening-first bytes more (p .at) (p .pool) sh next e) (rest (wrote p next a) (omega (arith, on .0, on .1)))
       go rest true room (Act b next) e =
           let on = read-on bytes (p .at) (acts b) next e in
-          let a = acting b (p .session) in
-          after-one p next a _ (on .0) (line-behind (p .lines) (lineOf (a .response)) (p .to) (acting-fits b (p .session)) (leb-true (p .to + 89) (length (p .lines)) room))
-          (acting-first bytes more (p .at) (p .session) b next e) (rest (wrote p next a) (omega (arith, on .0, on .1)))
+          let a = acting b (p .pool) in
+          after-one p next a _ (on .0) (line-behind (p .lines) (lineOf (a .response)) (p .to) (acting-fits b (p .pool)) (leb-true (p .to + 89) (length (p .lines)) room))
+          (acting-first bytes more (p .at) (p .pool) b next e) (rest (wrote p next a) (omega (arith, on .0, on .1)))
       go rest true room End e = stays p Drained e
       go rest true room (Refused k) e = stays p (Halted k) (e, leb-true (p .to + 89) (length (p .lines)) room)

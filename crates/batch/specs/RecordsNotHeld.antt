@@ -1,4 +1,4 @@
--- Records behind those that a stretch holds are neither read nor changed: on any other table with the same held records it does the same, and keeps the rest. Assumes nothing.
+-- Records behind those that a batch holds are neither read nor changed: on any other table with the same held records it does the same, and keeps the rest. Assumes nothing.
 use mathlib.Core.Path.{_≡_, refl, sym, ap, _∙_, subst}
 use mathlib.Core.Bool.{Bool, true, false, cond}
 use mathlib.Core.List.{List, [], _∷_, _++_, append-assoc}
@@ -28,7 +28,7 @@ use Rattle.turn_file.specs.declared.Read.the-variants.{Open, Act, End, Refused}
 use Rattle.turn_file.specs.Reading.{recordAt}
 use Rattle.batch.specs.declared.Stop.{Stop}
 use Rattle.batch.specs.declared.Stop.the-variants.{Drained, Full, Halted}
-use Rattle.batch.specs.Batch.{Session, Answered, opening, acting, Progress, Stopped, hasRoom, wrote, onward, served, servedAll}
+use Rattle.batch.specs.Batch.{Pool, Answered, opening, acting, Progress, Stopped, hasRoom, wrote, onward, worked, workedAll}
 use Rattle.batch.specs.RecordsCounted.{countedOf, counted-bound, count-tells, counts}
 use Rattle.batch.specs.Held.{greater, pastOpening, held, heldAll}
 use Rattle.batch.specs.Held as holding
@@ -40,7 +40,7 @@ pub record Alike (k : ℕ) (t u : List Worker) : Type 0 where
   pub counted : countedOf (length u) ≡ countedOf (length t)
   pub within : k ≤ countedOf (length t)
 
--- k records have one for each worker of a shape that n records can serve
+-- k records have one for each worker of a shape that n records are enough for
 abbrev pub Covers : Shape → ℕ → ℕ → Type 0
 Covers sh n k = shapeInRange sh ≡ true → sh .workers ≤ n → sh .workers ≤ k
 
@@ -49,11 +49,11 @@ abbrev pub over : ℕ → List Worker → List Worker → List Worker
 over k t u = take k t ++ drop k u
 
 abbrev pub onTable : Progress → List Worker → Progress
-onTable p u = record { session = record { shape = p .session .shape; memory = record { store = p .session .memory .store; table = u } }; at = p .at; lines = p .lines; to = p .to }
+onTable p u = record { pool = record { shape = p .pool .shape; memory = record { store = p .pool .memory .store; table = u } }; at = p .at; lines = p .lines; to = p .to }
 
--- what a stretch left, but the records from the k-th on as u has them
+-- what a batch left, but the records from the k-th on as u has them
 abbrev pub keepingFrom : ℕ → Stopped → List Worker → Stopped
-keepingFrom k q u = record { progress = onTable (q .progress) (over k (q .progress .session .memory .table) u); stop = q .stop }
+keepingFrom k q u = record { progress = onTable (q .progress) (over k (q .progress .pool .memory .table) u); stop = q .stop }
 
 -- ── tables that are alike ──
 module _ {k : ℕ} {t u : List Worker} (A : Alike k t u) where
@@ -178,12 +178,12 @@ module _ {k : ℕ} {t u : List Worker} (A : Alike k t u) (sh : Shape) (s : List 
       go false e = unchanged (openRefusal sh s t)
 
 -- ── how many are held ──
-module _ (x : Session) where
-  acting-long : (a : Action) → length (acting a x .session .memory .table) ≡ length (x .memory .table)
+module _ (x : Pool) where
+  acting-long : (a : Action) → length (acting a x .pool .memory .table) ≡ length (x .memory .table)
   unfolding acting
   acting-long a = act-same-size (x .shape) (x .memory) a .table
 
-  opening-long : (sh : Shape) → length (opening sh x .session .memory .table) ≡ length (x .memory .table)
+  opening-long : (sh : Shape) → length (opening sh x .pool .memory .table) ≡ length (x .memory .table)
   unfolding opening
   opening-long sh = open-same-size sh (x .memory) .table
 
@@ -208,7 +208,7 @@ greater-within a b c h k = go (ltb a b)
     go true = k
     go false = h
 
-module _ (x : Session) (sh : Shape) (k : ℕ) where
+module _ (x : Pool) (sh : Shape) (k : ℕ) where
   pastOpening-more : k ≤ pastOpening sh x k
   pastOpening-more = go (eqb (openRefusal sh (x .memory .store) (x .memory .table)) 0)
     where
@@ -233,57 +233,57 @@ module _ (bytes : List ℕ) where
     where
       go : ((q : Progress) (h : ℕ) → h ≤ held n bytes h q) → (b : Bool) (r : Read) → k ≤ cond b (holding.onward (held n bytes) k p r) k
       go rest false r = omega arith
-      go rest true (Open sh next) = omega (arith, pastOpening-more (p .session) sh k, rest (wrote p next (opening sh (p .session))) (pastOpening sh (p .session) k))
-      go rest true (Act a next) = rest (wrote p next (acting a (p .session))) k
+      go rest true (Open sh next) = omega (arith, pastOpening-more (p .pool) sh k, rest (wrote p next (opening sh (p .pool))) (pastOpening sh (p .pool) k))
+      go rest true (Act a next) = rest (wrote p next (acting a (p .pool))) k
       go rest true End = omega arith
       go rest true (Refused i) = omega arith
 
-  held-within : (n : ℕ) (p : Progress) (k : ℕ) → k ≤ countedOf (length (p .session .memory .table)) → held n bytes k p ≤ countedOf (length (p .session .memory .table))
+  held-within : (n : ℕ) (p : Progress) (k : ℕ) → k ≤ countedOf (length (p .pool .memory .table)) → held n bytes k p ≤ countedOf (length (p .pool .memory .table))
   unfolding held
   held-within zero p k h = h
   held-within (suc n) p k h = go (λ q i l. held-within n q i l) (hasRoom (p .lines) (p .to)) (recordAt bytes (p .at))
     where
-      go : ((q : Progress) (i : ℕ) → i ≤ countedOf (length (q .session .memory .table)) → held n bytes i q ≤ countedOf (length (q .session .memory .table))) → (b : Bool) (r : Read)
-          → cond b (holding.onward (held n bytes) k p r) k ≤ countedOf (length (p .session .memory .table))
+      go : ((q : Progress) (i : ℕ) → i ≤ countedOf (length (q .pool .memory .table)) → held n bytes i q ≤ countedOf (length (q .pool .memory .table))) → (b : Bool) (r : Read)
+          → cond b (holding.onward (held n bytes) k p r) k ≤ countedOf (length (p .pool .memory .table))
       go rest false r = h
-      go rest true (Open sh next) = subst (λ m. pastOpening sh (p .session) k ≤ countedOf m → held n bytes (pastOpening sh (p .session) k) (wrote p next (opening sh (p .session))) ≤ countedOf m) (opening-long (p .session) sh) (rest (wrote p next (opening sh (p .session))) (pastOpening sh (p .session) k)) (pastOpening-within (p .session) sh k h)
-      go rest true (Act a next) = subst (λ m. k ≤ countedOf m → held n bytes k (wrote p next (acting a (p .session))) ≤ countedOf m) (acting-long (p .session) a) (rest (wrote p next (acting a (p .session))) k) h
+      go rest true (Open sh next) = subst (λ m. pastOpening sh (p .pool) k ≤ countedOf m → held n bytes (pastOpening sh (p .pool) k) (wrote p next (opening sh (p .pool))) ≤ countedOf m) (opening-long (p .pool) sh) (rest (wrote p next (opening sh (p .pool))) (pastOpening sh (p .pool) k)) (pastOpening-within (p .pool) sh k h)
+      go rest true (Act a next) = subst (λ m. k ≤ countedOf m → held n bytes k (wrote p next (acting a (p .pool))) ≤ countedOf m) (acting-long (p .pool) a) (rest (wrote p next (acting a (p .pool))) k) h
       go rest true End = h
       go rest true (Refused i) = h
 
   -- no more than there are
-  pub all-within : (p : Progress) (k : ℕ) → k ≤ countedOf (length (p .session .memory .table)) → heldAll bytes k p ≤ countedOf (length (p .session .memory .table))
+  pub all-within : (p : Progress) (k : ℕ) → k ≤ countedOf (length (p .pool .memory .table)) → heldAll bytes k p ≤ countedOf (length (p .pool .memory .table))
   all-within p k h = held-within (length bytes + 1) p k h
 
--- ── a stretch ──
-abbrev on : Session → List Worker → Session
+-- ── a batch ──
+abbrev on : Pool → List Worker → Pool
 on x u = record { shape = x .shape; memory = record { store = x .memory .store; table = u } }
 
 abbrev answered : ℕ → Answered → List Worker → Answered
-answered h a u = record { session = on (a .session) (over h (a .session .memory .table) u); response = a .response }
+answered h a u = record { pool = on (a .pool) (over h (a .pool .memory .table) u); response = a .response }
 
-module _ {k : ℕ} {u : List Worker} (x : Session) (A : Alike k (x .memory .table) u) (covers : Covers (x .shape) (length (x .memory .table)) k) where
+module _ {k : ℕ} {u : List Worker} (x : Pool) (A : Alike k (x .memory .table) u) (covers : Covers (x .shape) (length (x .memory .table)) k) where
   next-alike : (h : ℕ) (t : List Worker) → length t ≡ length (x .memory .table) → h ≤ countedOf (length (x .memory .table)) → Alike h t (over h t u)
   next-alike h t same within = put-together h t u (subst (λ n. h ≤ countedOf n) (sym same) within) (A .counted ∙ ap countedOf (sym same))
 
   acting-alike : (a : Action) → acting a (on x u) ≡ answered k (acting a x) u
   unfolding acting
-  acting-alike a = ap (λ (r : Result). record { session = record { shape = x .shape; memory = r .memory }; response = r .response }) (act-alike A (x .shape) (x .memory .store) a covers)
+  acting-alike a = ap (λ (r : Result). record { pool = record { shape = x .shape; memory = r .memory }; response = r .response }) (act-alike A (x .shape) (x .memory .store) a covers)
 
-  acting-covers : (a : Action) → Covers (acting a x .session .shape) (length (acting a x .session .memory .table)) k
+  acting-covers : (a : Action) → Covers (acting a x .pool .shape) (length (acting a x .pool .memory .table)) k
   unfolding acting
   acting-covers a = subst (λ n. Covers (x .shape) n k) (sym (acting-long x a)) covers
 
   opening-alike : (sh : Shape) → opening sh (on x u) ≡ answered (pastOpening sh x k) (opening sh x) u
   unfolding opening
   opening-alike sh = λ j. record {
-    session = record { shape = cond (eqb (open-refusal-alike A sh (x .memory .store) j) 0) sh (x .shape); memory = open-alike A sh (x .memory .store) j .memory };
+    pool = record { shape = cond (eqb (open-refusal-alike A sh (x .memory .store) j) 0) sh (x .shape); memory = open-alike A sh (x .memory .store) j .memory };
     response = open-alike A sh (x .memory .store) j .response;
   }
 
-  opening-covers : (sh : Shape) → Covers (opening sh x .session .shape) (length (opening sh x .session .memory .table)) (pastOpening sh x k)
+  opening-covers : (sh : Shape) → Covers (opening sh x .pool .shape) (length (opening sh x .pool .memory .table)) (pastOpening sh x k)
   unfolding opening
-  opening-covers sh = subst (λ n. Covers (opening sh x .session .shape) n (pastOpening sh x k)) (sym (opening-long x sh)) (go (eqb (openRefusal sh (x .memory .store) (x .memory .table)) 0))
+  opening-covers sh = subst (λ n. Covers (opening sh x .pool .shape) n (pastOpening sh x k)) (sym (opening-long x sh)) (go (eqb (openRefusal sh (x .memory .store) (x .memory .table)) 0))
     where
       go : (b : Bool) → Covers (cond b sh (x .shape)) (length (x .memory .table)) (cond b (greater k (sh .workers)) k)
       go true = λ i h. greater-right k (sh .workers)
@@ -291,51 +291,51 @@ module _ {k : ℕ} {u : List Worker} (x : Session) (A : Alike k (x .memory .tabl
 
 -- what was kept by a record of the file is what was there before
 kept-through : (h : ℕ) (q : Stopped) (k : ℕ) (t u : List Worker) → k ≤ length t → k ≤ length u → k ≤ h → keepingFrom h q (over k t u) ≡ keepingFrom h q u
-kept-through h q k t u i j l = ap (λ (x : List Worker). record { progress = onTable (q .progress) (take h (q .progress .session .memory .table) ++ x); stop = q .stop }) (drop-over k h t u i j l)
+kept-through h q k t u i j l = ap (λ (x : List Worker). record { progress = onTable (q .progress) (take h (q .progress .pool .memory .table) ++ x); stop = q .stop }) (drop-over k h t u i j l)
 
 module _ (bytes : List ℕ) where
-  served-alike : (n : ℕ) (p : Progress) (k : ℕ) (u : List Worker) → Alike k (p .session .memory .table) u → Covers (p .session .shape) (length (p .session .memory .table)) k
-      → served n bytes (onTable p u) ≡ keepingFrom (held n bytes k p) (served n bytes p) u
-  unfolding served held
-  served-alike zero p k u A covers = ap (λ (x : List Worker). record { progress = onTable p x; stop = Drained }) (itself A)
-  served-alike (suc n) p k u A covers = go (λ q h v B c. served-alike n q h v B c) (hasRoom (p .lines) (p .to)) (recordAt bytes (p .at))
+  worked-alike : (n : ℕ) (p : Progress) (k : ℕ) (u : List Worker) → Alike k (p .pool .memory .table) u → Covers (p .pool .shape) (length (p .pool .memory .table)) k
+      → worked n bytes (onTable p u) ≡ keepingFrom (held n bytes k p) (worked n bytes p) u
+  unfolding worked held
+  worked-alike zero p k u A covers = ap (λ (x : List Worker). record { progress = onTable p x; stop = Drained }) (itself A)
+  worked-alike (suc n) p k u A covers = go (λ q h v B c. worked-alike n q h v B c) (hasRoom (p .lines) (p .to)) (recordAt bytes (p .at))
     where
       there : (stop : Stop) → record { progress = onTable p u; stop = stop } ≡ keepingFrom k (record { progress = p; stop = stop }) u
       there stop = ap (λ (v : List Worker). record { progress = onTable p v; stop = stop }) (itself A)
 
       -- past a record of the file, with h held
-      on-from : ((q : Progress) (h : ℕ) (v : List Worker) → Alike h (q .session .memory .table) v → Covers (q .session .shape) (length (q .session .memory .table)) h → served n bytes (onTable q v) ≡ keepingFrom (held n bytes h q) (served n bytes q) v)
-          → (q : Progress) (h : ℕ) → length (q .session .memory .table) ≡ length (p .session .memory .table) → h ≤ countedOf (length (p .session .memory .table)) → Covers (q .session .shape) (length (q .session .memory .table)) h
-          → served n bytes (onTable q (over h (q .session .memory .table) u)) ≡ keepingFrom (held n bytes h q) (served n bytes q) u
+      on-from : ((q : Progress) (h : ℕ) (v : List Worker) → Alike h (q .pool .memory .table) v → Covers (q .pool .shape) (length (q .pool .memory .table)) h → worked n bytes (onTable q v) ≡ keepingFrom (held n bytes h q) (worked n bytes q) v)
+          → (q : Progress) (h : ℕ) → length (q .pool .memory .table) ≡ length (p .pool .memory .table) → h ≤ countedOf (length (p .pool .memory .table)) → Covers (q .pool .shape) (length (q .pool .memory .table)) h
+          → worked n bytes (onTable q (over h (q .pool .memory .table) u)) ≡ keepingFrom (held n bytes h q) (worked n bytes q) u
       on-from rest q h long within c =
-          rest q h (over h (q .session .memory .table) u) (next-alike (p .session) A covers h (q .session .memory .table) long within) c
-          ∙ kept-through (held n bytes h q) (served n bytes q) h (q .session .memory .table) u
-          (omega (arith, within, long, counted-bound (length (p .session .memory .table)) .0)) (omega (arith, within, A .counted, counted-bound (length u) .0)) (held-more bytes n q h)
+          rest q h (over h (q .pool .memory .table) u) (next-alike (p .pool) A covers h (q .pool .memory .table) long within) c
+          ∙ kept-through (held n bytes h q) (worked n bytes q) h (q .pool .memory .table) u
+          (omega (arith, within, long, counted-bound (length (p .pool .memory .table)) .0)) (omega (arith, within, A .counted, counted-bound (length u) .0)) (held-more bytes n q h)
 
-      go : ((q : Progress) (h : ℕ) (v : List Worker) → Alike h (q .session .memory .table) v → Covers (q .session .shape) (length (q .session .memory .table)) h → served n bytes (onTable q v) ≡ keepingFrom (held n bytes h q) (served n bytes q) v)
+      go : ((q : Progress) (h : ℕ) (v : List Worker) → Alike h (q .pool .memory .table) v → Covers (q .pool .shape) (length (q .pool .memory .table)) h → worked n bytes (onTable q v) ≡ keepingFrom (held n bytes h q) (worked n bytes q) v)
           → (b : Bool) (r : Read)
-          → cond b (onward (served n bytes) (onTable p u) r) (record { progress = onTable p u; stop = Full })
-          ≡ keepingFrom (cond b (holding.onward (held n bytes) k p r) k) (cond b (onward (served n bytes) p r) (record { progress = p; stop = Full })) u
+          → cond b (onward (worked n bytes) (onTable p u) r) (record { progress = onTable p u; stop = Full })
+          ≡ keepingFrom (cond b (holding.onward (held n bytes) k p r) k) (cond b (onward (worked n bytes) p r) (record { progress = p; stop = Full })) u
       go rest false r = there Full
       go rest true (Open sh next) =
-          ap (λ (a : Answered). served n bytes (wrote (onTable p u) next a)) (opening-alike (p .session) A covers sh)
-          ∙ on-from rest (wrote p next (opening sh (p .session))) (pastOpening sh (p .session) k) (opening-long (p .session) sh) (pastOpening-within (p .session) sh k (A .within)) (opening-covers (p .session) A covers sh)
+          ap (λ (a : Answered). worked n bytes (wrote (onTable p u) next a)) (opening-alike (p .pool) A covers sh)
+          ∙ on-from rest (wrote p next (opening sh (p .pool))) (pastOpening sh (p .pool) k) (opening-long (p .pool) sh) (pastOpening-within (p .pool) sh k (A .within)) (opening-covers (p .pool) A covers sh)
       go rest true (Act a next) =
-          ap (λ (b : Answered). served n bytes (wrote (onTable p u) next b)) (acting-alike (p .session) A covers a)
-          ∙ on-from rest (wrote p next (acting a (p .session))) k (acting-long (p .session) a) (A .within) (acting-covers (p .session) A covers a)
+          ap (λ (b : Answered). worked n bytes (wrote (onTable p u) next b)) (acting-alike (p .pool) A covers a)
+          ∙ on-from rest (wrote p next (acting a (p .pool))) k (acting-long (p .pool) a) (A .within) (acting-covers (p .pool) A covers a)
       go rest true End = there Drained
       go rest true (Refused i) = there (Halted i)
 
-  -- A stretch on two tables that are alike: the same store, lines, shape and stop, the same held records, and each table's own behind them.
+  -- A batch on two tables that are alike: the same store, lines, shape and stop, the same held records, and each table's own behind them.
   -- (With u the table itself: what is behind the held records stays.)
-  pub all-alike : (p : Progress) (k : ℕ) (u : List Worker) → Alike k (p .session .memory .table) u → Covers (p .session .shape) (length (p .session .memory .table)) k
-      → servedAll bytes (onTable p u) ≡ keepingFrom (heldAll bytes k p) (servedAll bytes p) u
-  all-alike p k u A covers = served-alike (length bytes + 1) p k u A covers
+  pub all-alike : (p : Progress) (k : ℕ) (u : List Worker) → Alike k (p .pool .memory .table) u → Covers (p .pool .shape) (length (p .pool .memory .table)) k
+      → workedAll bytes (onTable p u) ≡ keepingFrom (heldAll bytes k p) (workedAll bytes p) u
+  all-alike p k u A covers = worked-alike (length bytes + 1) p k u A covers
 
 -- ── records past the 64th ──
 -- the same with records u behind the table
 abbrev pub more : Progress → List Worker → Progress
-more p u = onTable p (p .session .memory .table ++ u)
+more p u = onTable p (p .pool .memory .table ++ u)
 
 take-append-le : (k : ℕ) (t u : List Worker) → k ≤ length t → take k (t ++ u) ≡ take k t
 take-append-le zero t u h = refl
@@ -346,38 +346,38 @@ all-64 : (n : ℕ) → 64 ≤ n → countedOf n ≡ 64
 all-64 n h = omega (arith, counted-bound n .1, counts n 64 h (omega arith))
 
 -- They do not matter, and stay.
-pub all-beyond : (bytes : List ℕ) (u : List Worker) (p : Progress) → 64 ≤ length (p .session .memory .table)
-    → servedAll bytes (more p u) ≡ record { progress = more (servedAll bytes p .progress) u; stop = servedAll bytes p .stop }
+pub all-beyond : (bytes : List ℕ) (u : List Worker) (p : Progress) → 64 ≤ length (p .pool .memory .table)
+    → workedAll bytes (more p u) ≡ record { progress = more (workedAll bytes p .progress) u; stop = workedAll bytes p .stop }
 all-beyond bytes u p long =
     all-alike bytes p 64 (t ++ u) longer covers
-    ∙ ap (λ (v : List Worker). record { progress = onTable (servedAll bytes p .progress) v; stop = servedAll bytes p .stop }) tables
+    ∙ ap (λ (v : List Worker). record { progress = onTable (workedAll bytes p .progress) v; stop = workedAll bytes p .stop }) tables
   where
     t : List Worker
-    t = p .session .memory .table
+    t = p .pool .memory .table
 
     h : ℕ
     h = heldAll bytes 64 p
 
     t′ : List Worker
-    t′ = servedAll bytes p .progress .session .memory .table
+    t′ = workedAll bytes p .progress .pool .memory .table
 
-    covers : Covers (p .session .shape) (length (p .session .memory .table)) 64
-    covers e w = limits (p .session .shape) e .workers
+    covers : Covers (p .pool .shape) (length (p .pool .memory .table)) 64
+    covers e w = limits (p .pool .shape) e .workers
 
-    within : 64 ≤ countedOf (length (p .session .memory .table))
+    within : 64 ≤ countedOf (length (p .pool .memory .table))
     within = omega (arith, all-64 (length t) long)
 
-    itself-alike : Alike 64 (p .session .memory .table) (p .session .memory .table)
+    itself-alike : Alike 64 (p .pool .memory .table) (p .pool .memory .table)
     itself-alike = record { first = refl; counted = refl; within = within }
 
-    longer : Alike 64 (p .session .memory .table) (p .session .memory .table ++ u)
+    longer : Alike 64 (p .pool .memory .table) (p .pool .memory .table ++ u)
     longer = record { first = take-append-le 64 t u long; counted = all-64 (length (t ++ u)) (omega (arith, length-append t u)) ∙ sym (all-64 (length t) long); within = within }
 
     -- what is behind the held records stays
-    stays : servedAll bytes p .progress .session .memory .table ≡ over (heldAll bytes 64 p) (servedAll bytes p .progress .session .memory .table) (p .session .memory .table)
-    stays = ap (λ (q : Stopped). q .progress .session .memory .table) (all-alike bytes p 64 t itself-alike covers)
+    stays : workedAll bytes p .progress .pool .memory .table ≡ over (heldAll bytes 64 p) (workedAll bytes p .progress .pool .memory .table) (p .pool .memory .table)
+    stays = ap (λ (q : Stopped). q .progress .pool .memory .table) (all-alike bytes p 64 t itself-alike covers)
 
-    tables : over (heldAll bytes 64 p) (servedAll bytes p .progress .session .memory .table) (p .session .memory .table ++ u) ≡ servedAll bytes p .progress .session .memory .table ++ u
+    tables : over (heldAll bytes 64 p) (workedAll bytes p .progress .pool .memory .table) (p .pool .memory .table ++ u) ≡ workedAll bytes p .progress .pool .memory .table ++ u
     tables =
         ap (λ (v : List Worker). take h t′ ++ v) (drop-append-le h t u (omega (arith, all-within bytes p 64 within, counted-bound (length t) .0)))
         ∙ sym (append-assoc (take h t′) (drop h t) u)

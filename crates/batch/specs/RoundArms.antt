@@ -1,4 +1,4 @@
--- One round of the loop, arm by arm: from what the code has at its end to what is still to be served. Assumes nothing.
+-- One round of the loop, arm by arm: from what the code has at its end to what is still to be worked. Assumes nothing.
 use mathlib.Core.Path.{_≡_, refl, sym, ap, _∙_, subst, subst⁻¹}
 use mathlib.Core.List.{List, _++_}
 use mathlib.Core.Bool.{Bool, true, cond, not}
@@ -38,7 +38,7 @@ use Rattle.turn_file.specs.OneReading.{read-on}
 use Rattle.batch.specs.declared.Stop.the-variants.{Drained, Full, Halted}
 use Rattle.turn_file.specs.Lines.{lineOf}
 use Rattle.turn_file.specs.Buffer.{written, after, written-length}
-use Rattle.batch.specs.Batch.{opening, acting, Progress, hasRoom, wrote, servedAll}
+use Rattle.batch.specs.Batch.{opening, acting, Progress, hasRoom, wrote, workedAll}
 use Rattle.batch.specs.Held.{greater, heldAll}
 use Rattle.batch.specs.LentPart.{least-taken, over-taken, over-length}
 use Rattle.admission.specs.Watched.{Watched, opened-sound}
@@ -135,7 +135,7 @@ module _ {bytes : List ℕ} {p₀ : Progress} {h₀ words records last : ℕ} {s
       where
         there : at-work sh s′ (take records t′) next lines′ to′ ≡ wrote (at-work sh s (take records t) at lines to) next (acting a (record { shape = sh; memory = record { store = s; table = take records t } }))
         there = λ j. record {
-          session = record { shape = sh; memory = is j .memory };
+          pool = record { shape = sh; memory = is j .memory };
           at = next;
           lines = (line .1 ∙ ap (λ (r : Result). written lines to (lineOf (r .response))) is) j;
           to = (line .0 ∙ ap (λ (r : Result). after lines to (lineOf (r .response))) is) j;
@@ -197,7 +197,7 @@ module _ {bytes : List ℕ} {p₀ : Progress} {h₀ words records last : ℕ} {s
       where
         there : at-work sh″ s′ (take records t′) next lines′ to′ ≡ wrote (at-work sh s (take records t) at lines to) next (opening sh′ (record { shape = sh; memory = record { store = s; table = take records t } }))
         there = λ j. record {
-          session = record { shape = shape j; memory = is j .memory };
+          pool = record { shape = shape j; memory = is j .memory };
           at = next;
           lines = (line .1 ∙ ap (λ (r : Result). written lines to (lineOf (r .response))) is) j;
           to = (line .0 ∙ ap (λ (r : Result). after lines to (lineOf (r .response))) is) j;
@@ -224,13 +224,13 @@ module _ {bytes : List ℕ} {p₀ : Progress} {h₀ words records last : ℕ} {s
   pub kept : (length t ≡ 64) × (records ≤ 64) × Watched sh (record { store = s; table = take records t }) sound × Tight sh (length s) records sound
   kept = (R .array, R .lent, W, λ up. sym (ap (λ n. openGate sh n records) (R .store)) ∙ R .tight up)
 
-  pub at-drained : to ≤ last → End ≡ recordAt bytes at → (record { progress = at-work sh s (take records t) at lines to; stop = Drained } ≡ servedAll bytes p₀) × (h ≡ heldAll bytes h₀ p₀)
+  pub at-drained : to ≤ last → End ≡ recordAt bytes at → (record { progress = at-work sh s (take records t) at lines to; stop = Drained } ≡ workedAll bytes p₀) × (h ≡ heldAll bytes h₀ p₀)
   at-drained fits e = drained bytes p₀ h₀ (at-work sh s (take records t) at lines to) h sound (R .going) (le-leb (to + 89) (length lines) (omega (arith, R .buffer))) e
 
-  pub at-halted : to ≤ last → (k : ℕ) → variants.Refused k ≡ recordAt bytes at → (record { progress = at-work sh s (take records t) at lines to; stop = Halted k } ≡ servedAll bytes p₀) × (h ≡ heldAll bytes h₀ p₀)
+  pub at-halted : to ≤ last → (k : ℕ) → variants.Refused k ≡ recordAt bytes at → (record { progress = at-work sh s (take records t) at lines to; stop = Halted k } ≡ workedAll bytes p₀) × (h ≡ heldAll bytes h₀ p₀)
   at-halted fits k e = halted bytes p₀ h₀ (at-work sh s (take records t) at lines to) h sound (R .going) (le-leb (to + 89) (length lines) (omega (arith, R .buffer))) k e
 
-  pub at-full : last < to → (record { progress = at-work sh s (take records t) at lines to; stop = Full } ≡ servedAll bytes p₀) × (h ≡ heldAll bytes h₀ p₀)
+  pub at-full : last < to → (record { progress = at-work sh s (take records t) at lines to; stop = Full } ≡ workedAll bytes p₀) × (h ≡ heldAll bytes h₀ p₀)
   at-full over = full bytes p₀ h₀ (at-work sh s (take records t) at lines to) h sound (R .going) (lt-leb (to + 89) (length lines) (omega (arith, R .buffer)))
 
 -- ── what was read ──
@@ -252,7 +252,7 @@ module _ (bytes : List ℕ) (at : ℕ) (r : Read) (read : r ≡ recordAt bytes a
 
 -- ── before the loop ──
 pub no-room : (bytes : List ℕ) (sh : Shape) (s : List ℕ) (lent : List Worker) (at : ℕ) (lines : List ℕ) (to : ℕ) (sound : Bool) (h : ℕ) → Watched sh (record { store = s; table = lent }) sound → length lines < 89
-    → (record { progress = at-work sh s lent at lines to; stop = Full } ≡ servedAll bytes (at-work sh s lent at lines to)) × (h ≡ heldAll bytes h (at-work sh s lent at lines to))
+    → (record { progress = at-work sh s lent at lines to; stop = Full } ≡ workedAll bytes (at-work sh s lent at lines to)) × (h ≡ heldAll bytes h (at-work sh s lent at lines to))
 no-room bytes sh s lent at lines to sound h watched short =
     let p = at-work sh s lent at lines to in
     full bytes p h p h sound (going bytes p h sound watched) (lt-leb (to + 89) (length lines) (omega arith))

@@ -9,31 +9,31 @@ use Rattle.turn_file.specs.declared.Read.{Read}
 use Rattle.turn_file.specs.declared.Read.the-variants.{Open, Act, End, Refused}
 use Rattle.turn_file.specs.Reading.{recordAt}
 use Rattle.turn_file.specs.Lines.{lineOf}
-use Rattle.batch.specs.Batch.{Session, opening, acting}
+use Rattle.batch.specs.Batch.{Pool, opening, acting}
 
--- the session at the end, and all lines, one behind the other
+-- the pool at the end, and all lines, one behind the other
 pub record Ran : Type 0 where
-  pub session : Session
+  pub pool : Pool
   pub lines : List ℕ
 
 -- these lines come first
 abbrev pub behind : List ℕ → Ran → Ran
-behind lines r = record { session = r .session; lines = lines ++ r .lines }
+behind lines r = record { pool = r .pool; lines = lines ++ r .lines }
 
 -- One line a record; a reading that is refused has its line, which is the last.
-abbrev pub fromFirst : (ℕ → Session → Ran) → Session → Read → Ran
-fromFirst rest x (Open sh next) = let a = opening sh x in behind (lineOf (a .response)) (rest next (a .session))
-fromFirst rest x (Act a next) = let b = acting a x in behind (lineOf (b .response)) (rest next (b .session))
-fromFirst rest x End = record { session = x; lines = [] }
-fromFirst rest x (Refused k) = record { session = x; lines = lineOf (response.Refused k) }
+abbrev pub fromFirst : (ℕ → Pool → Ran) → Pool → Read → Ran
+fromFirst rest x (Open sh next) = let a = opening sh x in behind (lineOf (a .response)) (rest next (a .pool))
+fromFirst rest x (Act a next) = let b = acting a x in behind (lineOf (b .response)) (rest next (b .pool))
+fromFirst rest x End = record { pool = x; lines = [] }
+fromFirst rest x (Refused k) = record { pool = x; lines = lineOf (response.Refused k) }
 
 -- at most n records
-unfoldable pub records : ℕ → List ℕ → Session → Ran
-records zero bytes x = record { session = x; lines = [] }
+unfoldable pub records : ℕ → List ℕ → Pool → Ran
+records zero bytes x = record { pool = x; lines = [] }
 records (suc n) bytes x = fromFirst (λ next. records n (drop next bytes)) x (recordAt bytes 0)
 
 -- All of them: no record is empty, so there are fewer than these.
-abbrev pub allRecords : List ℕ → Session → Ran
+abbrev pub allRecords : List ℕ → Pool → Ran
 allRecords bytes x = records (suc (length bytes)) bytes x
 
 -- before the first opening

@@ -1,4 +1,4 @@
--- A stretch stays within its bytes and its buffer. Assumes nothing.
+-- A batch stays within its bytes and its buffer. Assumes nothing.
 use mathlib.Core.Path.{_≡_, refl, _∙_}
 use mathlib.Core.Bool.{Bool, true, false, cond}
 use mathlib.Core.List.{List}
@@ -14,7 +14,7 @@ use Rattle.turn_file.specs.OneReading.{read-on}
 use Rattle.turn_file.specs.Lines.{lineOf}
 use Rattle.turn_file.specs.Buffer.{after, written-length}
 use Rattle.batch.specs.declared.Stop.the-variants.{Full}
-use Rattle.batch.specs.Batch.{Answered, opening, acting, Progress, Stopped, hasRoom, wrote, onward, served, servedAll}
+use Rattle.batch.specs.Batch.{Answered, opening, acting, Progress, Stopped, hasRoom, wrote, onward, worked, workedAll}
 
 pub record Within (bytes : List ℕ) (size : ℕ) (p : Progress) : Type 0 where
   pub at : p .at ≤ length bytes
@@ -37,18 +37,18 @@ module _ (bytes : List ℕ) (size : ℕ) where
     lines = written-length (p .lines) (p .to) (lineOf (a .response)) ∙ w .lines;
   }
 
-  served-within : (n : ℕ) (p : Progress) → Within bytes size p → Within bytes size (served n bytes p .progress)
-  unfolding served
-  served-within zero p w = w
-  served-within (suc n) p w = go (λ q v. served-within n q v) (hasRoom (p .lines) (p .to)) (recordAt bytes (p .at)) refl
+  worked-within : (n : ℕ) (p : Progress) → Within bytes size p → Within bytes size (worked n bytes p .progress)
+  unfolding worked
+  worked-within zero p w = w
+  worked-within (suc n) p w = go (λ q v. worked-within n q v) (hasRoom (p .lines) (p .to)) (recordAt bytes (p .at)) refl
     where
-      go : ((q : Progress) → Within bytes size q → Within bytes size (served n bytes q .progress)) → (b : Bool) (r : Read) → recordAt bytes (p .at) ≡ r → Within bytes size (cond b (onward (served n bytes) p r) (record { progress = p; stop = Full }) .progress)
+      go : ((q : Progress) → Within bytes size q → Within bytes size (worked n bytes q .progress)) → (b : Bool) (r : Read) → recordAt bytes (p .at) ≡ r → Within bytes size (cond b (onward (worked n bytes) p r) (record { progress = p; stop = Full }) .progress)
       go rest false r e = w
-      go rest true (Open sh next) e = rest (wrote p next (opening sh (p .session))) (wrote-within p next (opening sh (p .session)) w (read-on bytes (p .at) (opens sh) next e .1))
-      go rest true (Act a next) e = rest (wrote p next (acting a (p .session))) (wrote-within p next (acting a (p .session)) w (read-on bytes (p .at) (acts a) next e .1))
+      go rest true (Open sh next) e = rest (wrote p next (opening sh (p .pool))) (wrote-within p next (opening sh (p .pool)) w (read-on bytes (p .at) (opens sh) next e .1))
+      go rest true (Act a next) e = rest (wrote p next (acting a (p .pool))) (wrote-within p next (acting a (p .pool)) w (read-on bytes (p .at) (acts a) next e .1))
       go rest true End e = w
       go rest true (Refused k) e = w
 
 -- what a caller has of it
-pub within : (bytes : List ℕ) (p : Progress) (q : Stopped) → q ≡ servedAll bytes p → p .at ≤ length bytes → p .to ≤ length (p .lines) → Within bytes (length (p .lines)) (q .progress)
-within bytes p q e h k = rw e (served-within bytes (length (p .lines)) (length bytes + 1) p (record { at = h; to = k; lines = refl }))
+pub within : (bytes : List ℕ) (p : Progress) (q : Stopped) → q ≡ workedAll bytes p → p .at ≤ length bytes → p .to ≤ length (p .lines) → Within bytes (length (p .lines)) (q .progress)
+within bytes p q e h k = rw e (worked-within bytes (length (p .lines)) (length bytes + 1) p (record { at = h; to = k; lines = refl }))

@@ -1,8 +1,8 @@
-// A stretch of a turn file against a pool: whole records in, lines out.
+// A batch of a turn file against a pool: whole records in, lines out.
 ghost use mathlib.Core.Path.{_≡_};
 ghost use Rattle.calendar.specs.facts.RangesKept.{leaks};
 ghost use Rattle.stages.specs.Ready.{Ready};
-ghost use Rattle.batch.specs.Batch.{servedAll};
+ghost use Rattle.batch.specs.Batch.{workedAll};
 ghost use Rattle.batch.specs.Held.{heldAll};
 ghost use Rattle.batch.specs.CodeView.{begins, ends, Sound};
 use admission::gate;
@@ -26,16 +26,16 @@ use words::get_field;
 
 pub mod table;
 
-// Why a stretch was left: every byte is worked through, the next line may not fit, or what follows is refused by 7 or 8.
+// Why a batch was left: every byte is worked through, the next line may not fit, or what follows is refused by 7 or 8.
 pub enum Stop {
     Drained,
     Full,
     Halted(u64),
 }
 
-// A pool between two stretches: the shape so far, whether store and table are in range, the workers' records.
+// A pool between two batches: the shape so far, whether store and table are in range, the workers' records.
 // `records` are lent, of which the first `held` stand in the array; what stands behind those says nothing of the lent ones.
-pub struct Desk {
+pub struct HeldPool {
     pub shape: Shape,
     pub sound: bool,
     pub records: usize,
@@ -43,9 +43,9 @@ pub struct Desk {
     pub table: [Worker; 64],
 }
 
-// How far a stretch was worked through: the next byte, the place of the next line, and why it was left.
+// How far a batch was worked through: the next byte, the place of the next line, and why it was left.
 pub struct Progress {
-    pub desk: Desk,
+    pub pool: HeldPool,
     pub at: usize,
     pub to: usize,
     pub stop: Stop,
@@ -65,31 +65,31 @@ fn turn_leaks(shape: Shape, w: Worker, store: &[u64]) -> bool
 }
 
 // Works through the records from `at` on and writes their lines from `to` on, while the longest line fits.
-pub fn serve(
-    desk: Desk,
+pub fn run_batch(
+    pool: HeldPool,
     input: &[u8],
     at: usize,
     out: &mut [u8],
     to: usize,
     store: &mut [u64],
 ) -> Progress
-    requires { ⌜ Sound desk (now store) ⌝ }
-    ensures { λ r. ⌜ (ends (now (store .exit)) (now (out .exit)) r ≡ servedAll (now (input .entry)) (begins desk (now (store .entry)) at (now (out .entry)) to))
-        × Sound (r .desk) (now (store .exit)) × (r .desk .records ≡ desk .records)
-        × (r .desk .held ≡ heldAll (now (input .entry)) (desk .held) (begins desk (now (store .entry)) at (now (out .entry)) to)) ⌝ }
+    requires { ⌜ Sound pool (now store) ⌝ }
+    ensures { λ r. ⌜ (ends (now (store .exit)) (now (out .exit)) r ≡ workedAll (now (input .entry)) (begins pool (now (store .entry)) at (now (out .entry)) to))
+        × Sound (r .pool) (now (store .exit)) × (r .pool .records ≡ pool .records)
+        × (r .pool .held ≡ heldAll (now (input .entry)) (pool .held) (begins pool (now (store .entry)) at (now (out .entry)) to)) ⌝ }
 {
-    let mut shape = desk.shape;
-    let mut sound = desk.sound;
-    let records = desk.records;
-    let mut held = desk.held;
-    let mut table = desk.table;
+    let mut shape = pool.shape;
+    let mut sound = pool.sound;
+    let records = pool.records;
+    let mut held = pool.held;
+    let mut table = pool.table;
     let mut at = at;
     let mut to = to;
     let words = store.len();
     let room = out.len();
     if room < 89 {
         return Progress {
-            desk: Desk {
+            pool: HeldPool {
                 shape,
                 sound,
                 records,
@@ -178,7 +178,7 @@ pub fn serve(
             },
             Read::End => {
                 return Progress {
-                    desk: Desk {
+                    pool: HeldPool {
                         shape,
                         sound,
                         records,
@@ -192,7 +192,7 @@ pub fn serve(
             }
             Read::Refused(k) => {
                 return Progress {
-                    desk: Desk {
+                    pool: HeldPool {
                         shape,
                         sound,
                         records,
@@ -207,7 +207,7 @@ pub fn serve(
         }
     }
     Progress {
-        desk: Desk {
+        pool: HeldPool {
             shape,
             sound,
             records,

@@ -11,14 +11,14 @@ use lib.Seq.{drop-drop, take-nil, take-take, take-at, length-take-le}
 use borrow.Author.Tests.{eqb-true, eqb-false, eq-eqb, ne-eqb}
 use Rattle.turn_file.specs.MoreBytes.{Unknown, Cut, at-end, why-refused, cut-short}
 use Rattle.turn_file.specs.Buffer.{written, after, written-length, after-within}
-use Rattle.batch.specs.declared.Desk.{Desk}
+use Rattle.batch.specs.declared.HeldPool.{HeldPool}
 use Rattle.batch.specs.declared.Progress as code
 use Rattle.batch.specs.declared.Stop.{Stop}
 use Rattle.batch.specs.declared.Stop.the-variants.{Drained, Full, Halted}
-use Rattle.batch.specs.Batch.{Progress, Stopped, servedAll}
+use Rattle.batch.specs.Batch.{Progress, Stopped, workedAll}
 use Rattle.batch.specs.CodeView.{lentTo, begins, ends}
 use Rattle.batch.specs.WithinBuffers.{within}
-use Rattle.batch.specs.PartOfFile.{Reason, stretch}
+use Rattle.batch.specs.PartOfFile.{Reason, part-of-file}
 use Rattle.turns.specs.declared.Next.{Next}
 use Rattle.turns.specs.declared.Next.the-variants.{Read, Last}
 use Rattle.turns.specs.declared.Round.{Round}
@@ -29,11 +29,11 @@ use Rattle.turns.specs.TurnsRun.{follows, lastLine, Held, Rounded, round
 abbrev pub inHand : ℕ → ℕ → List ℕ → List ℕ
 inHand at have input = take (have - at) (drop at input)
 
-abbrev pub holding : Desk → List ℕ → Bool → List ℕ → List ℕ → Held
-holding d s ended bytes out = record { session = record { shape = d .shape; memory = lentTo d s }; bytes = bytes; ended = ended; out = out }
+abbrev pub holding : HeldPool → List ℕ → Bool → List ℕ → List ℕ → Held
+holding d s ended bytes out = record { pool = record { shape = d .shape; memory = lentTo d s }; bytes = bytes; ended = ended; out = out }
 
 abbrev pub leaves : Round → ℕ → List ℕ → List ℕ → List ℕ → Rounded
-leaves r have input out s = record { session = record { shape = r .desk .shape; memory = lentTo (r .desk) s }; rest = inHand (r .at) have input; out = out; to = r .to; next = r .next }
+leaves r have input out s = record { pool = record { shape = r .pool .shape; memory = lentTo (r .pool) s }; rest = inHand (r .at) have input; out = out; to = r .to; next = r .next }
 
 -- the places within their buffers; of a cut record fewer bytes are kept than any record has
 pub record Placed (r : Round) (have : ℕ) (out : List ℕ) : Type 0 where
@@ -94,36 +94,36 @@ few-kept b false g (Halted k) why e = go (eqb k 8) refl e (why-refused b (g .at)
     go true f r (inl h) = absurd (omega (arith, eqb-true k 8 f, h .0))
     go true f r (inr h) = omega (arith, cut-short b (g .at) (h .1))
 
-module _ (d : Desk) (s : List ℕ) (ended : Bool) (at have : ℕ) (input out : List ℕ) (p : code.Progress) (s′ lines out′ : List ℕ) (to : ℕ) (next : Next)
-    (served : ends s′ lines p ≡ servedAll (inHand at have input) (begins d s 0 out 0)) (h : at ≤ have) (k : have ≤ length input)
+module _ (d : HeldPool) (s : List ℕ) (ended : Bool) (at have : ℕ) (input out : List ℕ) (p : code.Progress) (s′ lines out′ : List ℕ) (to : ℕ) (next : Next)
+    (worked : ends s′ lines p ≡ workedAll (inHand at have input) (begins d s 0 out 0)) (h : at ≤ have) (k : have ≤ length input)
     (follow : next ≡ follows ended (p .stop)) (closed : to ≡ after lines (p .to) (lastLine next)) (holds : out′ ≡ written lines (p .to) (lastLine next)) where
   abbrev b : List ℕ
   b = inHand at have input
 
   abbrev r : Round
-  r = record { desk = p .desk; at = at + p .at; to = to; next = next }
+  r = record { pool = p .pool; at = at + p .at; to = to; next = next }
 
   is-round : leaves r have input out′ s′ ≡ roundOf (holding d s ended b out)
   unfolding roundOf
-  is-round = now ∙ ap (rounded (holding d s ended b out)) served
+  is-round = now ∙ ap (rounded (holding d s ended b out)) worked
     where
       now : leaves r have input out′ s′ ≡ rounded (holding d s ended b out) (ends s′ lines p)
       now = cc (further-on at (p .at) have input)
 
   out-length : length out′ ≡ length out
-  out-length = ap length holds ∙ written-length lines (p .to) (lastLine next) ∙ within b (begins d s 0 out 0) (ends s′ lines p) served (omega arith) (omega arith) .lines
+  out-length = ap length holds ∙ written-length lines (p .to) (lastLine next) ∙ within b (begins d s 0 out 0) (ends s′ lines p) worked (omega arith) (omega arith) .lines
 
   at-within : at + p .at ≤ have
-  at-within = let w = within b (begins d s 0 out 0) (ends s′ lines p) served (omega arith) (omega arith) in omega (arith, w .at, in-hand-length at have input h k)
+  at-within = let w = within b (begins d s 0 out 0) (ends s′ lines p) worked (omega arith) (omega arith) in omega (arith, w .at, in-hand-length at have input h k)
 
   placed : Placed r have out′
   placed =
-      let w = within b (begins d s 0 out 0) (ends s′ lines p) served (omega arith) (omega arith) in
+      let w = within b (begins d s 0 out 0) (ends s′ lines p) worked (omega arith) (omega arith) in
       let a = after-within lines (p .to) (lastLine next) (w .to) in
       record {
         at = at-within;
         to = rw (holds, written-length lines (p .to) (lastLine next), closed) (a .1);
-        few = λ e. let why : Reason b (ends s′ lines p .progress) (ends s′ lines p .stop) = subst⁻¹ (λ (q : Stopped). Reason b (q .progress) (q .stop)) served (stretch b [] (length b + 1) (begins d s 0 out 0) (omega arith) .reason) in let l = few-kept b ended (ends s′ lines p .progress) (p .stop) why (sym follow ∙ e) in omega (arith, in-hand-length at have input h k);
+        few = λ e. let why : Reason b (ends s′ lines p .progress) (ends s′ lines p .stop) = subst⁻¹ (λ (q : Stopped). Reason b (q .progress) (q .stop)) worked (part-of-file b [] (length b + 1) (begins d s 0 out 0) (omega arith) .reason) in let l = few-kept b ended (ends s′ lines p .progress) (p .stop) why (sym follow ∙ e) in omega (arith, in-hand-length at have input h k);
       }
 
   -- THE CODE'S ROUND

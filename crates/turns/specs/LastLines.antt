@@ -1,4 +1,4 @@
--- How a round ends: a last line that is none leaves the buffer as it was, and what follows by each way out of a stretch. Assumes nothing.
+-- How a round ends: a last line that is none leaves the buffer as it was, and what follows by each way out of a batch. Assumes nothing.
 use mathlib.Core.Path.{_≡_, refl, sym, ap, _∙_}
 use mathlib.Core.Bool.{Bool, true, false, cond}
 use mathlib.Core.List.{List, [], _++_, append-nil}

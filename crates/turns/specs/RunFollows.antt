@@ -8,17 +8,17 @@ use native.Mathlib.Omega.{arith}
 use lib.Dec.{eqb}
 use lib.ListN.{length, take, drop}
 use lib.Seq.{append-snoc}
-use Rattle.batch.specs.declared.Desk.{Desk}
-use Rattle.batch.specs.Batch.{Session}
+use Rattle.batch.specs.declared.HeldPool.{HeldPool}
+use Rattle.batch.specs.Batch.{Pool}
 use Rattle.batch.specs.TurnFile.{Ran, behind, zeros, turnFile}
 use Rattle.batch.specs.PartOfFile.{behind-behind}
 use Rattle.turns.specs.declared.Ended.{Ended}
 use Rattle.turns.specs.declared.Ended.the-variants.{Finished, Closed, Spent}
 use Rattle.turns.specs.declared.Next.{Next}
-use Rattle.turns.specs.declared.Next.the-variants.{Serve, Read, End, Last}
+use Rattle.turns.specs.declared.Next.the-variants.{More, Read, End, Last}
 use Rattle.turns.specs.declared.Round.{Round}
 use Rattle.laws.specs.MoveFront.{moved}
-use Rattle.turns.specs.TurnsRun.{lent, Held, Rounded, roundOf, Reads, served-on, read-on, nextRound, rounds, atFirst, inputOf}
+use Rattle.turns.specs.TurnsRun.{lent, Held, Rounded, roundOf, Reads, worked-on, read-on, nextRound, rounds, atFirst, inputOf}
 use Rattle.turns.specs.InPieces.{load, in-pieces}
 use Rattle.turns.specs.BetweenRounds.{inHand, holding, leaves, read-behind, nothing-read}
 
@@ -37,12 +37,12 @@ pub record Followed (start h : Held) (left : ℕ) : Type 0 where
 -- The store is what the whole file leaves that was read.
 pub record Whole (store : List ℕ) : Type 0 where
   pub reads : Reads
-  pub same : store ≡ turnFile (inputOf reads) lent .session .memory .store
+  pub same : store ≡ turnFile (inputOf reads) lent .pool .memory .store
 
 -- The store is what so many rounds leave, on some reads.
 pub record After (count : ℕ) (start : Held) (store : List ℕ) : Type 0 where
   pub reads : Reads
-  pub same : store ≡ rounds count reads start .session .memory .store
+  pub same : store ≡ rounds count reads start .pool .memory .store
 
 -- after some rounds, at least one
 pub record Interrupted (start : Held) (store : List ℕ) : Type 0 where
@@ -64,11 +64,11 @@ module _ (start h : Held) (left : ℕ) (F : Followed start h left) where
   one-more n future = let e : F .count + 1 + n ≡ F .count + suc n = omega arith in ap (λ (k : ℕ). rounds k (F .reads ++ future) start) e ∙ F .same (suc n) future
 
   -- all rounds are used up
-  pub spent : left ≡ 0 → (store : List ℕ) → store ≡ h .session .memory .store → After allRounds start store
+  pub spent : left ≡ 0 → (store : List ℕ) → store ≡ h .pool .memory .store → After allRounds start store
   unfolding rounds
   spent none store e =
       let all : F .count + 0 ≡ allRounds = omega (arith, F .all, none) in
-      record { reads = F .reads ++ []; same = e ∙ sym (ap (λ (q : Ran). q .session .memory .store) (F .same 0 [])) ∙ ap (λ (k : ℕ). rounds k (F .reads ++ []) start .session .memory .store) all }
+      record { reads = F .reads ++ []; same = e ∙ sym (ap (λ (q : Ran). q .pool .memory .store) (F .same 0 [])) ∙ ap (λ (k : ℕ). rounds k (F .reads ++ []) start .pool .memory .store) all }
 
   module _ (r : Rounded) (is : r ≡ roundOf h) where
     -- what the rounds do by what follows this one
@@ -79,13 +79,13 @@ module _ (start h : Held) (left : ℕ) (F : Followed start h left) where
         ∙ ap (λ (q : Rounded). behind (F .lines) (behind (take (q .to) (q .out)) (nextRound (rounds n) future (h .ended) q (q .next)))) (sym is)
         ∙ ap (λ (m : Next). behind (F .lines) (behind (take (r .to) (r .out)) (nextRound (rounds n) future (h .ended) r m))) e
 
-    pub serving : (less : ℕ) → less + 1 ≡ left → r .next ≡ Serve → Followed start (served-on (h .ended) r) less
-    serving less one e = record {
+    pub working : (less : ℕ) → less + 1 ≡ left → r .next ≡ More → Followed start (worked-on (h .ended) r) less
+    working less one e = record {
       count = F .count + 1;
       reads = F .reads;
       lines = F .lines ++ take (r .to) (r .out);
       all = omega (arith, F .all, one);
-      same = λ n future. by-next Serve e n future ∙ sym (behind-behind (F .lines) (take (r .to) (r .out)) _);
+      same = λ n future. by-next More e n future ∙ sym (behind-behind (F .lines) (take (r .to) (r .out)) _);
     }
 
     pub reading : (less : ℕ) → less + 1 ≡ left → r .next ≡ Read → (piece : List ℕ) → Followed start (read-on piece r) less
@@ -97,57 +97,57 @@ module _ (start h : Held) (left : ℕ) (F : Followed start h left) where
       same = λ n future. ap (λ (l : Reads). rounds (F .count + 1 + n) l start) (append-snoc (F .reads) piece future) ∙ by-next Read e n (piece ∷ future) ∙ sym (behind-behind (F .lines) (take (r .to) (r .out)) _);
     }
 
-    stops : (m : Next) → nextRound (rounds 0) [] (h .ended) r m .session ≡ r .session
+    stops : (m : Next) → nextRound (rounds 0) [] (h .ended) r m .pool ≡ r .pool
     unfolding rounds
-    stops Serve = refl
+    stops More = refl
     stops Read = refl
     stops End = refl
     stops (Last k) = refl
 
     -- left behind this round, whatever would follow
-    pub closed : (store : List ℕ) → store ≡ r .session .memory .store → Interrupted start store
+    pub closed : (store : List ℕ) → store ≡ r .pool .memory .store → Interrupted start store
     closed store e = record {
       count = F .count + 1 + 0;
       some = omega arith;
       after = record {
         reads = F .reads ++ [];
-        same = e ∙ sym (ap (λ (q : Ran). q .session .memory .store) (by-next (r .next) refl 0 []) ∙ ap (λ (x : Session). x .memory .store) (stops (r .next)));
+        same = e ∙ sym (ap (λ (q : Ran). q .pool .memory .store) (by-next (r .next) refl 0 []) ∙ ap (λ (x : Pool). x .memory .store) (stops (r .next)));
       };
     }
 
 -- no round follows
 abbrev pub Ends : Next → Type 0
-Ends Serve = ⊥
+Ends More = ⊥
 Ends Read = ⊥
 Ends End = Unit {0}
 Ends (Last k) = Unit {0}
 
 module _ (out : List ℕ) (big : 89 ≤ length out) (h : Held) (left : ℕ) (F : Followed (atFirst lent out) h left) where
-  nothing-more : (r : Rounded) (m : Next) → Ends m → (n : ℕ) (future : Reads) → nextRound (rounds n) future (h .ended) r m .session ≡ r .session
+  nothing-more : (r : Rounded) (m : Next) → Ends m → (n : ℕ) (future : Reads) → nextRound (rounds n) future (h .ended) r m .pool ≡ r .pool
   nothing-more r End e n future = refl
   nothing-more r (Last k) e n future = refl
 
-  -- With any number of rounds to come the session stays, and with enough of them it is the file's.
-  pub finished : (r : Rounded) → r ≡ roundOf h → Ends (r .next) → (store : List ℕ) → store ≡ r .session .memory .store → Whole store
+  -- With any number of rounds to come the pool stays, and with enough of them it is the file's.
+  pub finished : (r : Rounded) → r ≡ roundOf h → Ends (r .next) → (store : List ℕ) → store ≡ r .pool .memory .store → Whole store
   finished r is ends store e =
       let reads : Reads = F .reads ++ [] in
       let n : ℕ = suc (suc (load reads)) in
       record {
         reads = reads;
-        same = e ∙ ap (λ (x : Session). x .memory .store) (sym (ap (λ (q : Ran). q .session) (by-next (atFirst lent out) h left F r is (r .next) refl n []) ∙ nothing-more r (r .next) ends n []))
-            ∙ ap (λ (q : Ran). q .session .memory .store) (in-pieces reads lent out big (F .count + 1 + n) (omega arith));
+        same = e ∙ ap (λ (x : Pool). x .memory .store) (sym (ap (λ (q : Ran). q .pool) (by-next (atFirst lent out) h left F r is (r .next) refl n []) ∙ nothing-more r (r .next) ends n []))
+            ∙ ap (λ (q : Ran). q .pool .memory .store) (in-pieces reads lent out big (F .count + 1 + n) (omega arith));
       }
 
 -- ── as the code holds it ──
 -- before the first round
-pub first-held : (d : Desk) (s input out : List ℕ) → d .shape ≡ zeros → d .records ≡ 64 → d .table ≡ lent .table → s ≡ lent .store → atFirst lent out ≡ holding d s false (inHand 0 0 input) out
+pub first-held : (d : HeldPool) (s input out : List ℕ) → d .shape ≡ zeros → d .records ≡ 64 → d .table ≡ lent .table → s ≡ lent .store → atFirst lent out ≡ holding d s false (inHand 0 0 input) out
 unfolding lent
 first-held d s input out shape records table store = cc (shape, ap (λ (n : ℕ). take n (d .table)) records ∙ ap (take 64) table, store)
 
 -- behind the kept rest stands what was read
 pub after-read : (start : Held) (r : Round) (have kept more : ℕ) (input front read out s : List ℕ) → r .at ≤ have → have ≤ length input → kept ≡ have - r .at → front ≡ moved (r .at) (have - r .at) input
     → take kept read ≡ take kept front → kept ≤ more → more ≤ length read → (left : ℕ) → ((piece : List ℕ) → Followed start (read-on piece (leaves r have input out s)) left)
-    → Followed start (holding (r .desk) s (eqb more kept) (inHand 0 more read) out) left
+    → Followed start (holding (r .pool) s (eqb more kept) (inHand 0 more read) out) left
 after-read start r have kept more input front read out s h k is e f l m left F = subst (λ (g : Held). Followed start g left) (sym same) (F (take (more - kept) (drop kept read)))
   where
     bytes : inHand 0 more read ≡ inHand (r .at) have input ++ take (more - kept) (drop kept read)
@@ -155,5 +155,5 @@ after-read start r have kept more input front read out s h k is e f l m left F =
         subst⁻¹ (λ (n : ℕ). take n read ≡ take n front → n ≤ more → inHand 0 more read ≡ inHand (r .at) have input ++ take (more - n) (drop n read)) is
         (λ f l. read-behind (r .at) have more input front read h k e f l m) f l
 
-    same : holding (r .desk) s (eqb more kept) (inHand 0 more read) out ≡ read-on (take (more - kept) (drop kept read)) (leaves r have input out s)
+    same : holding (r .pool) s (eqb more kept) (inHand 0 more read) out ≡ read-on (take (more - kept) (drop kept read)) (leaves r have input out s)
     same = cc (bytes, nothing-read kept more read l m)

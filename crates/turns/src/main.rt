@@ -12,16 +12,16 @@ ghost use Rattle.turns.specs.RunFollows.{Outcome};
 use arrival::Response;
 use arrival::Shape;
 use arrival::Worker;
-use batch::Desk;
+use batch::HeldPool;
 use batch::Stop;
-use batch::serve;
+use batch::run_batch;
 use libc::STDIN_FILENO;
 use libc::STDOUT_FILENO;
 use turn_file::write_line;
 
-// What follows a stretch: the rest of its bytes, more bytes behind that rest, or the run's end, without a last line or with the line of a refusal.
+// What follows a batch: the rest of its bytes, more bytes behind that rest, or the run's end, without a last line or with the line of a refusal.
 enum Next {
-    Serve,
+    More,
     Read,
     End,
     Last(u64),
@@ -29,7 +29,7 @@ enum Next {
 
 // Where a round leaves the run: the bytes not yet worked through stand from `at` on, the lines before `to`.
 struct Round {
-    desk: Desk,
+    pool: HeldPool,
     at: usize,
     to: usize,
     next: Next,
@@ -53,7 +53,7 @@ fn lent_words() -> [u64; WORDS]
 }
 
 // Before the first opening: a shape of zeros and idle workers.
-fn fresh_desk(store: &[u64]) -> Desk
+fn fresh_pool(store: &[u64]) -> HeldPool
     ensures { λ r. ⌜ Sound r (now (store .entry)) × (r .shape ≡ zeros) × (r .records ≡ 64) × (r .table ≡ lent .table) ⌝ }
 {
     let idle = Worker {
@@ -73,7 +73,7 @@ fn fresh_desk(store: &[u64]) -> Desk
         buckets: 0,
         width: 0,
     };
-    Desk {
+    HeldPool {
         shape,
         sound: false,
         records: 64,
@@ -82,12 +82,12 @@ fn fresh_desk(store: &[u64]) -> Desk
     }
 }
 
-// What follows a stretch that stopped so; `ended` tells whether the input has ended.
+// What follows a batch that stopped so; `ended` tells whether the input has ended.
 fn follow(stop: Stop, ended: bool) -> Next
     ensures { λ r. ⌜ r ≡ follows ended stop ⌝ }
 {
     match stop {
-        Stop::Full => Next::Serve,
+        Stop::Full => Next::More,
         Stop::Drained => {
             if ended {
                 return Next::End;
@@ -112,7 +112,7 @@ fn close(next: Next, out: &mut [u8], to: usize) -> usize
 {
     match next {
         Next::Last(k) => write_line(Response::Refused(k), out, to),
-        Next::Serve => to,
+        Next::More => to,
         Next::Read => to,
         Next::End => to,
     }
@@ -143,9 +143,9 @@ fn read_more(input: &mut [u8], have: usize) -> usize
     have + io::count(got, free)
 }
 
-// One round over the bytes from `at` to `have`: a stretch, the last line behind it, and what follows.
+// One round over the bytes from `at` to `have`: a batch, the last line behind it, and what follows.
 fn one_round(
-    desk: Desk,
+    pool: HeldPool,
     ended: bool,
     input: &[u8],
     at: usize,
@@ -153,18 +153,18 @@ fn one_round(
     out: &mut [u8],
     store: &mut [u64],
 ) -> Round
-    requires { ⌜ Sound desk (now store) × (at ≤ have) × (have ≤ length (now input)) ⌝ }
+    requires { ⌜ Sound pool (now store) × (at ≤ have) × (have ≤ length (now input)) ⌝ }
     ensures { λ r. ⌜ (leaves r have (now (input .entry)) (now (out .exit)) (now (store .exit))
-        ≡ roundOf (holding desk (now (store .entry)) ended (inHand at have (now (input .entry))) (now (out .entry))))
-        × Sound (r .desk) (now (store .exit)) × Placed r have (now (out .exit)) × (length (now (out .exit)) ≡ length (now (out .entry))) ⌝ }
+        ≡ roundOf (holding pool (now (store .entry)) ended (inHand at have (now (input .entry))) (now (out .entry))))
+        × Sound (r .pool) (now (store .exit)) × Placed r have (now (out .exit)) × (length (now (out .exit)) ≡ length (now (out .entry))) ⌝ }
 {
-    let p = serve(desk, &input[at..have], 0, out, 0, store);
+    let p = run_batch(pool, &input[at..have], 0, out, 0, store);
     let stop = p.stop;
     let next = follow(stop, ended);
     let to = close(next, out, p.to);
-    let desk = p.desk;
+    let pool = p.pool;
     Round {
-        desk,
+        pool,
         at: at + p.at,
         to,
         next,
@@ -176,24 +176,24 @@ fn run(store: &mut [u64], input: &mut [u8], out: &mut [u8]) -> Ended
     requires { ⌜ (now store ≡ lent .store) × (12 ≤ length (now input)) × (89 ≤ length (now out)) ⌝ }
     ensures { λ r. ⌜ Outcome (atFirst lent (now (out .entry))) (now (store .exit)) r ⌝ }
 {
-    let mut desk = fresh_desk(store);
+    let mut pool = fresh_pool(store);
     let mut ended = false;
     let mut at: usize = 0;
     let mut have: usize = 0;
     let mut left: u64 = 18446744073709551615;
     while 0 < left {
         left -= 1;
-        let r = one_round(desk, ended, input, at, have, out, store);
+        let r = one_round(pool, ended, input, at, have, out, store);
         let to = r.to;
         if !io::write_all(STDOUT_FILENO, &out[..to]) {
             return Ended::Closed;
         }
-        let after = r.desk;
-        desk = after;
+        let after = r.pool;
+        pool = after;
         at = r.at;
         let next = r.next;
         match next {
-            Next::Serve => {}
+            Next::More => {}
             Next::Read => {
                 let kept = keep_rest(input, at, have);
                 at = 0;

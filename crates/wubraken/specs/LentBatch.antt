@@ -1,4 +1,4 @@
--- A stretch on lent memory, in numbers; that records it does not hold do not matter and are kept, so that it may be served on a copy of the others. Assumes nothing.
+-- A batch on lent memory, in numbers; that records it does not hold do not matter and are kept, so that it may be ending on a copy of the others. Assumes nothing.
 use mathlib.Core.Path.{_≡_, refl, sym, ap, _∙_, subst, subst⁻¹}
 use mathlib.Core.List.{List, _++_}
 use mathlib.Core.Bool.{Bool, true, false, cond}
@@ -18,13 +18,13 @@ use Rattle.admission.specs.Watched.{Watched}
 use Rattle.admission.specs.Gate.{soundOf, sound-watched, shape-tests}
 use Rattle.batch.specs.declared.Stop.{Stop}
 use Rattle.batch.specs.declared.Stop.the-variants.{Drained, Full, Halted}
-use Rattle.batch.specs.Batch.{Stopped, servedAll}
+use Rattle.batch.specs.Batch.{Stopped, workedAll}
 use Rattle.batch.specs.Held.{heldAll}
 use Rattle.batch.specs.BatchLoop.{at-work}
 use Rattle.batch.specs.RecordsCounted.{countedOf, counted-bound, counted-again, counts}
 use Rattle.batch.specs.RecordsNotHeld.{over, all-within, all-alike}
-use Rattle.wubraken.specs.declared.stretch.Served.{Served}
-use Rattle.wubraken.specs.declared.stretch.Stretch.{Stretch}
+use Rattle.wubraken.specs.declared.batches.BatchEnd.{BatchEnd}
+use Rattle.wubraken.specs.declared.batches.HeldBatch.{HeldBatch}
 use Rattle.wubraken.specs.Survey.{surveyed, surveyed-bound}
 use Rattle.wubraken.specs.Results.{lent}
 
@@ -33,7 +33,7 @@ stopNumber Drained = 0
 stopNumber Full = 1
 stopNumber (Halted k) = k
 
--- the shape after a stretch, the memory, the lent lines; the bytes read and written; why it was left
+-- the shape after a batch, the memory, the lent lines; the bytes read and written; why it was left
 pub record Account : Type 0 where
   pub shape : Shape
   pub memory : Memory
@@ -42,13 +42,13 @@ pub record Account : Type 0 where
   pub written : ℕ
   pub stop : ℕ
 
-abbrev pub account : List ℕ → List Worker → List ℕ → Served → Account
+abbrev pub account : List ℕ → List Worker → List ℕ → BatchEnd → Account
 account s t lines r = record { shape = r .shape; memory = lent s t; lines = lines; read = r .read; written = r .written; stop = r .stop }
 
 abbrev pub accountOf : Stopped → Account
 accountOf q = record {
-  shape = q .progress .session .shape;
-  memory = q .progress .session .memory;
+  shape = q .progress .pool .shape;
+  memory = q .progress .pool .memory;
   lines = q .progress .lines;
   read = q .progress .at;
   written = q .progress .to;
@@ -56,20 +56,20 @@ accountOf q = record {
 }
 
 -- the records of the bytes one by one, from the first byte on
-unfoldable pub stretchOn : Shape → List ℕ → List Worker → List ℕ → List ℕ → Account
-stretchOn sh s t bytes lines = accountOf (servedAll bytes (at-work sh s t 0 lines 0))
+unfoldable pub batchOn : Shape → List ℕ → List Worker → List ℕ → List ℕ → Account
+batchOn sh s t bytes lines = accountOf (workedAll bytes (at-work sh s t 0 lines 0))
 
 -- how many records it holds: those of the shape's workers, and those that an opening in it clears
 unfoldable pub heldOn : Shape → List ℕ → List Worker → List ℕ → List ℕ → ℕ
 heldOn sh s t bytes lines = heldAll bytes (surveyed sh (length t)) (at-work sh s t 0 lines 0)
 
 -- ── records behind the held ones ──
--- what a stretch left, but the records from the k-th on as u has them
+-- what a batch left, but the records from the k-th on as u has them
 abbrev pub keepingFrom : ℕ → Account → List Worker → Account
 keepingFrom k a u = record { shape = a .shape; memory = lent (a .memory .store) (over k (a .memory .table) u); lines = a .lines; read = a .read; written = a .written; stop = a .stop }
 
 module _ (sh : Shape) (n : ℕ) where
-  -- a shape within its limits that n records can serve has all its workers' records looked at
+  -- a shape within its limits that n records are enough for has all its workers' records looked at
   all-surveyed : shapeInRange sh ≡ true → sh .workers ≤ n → surveyed sh n ≡ sh .workers
   all-surveyed inside long = rw (inside, le-ltb n (sh .workers) long)
 
@@ -86,10 +86,10 @@ module _ (sh : Shape) (n : ℕ) where
 
 module _ (sh : Shape) (s : List ℕ) (bytes lines : List ℕ) where
   -- on two tables with the same records of the shape's workers; with u the table itself: what is behind the held records stays
-  pub stretch-beyond : (t u : List Worker) → take (surveyed sh (length t)) u ≡ take (surveyed sh (length t)) t → countedOf (length u) ≡ countedOf (length t)
-      → stretchOn sh s u bytes lines ≡ keepingFrom (heldOn sh s t bytes lines) (stretchOn sh s t bytes lines) u
-  unfolding stretchOn heldOn
-  stretch-beyond t u first counted = ap accountOf (all-alike bytes (at-work sh s t 0 lines 0) (surveyed sh (length t)) u
+  pub batch-beyond : (t u : List Worker) → take (surveyed sh (length t)) u ≡ take (surveyed sh (length t)) t → countedOf (length u) ≡ countedOf (length t)
+      → batchOn sh s u bytes lines ≡ keepingFrom (heldOn sh s t bytes lines) (batchOn sh s t bytes lines) u
+  unfolding batchOn heldOn
+  batch-beyond t u first counted = ap accountOf (all-alike bytes (at-work sh s t 0 lines 0) (surveyed sh (length t)) u
       (record { first = first; counted = counted; within = surveyed-counted sh (length t) })
       (λ inside long. omega (arith, all-surveyed sh (length t) inside long)))
 
@@ -147,12 +147,12 @@ module _ (sh : Shape) (s : List ℕ) (t : List Worker) (bytes lines : List ℕ) 
         let b = counted-bound (length t) in
         (omega (arith, h, e, same-count, b .1), omega (arith, h, e, same-count, b .0))
 
-    -- what was served on the copy, and stored back, is the stretch on the table
-    pub stretch-is : (r : Stretch) (zs ls : List ℕ) → account zs (take (countedOf (length t)) (r .table)) ls (r .served) ≡ stretchOn sh s (take (countedOf (length t)) held) bytes lines
+    -- what was ending on the copy, and stored back, is the batch on the table
+    pub batch-is : (r : HeldBatch) (zs ls : List ℕ) → account zs (take (countedOf (length t)) (r .table)) ls (r .ending) ≡ batchOn sh s (take (countedOf (length t)) held) bytes lines
         → r .held ≡ heldOn sh s (take (countedOf (length t)) held) bytes lines → (ws : List Worker) → ws ≡ take (r .held) (r .table) ++ drop (r .held) t
-        → account zs ws ls (r .served) ≡ stretchOn sh s t bytes lines
-    stretch-is r zs ls e h ws back =
-        ap (λ (u : List Worker). account zs u ls (r .served)) (back ∙ ap (λ (u : List Worker). u ++ drop (r .held) t) (sym (take-take (r .held) counted (r .table) (omega (arith, held-within sh s bytes lines (take counted held), h, same-count)))))
+        → account zs ws ls (r .ending) ≡ batchOn sh s t bytes lines
+    batch-is r zs ls e h ws back =
+        ap (λ (u : List Worker). account zs u ls (r .ending)) (back ∙ ap (λ (u : List Worker). u ++ drop (r .held) t) (sym (take-take (r .held) counted (r .table) (omega (arith, held-within sh s bytes lines (take counted held), h, same-count)))))
         ∙ ap (λ (a : Account). keepingFrom (r .held) a t) e
-        ∙ ap (λ k. keepingFrom k (stretchOn sh s (take counted held) bytes lines) t) h
-        ∙ sym (stretch-beyond sh s bytes lines (take counted held) t same-first same-count)
+        ∙ ap (λ k. keepingFrom k (batchOn sh s (take counted held) bytes lines) t) h
+        ∙ sym (batch-beyond sh s bytes lines (take counted held) t same-first same-count)

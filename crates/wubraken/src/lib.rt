@@ -1,5 +1,5 @@
 // The library for hosts: entry points over lent memory, whatever it holds, for C and Rust to call. A start or turn copies one record out, calls a function
-// by value, and stores the record back; a stretch does so with those of the shape at hand and those that its openings clear.
+// by value, and stores the record back; a batch does so with those of the shape at hand and those that its openings clear.
 ghost use mathlib.Core.Path.{_≡_};
 ghost use mathlib.Core.Bool.{cond};
 ghost use Rattle.arrival.specs.declared.Action.the-variants.{Enqueue, Dequeue, Step};
@@ -7,11 +7,14 @@ ghost use Rattle.calendar.specs.rules.Layout.{layout};
 ghost use Rattle.calendar.specs.rules.Ranges.{shapeInRange};
 ghost use Rattle.calendar.specs.rules.Operations.{act, open-pool};
 ghost use Rattle.wubraken.specs.Results.{lent, leaves, told};
-ghost use Rattle.wubraken.specs.LentBatch.{account, stretchOn};
+ghost use Rattle.wubraken.specs.LentBatch.{account, batchOn};
 use answers::Answer;
 use arrival::Arrival;
 use arrival::Shape;
 use arrival::Worker;
+use batches::BatchEnd;
+use batches::records_counted;
+use batches::run_held;
 use copies::copy_back;
 use copies::copy_out;
 use ranges::shape_in_range;
@@ -20,18 +23,15 @@ use records::enqueue_record;
 use records::open_words;
 use records::step_record;
 use records::turn_away;
-use stretch::Served;
-use stretch::records_counted;
-use stretch::serve_records;
 use table::clear_table;
 use table::records_surveyed;
 use table::survey_table;
 use words::layout_words;
 
 pub mod answers;
+pub mod batches;
 pub mod copies;
 pub mod records;
-pub mod stretch;
 pub mod table;
 
 // How many words to lend for a shape; 0 where it is outside its limits.
@@ -123,21 +123,21 @@ pub extern "C" fn wubraken_step(
     }
 }
 
-// Works through a stretch of turn-file bytes and writes the lines. The lent memory is looked at once, not for every record.
+// Works through a batch of turn-file bytes and writes the lines. The lent memory is looked at once, not for every record.
 #[no_mangle]
-pub extern "C" fn wubraken_serve(
+pub extern "C" fn wubraken_run_batch(
     shape: Shape,
     input: &[u8],
     out: &mut [u8],
     store: &mut [u64],
     table: &mut [Worker],
-) -> Served
-    ensures { λ r. ⌜ account (now (store .exit)) (now (table .exit)) (now (out .exit)) r ≡ stretchOn shape (now (store .entry)) (now (table .entry)) (now (input .entry)) (now (out .entry)) ⌝ }
+) -> BatchEnd
+    ensures { λ r. ⌜ account (now (store .exit)) (now (table .exit)) (now (out .exit)) r ≡ batchOn shape (now (store .entry)) (now (table .entry)) (now (input .entry)) (now (out .entry)) ⌝ }
 {
     let n = records_counted(table.len());
     let k = records_surveyed(shape, n);
     let held = copy_out(table, k);
-    let r = serve_records(shape, n, held, input, out, store);
+    let r = run_held(shape, n, held, input, out, store);
     copy_back(table, r.table, r.held);
-    r.served
+    r.ending
 }

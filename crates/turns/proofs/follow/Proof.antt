@@ -1,4 +1,4 @@
--- Each way out of a stretch is followed by what the definition says. Assumes nothing.
+-- Each way out of a batch is followed by what the definition says. Assumes nothing.
 use Rattle.turns.specs.LastLines.{last-at-end, last-by-7}
 use borrow.Author.Needs.{needs}
 use Rattle.turns.proofs.follow.Statement.{statement}

@@ -7,26 +7,26 @@ use lib.Seq.{length-take-le}
 use Rattle.batch.specs.CodeView.{Sound}
 use Rattle.turns.specs.TurnsRun.{lent, Held, atFirst}
 use Rattle.turns.specs.BetweenRounds.{inHand, holding}
-use Rattle.turns.specs.RunFollows.{allRounds, Followed, Ends, at-start, serving, reading, closed, finished, spent, first-held, after-read}
+use Rattle.turns.specs.RunFollows.{allRounds, Followed, Ends, at-start, working, reading, closed, finished, spent, first-held, after-read}
 use borrow.Author.Needs.{needs}
 use Rattle.turns.proofs.run.Statement.{statement}
 use Rattle.turns.proofs.run.Tie as tie
 
 abbrev Inv-loop : tie.InvT-loop
-Inv-loop store₀ input₀ out₀ desk₀ ended₀ at₀ have₀ left₀ store input out desk ended at have left =
-    Sound desk store × (at ≤ have) × (have ≤ length input) × (length store ≡ length store₀) × (length input ≡ length input₀) × (length out ≡ length out₀)
-    × Followed (atFirst lent out₀) (holding desk store ended (inHand at have input) out) left
+Inv-loop store₀ input₀ out₀ pool₀ ended₀ at₀ have₀ left₀ store input out pool ended at have left =
+    Sound pool store × (at ≤ have) × (have ≤ length input) × (length store ≡ length store₀) × (length input ≡ length input₀) × (length out ≡ length out₀)
+    × Followed (atFirst lent out₀) (holding pool store ended (inHand at have input) out) left
 
 abbrev μ-loop : tie.MeasureT-loop
-μ-loop store₀ input₀ out₀ desk₀ ended₀ at₀ have₀ left₀ store input out desk ended at have left = left
+μ-loop store₀ input₀ out₀ pool₀ ended₀ at₀ have₀ left₀ store input out pool ended at have left = left
 
-fresh-desk-requires : tie.Need-fresh-desk-requires Inv-loop μ-loop
-fresh-desk-requires c κs = search needs
+fresh-pool-requires : tie.Need-fresh-pool-requires Inv-loop μ-loop
+fresh-pool-requires c κs = search needs
 
 loop-holds : tie.Need-loop-holds Inv-loop μ-loop
 loop-holds c = let a = c .before .before .before .before .before in
-    let d = c .fresh-desk .ensures in
-    (d .0, omega arith, omega arith, refl, refl, refl, subst (λ (h : Held). Followed (atFirst lent (a .args .out .now)) h allRounds) (first-held (c .fresh-desk .result) (a .args .store .now) (a .args .input .now) (a .args .out .now) (d .1) (d .2) (d .3) (a .pre .0)) (at-start (atFirst lent (a .args .out .now))))
+    let d = c .fresh-pool .ensures in
+    (d .0, omega arith, omega arith, refl, refl, refl, subst (λ (h : Held). Followed (atFirst lent (a .args .out .now)) h allRounds) (first-held (c .fresh-pool .result) (a .args .store .now) (a .args .input .now) (a .args .out .now) (d .1) (d .2) (d .3) (a .pre .0)) (at-start (atFirst lent (a .args .out .now))))
 
 sub-left : tie.Need-sub-left Inv-loop μ-loop
 sub-left c = search needs
@@ -64,7 +64,7 @@ loop-less c = search needs
 loop-again : tie.Need-loop-again Inv-loop μ-loop
 loop-again c = let i = c .before .before .before .before .before .before .before .before .before .before .before .before .before .before .before .loop .inv in
     let e = c .before .before .before .before .before .before .before .before .before .before .one-round .ensures in
-    (e .1, e .2 .at, i .2, search needs, search needs, search needs, serving (atFirst lent (c .before .before .before .before .before .before .before .before .before .before .before .before .before .before .before .before .before .before .before .before .before .args .out .now)) _ _ (i .6) _ (e .0) _ (omega arith) (c .enum-told .given .1))
+    (e .1, e .2 .at, i .2, search needs, search needs, search needs, working (atFirst lent (c .before .before .before .before .before .before .before .before .before .before .before .before .before .before .before .before .before .before .before .before .before .args .out .now)) _ _ (i .6) _ (e .0) _ (omega arith) (c .enum-told .given .1))
 
 enum-told-2 : tie.Need-enum-told-2 Inv-loop μ-loop
 enum-told-2 c = search needs
@@ -143,7 +143,7 @@ run-spec =
     (tie.spec
     Inv-loop
     μ-loop
-    fresh-desk-requires
+    fresh-pool-requires
     loop-holds
     sub-left
     one-round-requires

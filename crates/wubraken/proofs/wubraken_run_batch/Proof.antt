@@ -1,4 +1,4 @@
--- `wubraken_serve` meets its contract: a walk of its MIR, by hand. The table is lent as a `&` to `copy_out`, which copies the records of the shape's workers, and comes back; the bytes, the lines and the store go to `serve_records` and the table to `copy_back`, each at its own lifetime, and none is needed after its call.
+-- `wubraken_run_batch` meets its contract: a walk of its MIR, by hand. The table is lent as a `&` to `copy_out`, which copies the records of the shape's workers, and comes back; the bytes, the lines and the store go to `run_held` and the table to `copy_back`, each at its own lifetime, and none is needed after its call.
 -- All that the proof knows of the callees is that they meet their contracts. Assumes nothing.
 use mathlib.Core.Path.{_≡_, refl, sym, ap, subst, _∙_}
 use Prim.Native.Nat.{ℕ, suc, _<_, _≤_, _^_}
@@ -47,22 +47,22 @@ use Rattle.arrival.specs.declared.Worker.{Worker}
 use Rattle.batch.specs.RecordsCounted.{countedOf, counted-bound}
 use Rattle.calendar.specs.rules.Ranges.{blank}
 use Rattle.wubraken.specs.Survey.{surveyed}
-use Rattle.wubraken.specs.declared.stretch.Served.{Served}
-use Rattle.wubraken.specs.declared.stretch.Stretch.{Stretch}
-use Rattle.wubraken.specs.LentBatch.{account, stretchOn, heldOn, copied-bound, back-bound, stretch-is}
+use Rattle.wubraken.specs.declared.batches.BatchEnd.{BatchEnd}
+use Rattle.wubraken.specs.declared.batches.HeldBatch.{HeldBatch}
+use Rattle.wubraken.specs.LentBatch.{account, batchOn, heldOn, copied-bound, back-bound, batch-is}
 use Rattle.arrival.proofs.Shape as Sh
 use Rattle.arrival.proofs.Shape.Laws as Sh′
 use Rattle.arrival.proofs.Worker as T
 use Rattle.arrival.proofs.Worker.Laws as T′
-use Rattle.wubraken.proofs.stretch.Served as Sd
-use Rattle.wubraken.proofs.stretch.Served.Laws as Sd′
-use Rattle.wubraken.proofs.stretch.Stretch as St
-use Rattle.wubraken.proofs.stretch.Stretch.Laws as St′
+use Rattle.wubraken.proofs.batches.BatchEnd as Sd
+use Rattle.wubraken.proofs.batches.BatchEnd.Laws as Sd′
+use Rattle.wubraken.proofs.batches.HeldBatch as St
+use Rattle.wubraken.proofs.batches.HeldBatch.Laws as St′
 use Rattle.wubraken.proofs.Shared.{LentShared, lends-shared, comes-back-shared}
-use Rattle.wubraken.proofs.stretch.records_counted as count
-use Rattle.wubraken.proofs.stretch.records_counted.Symbol as count-def
-use Rattle.wubraken.proofs.stretch.records_counted.Symbol.{name as #count}
-use Rattle.wubraken.proofs.stretch.records_counted.Met as count-thm
+use Rattle.wubraken.proofs.batches.records_counted as count
+use Rattle.wubraken.proofs.batches.records_counted.Symbol as count-def
+use Rattle.wubraken.proofs.batches.records_counted.Symbol.{name as #count}
+use Rattle.wubraken.proofs.batches.records_counted.Met as count-thm
 use Rattle.wubraken.proofs.table.records_surveyed as workers
 use Rattle.wubraken.proofs.table.records_surveyed.Symbol as workers-def
 use Rattle.wubraken.proofs.table.records_surveyed.Symbol.{name as #workers}
@@ -71,18 +71,18 @@ use Rattle.wubraken.proofs.copies.copy_out as out
 use Rattle.wubraken.proofs.copies.copy_out.Symbol as out-def
 use Rattle.wubraken.proofs.copies.copy_out.Symbol.{name as #out}
 use Rattle.wubraken.proofs.copies.copy_out.Met as out-thm
-use Rattle.wubraken.proofs.stretch.serve_records as serve
-use Rattle.wubraken.proofs.stretch.serve_records.Symbol as serve-def
-use Rattle.wubraken.proofs.stretch.serve_records.Symbol.{name as #serve}
-use Rattle.wubraken.proofs.stretch.serve_records.Met as serve-thm
+use Rattle.wubraken.proofs.batches.run_held as work
+use Rattle.wubraken.proofs.batches.run_held.Symbol as work-def
+use Rattle.wubraken.proofs.batches.run_held.Symbol.{name as #work}
+use Rattle.wubraken.proofs.batches.run_held.Met as work-thm
 use Rattle.wubraken.proofs.copies.copy_back as back
 use Rattle.wubraken.proofs.copies.copy_back.Symbol as back-def
 use Rattle.wubraken.proofs.copies.copy_back.Symbol.{name as #back}
 use Rattle.wubraken.proofs.copies.copy_back.Met as back-thm
-use Rattle.wubraken.proofs.wubraken_serve.Key.{name as #key}
-use Rattle.wubraken.proofs.wubraken_serve as f
-use Rattle.wubraken.proofs.wubraken_serve.Statement as stated
-use Rattle.wubraken.proofs.wubraken_serve.Code as code
+use Rattle.wubraken.proofs.wubraken_run_batch.Key.{name as #key}
+use Rattle.wubraken.proofs.wubraken_run_batch as f
+use Rattle.wubraken.proofs.wubraken_run_batch.Statement as stated
+use Rattle.wubraken.proofs.wubraken_run_batch.Code as code
 
 abbrev stayed : Stays (f.ended .signature .params) (f.ended .kept)
 stayed = (stay-dropped (plain (λ _. Sh.the-row)) yes, (stay-dropped (shrSliceOf (0 ∷ []) tt (plain (λ _. u8))) yes, (gave-slice (1 ∷ []) tt (plain (λ _. u8)), (gave-slice (2 ∷ []) tt (plain (λ _. u64)), (gave-slice (3 ∷ []) tt (plain (λ _. T.the-row)), tt)))))
@@ -96,8 +96,8 @@ val-sh = LL.val Sh.the-type Sh′.the-laws
 abbrev vals : Worker → List Val
 vals = LL.vals T.the-type T′.the-laws
 
-abbrev val-served : Served → Val
-val-served = LL.val Sd.the-type Sd′.the-laws
+abbrev val-ending : BatchEnd → Val
+val-ending = LL.val Sd.the-type Sd′.the-laws
 
 -- the array's type, and its machine value
 abbrev Ws : RattleType
@@ -126,17 +126,17 @@ each-is (r ∷ rs) (u ∷ us) g = (g .0, each-is rs us (g .1))
 records-are : (rs : List Worker) (vs : List Val) → Is (Array (T.the-field .row) 64) (map (T.the-field .into) rs) vs → Is Ws rs vs
 records-are rs vs g = (g .0, ((g .1 .0 .0, sym (as-many rs) ∙ g .1 .0 .1), each-is rs (g .0) (g .1 .1)))
 
-table-is : (r : Stretch) (v : Val) → Is St.the-row r (v ∷ []) → Is Ws (r .table) (avals (r .table))
+table-is : (r : HeldBatch) (v : Val) → Is St.the-row r (v ∷ []) → Is Ws (r .table) (avals (r .table))
 table-is r v is = let g : Is Ws (r .table) _ = records-are (r .table) _ (LL.owed St.the-type St′.the-laws r _ is .0) in subst (Is Ws (r .table)) (told (r .table) _ g) g
 
-served-is : (r : Stretch) (v : Val) → Is St.the-row r (v ∷ []) → Is Sd.the-row (r .served) (val-served (r .served) ∷ [])
-served-is r v is = LL.owed St.the-type St′.the-laws r _ is .1 .1 .0
+ending-is : (r : HeldBatch) (v : Val) → Is St.the-row r (v ∷ []) → Is Sd.the-row (r .ending) (val-ending (r .ending) ∷ [])
+ending-is r v is = LL.owed St.the-type St′.the-laws r _ is .1 .1 .0
 
--- what the callees said of the table: n records are copied out, and as many stored back as the stretch held
+-- what the callees said of the table: n records are copied out, and as many stored back as the batch held
 abbrev Copied : ℕ → List Worker → List Worker → Type 0
 Copied n ys hs = hs ≡ take n ys ++ dropped n (replicate 64 blank)
 
-abbrev Returned : List Worker → Stretch → List Worker → Type 0
+abbrev Returned : List Worker → HeldBatch → List Worker → Type 0
 Returned ys r ws = ws ≡ take (r .held) (r .table) ++ dropped (r .held) ys
 
 module _ {M : Type 1} (𝓤 : URA M) (H : Heap 𝓤) (A : Atoms 𝓤) (mem : Memory → SProp 𝓤) (run : Routine → Fun 𝓤) where
@@ -150,8 +150,8 @@ module _ {M : Type 1} (𝓤 : URA M) (H : Heap 𝓤) (A : Atoms 𝓤) (mem : Mem
   abbrev Out : Contract 𝓤
   Out = tripleOf 𝓤 H A out.signature (out.spec 𝓤 H A mem run)
 
-  abbrev Serve : Contract 𝓤
-  Serve = tripleOf 𝓤 H A serve.signature (serve.spec 𝓤 H A mem run)
+  abbrev Work : Contract 𝓤
+  Work = tripleOf 𝓤 H A work.signature (work.spec 𝓤 H A mem run)
 
   abbrev Back : Contract 𝓤
   Back = tripleOf 𝓤 H A back.signature (back.spec 𝓤 H A mem run)
@@ -212,12 +212,12 @@ module _ {M : Type 1} (𝓤 : URA M) (H : Heap 𝓤) (A : Atoms 𝓤) (W : Given
   copied-fits : copied < 2 ^ 64
   copied-fits = omega (arith, within .0)
 
-  -- what `serve_records` said
-  abbrev Heard : List Worker → Stretch → List ℕ → List ℕ → Type 0
-  Heard hs r zs ls = (account zs (take counted (r .table)) ls (r .served) ≡ stretchOn sh (s .now) (take counted hs) (i .now) (l .now)) × (r .held ≡ heldOn sh (s .now) (take counted hs) (i .now) (l .now))
+  -- what `run_held` said
+  abbrev Heard : List Worker → HeldBatch → List ℕ → List ℕ → Type 0
+  Heard hs r zs ls = (account zs (take counted (r .table)) ls (r .ending) ≡ batchOn sh (s .now) (take counted hs) (i .now) (l .now)) × (r .held ≡ heldOn sh (s .now) (take counted hs) (i .now) (l .now))
 
-  abbrev Says : Served → List ℕ → List Worker → List ℕ → Type 0
-  Says v zs ws ls = account zs ws ls v ≡ stretchOn sh (s .now) ys (i .now) (l .now)
+  abbrev Says : BatchEnd → List ℕ → List Worker → List ℕ → Type 0
+  Says v zs ws ls = account zs ws ls v ≡ batchOn sh (s .now) ys (i .now) (l .now)
 
   abbrev Post : Val → SProp 𝓤
   Post = walkOf 𝓤 H A f.ended stayed (f.clauses 𝓤 H A mem run) .post (((κ₀, (κ₁, (κ₂, (κ₃, tt)))), (q₀, (q₁, (q₂, (q₃, tt)))), tt, args, at), tt)
@@ -245,40 +245,40 @@ module _ {M : Type 1} (𝓤 : URA M) (H : Heap 𝓤) (A : Atoms 𝓤) (W : Given
       qed W (‵ (flft (ν ∷ []) fullShare) ∷ ‵ (ShrSlice (named 0) (ν ∷ []) T.the-row .own (at-name δ) (tv ∷ [])) ∷ []) ∵ says ! within $ nothing ! $ move ! (1 ∷ 0 ∷ []) $ join ! $ frame ! $
       nothing ! $ owned ! usize (Is usize) (uint-makes 𝓤 H A W w64) copied _ (refl, copied-fits) $ fjoin ! $ move ! (1 ∷ 0 ∷ []) $ fjoin ! $ done !
 
-  -- the tokens and the slices that `serve_records` gets
+  -- the tokens and the slices that `run_held` gets
   abbrev tokens : Item 𝓤
   tokens = ‵ (flft κ₀ q₀) ⊛ ‵ (flft κ₁ q₁) ⊛ ‵ (flft κ₂ q₂) ⊛ ‵ ftrue
 
   abbrev slices : Fml
   slices = fsep (ShrSlice (named 0) κ₀ u8 .own i (iv ∷ [])) (fsep (MutSlice (named 1) κ₁ u8 .own l (lv ∷ [])) (fsep (MutSlice (named 2) κ₂ u64 .own s (sv ∷ [])) ftrue))
 
-  abbrev to-serve : List Worker → Serve 𝓤 H A mem run .Ghost
-  to-serve hs = (((κ₀, (κ₁, (κ₂, tt))), (q₀, (q₁, (q₂, tt))), tt, (sh, (counted, (hs, (i, (l, (s, tt)))))), (vals-sh sh, (vint w64 counted ∷ [], (avals hs, (iv ∷ [], (lv ∷ [], (sv ∷ [], tt))))))), tt)
+  abbrev to-work : List Worker → Work 𝓤 H A mem run .Ghost
+  to-work hs = (((κ₀, (κ₁, (κ₂, tt))), (q₀, (q₁, (q₂, tt))), tt, (sh, (counted, (hs, (i, (l, (s, tt)))))), (vals-sh sh, (vint w64 counted ∷ [], (avals hs, (iv ∷ [], (lv ∷ [], (sv ∷ [], tt))))))), tt)
 
-  goes-serve : (hs : List Worker) → Is Ws hs (avals hs) → ent 𝓤 (⋆ 𝓤 H A (tokens ∷ ‵ slices ∷ [])) (Serve 𝓤 H A mem run .pre (to-serve hs))
-  goes-serve hs g =
+  goes-work : (hs : List Worker) → Is Ws hs (avals hs) → ent 𝓤 (⋆ 𝓤 H A (tokens ∷ ‵ slices ∷ [])) (Work 𝓤 H A mem run .pre (to-work hs))
+  goes-work hs g =
       qed W (tokens ∷ ‵ slices ∷ []) ∵ says ! few $ frame ! $ owned ! Ws (Is Ws) (array-makes 𝓤 H A W T.the-row (LL.makes T.the-type T′.the-plain 𝓤 H A) 64) hs _ g $ fjoin ! $
       owned ! usize (Is usize) (uint-makes 𝓤 H A W w64) counted _ (refl, counted-fits) $ fjoin ! $ owned ! Sh.the-row (Is Sh.the-row) (LL.makes Sh.the-type Sh′.the-plain 𝓤 H A) sh _ sh-is $ fjoin ! $ done !
 
-  abbrev to-back : Stretch → Back 𝓤 H A mem run .Ghost
+  abbrev to-back : HeldBatch → Back 𝓤 H A mem run .Ghost
   to-back r = (((κ₃, tt), (q₃, tt), tt, (t, (r .table, (r .held, tt))), (tv ∷ [], (avals (r .table), (vint w64 (r .held) ∷ [], tt)))), tt)
 
-  goes-back : (r : Stretch) → (r .held ≤ 64) × (r .held ≤ length ys) → Is Ws (r .table) (avals (r .table)) → ent 𝓤 (sep 𝓤 (A .lft κ₃ q₃) (sem 𝓤 H A (MutSlice (named 3) κ₃ T.the-row .own t (tv ∷ [])))) (Back 𝓤 H A mem run .pre (to-back r))
+  goes-back : (r : HeldBatch) → (r .held ≤ 64) × (r .held ≤ length ys) → Is Ws (r .table) (avals (r .table)) → ent 𝓤 (sep 𝓤 (A .lft κ₃ q₃) (sem 𝓤 H A (MutSlice (named 3) κ₃ T.the-row .own t (tv ∷ [])))) (Back 𝓤 H A mem run .pre (to-back r))
   goes-back r bound g =
       qed W (‵ (flft κ₃ q₃) ∷ ‵ (MutSlice (named 3) κ₃ T.the-row .own t (tv ∷ [])) ∷ []) ∵ says ! bound $ nothing ! $ move ! (1 ∷ 0 ∷ []) $ join ! $ frame ! $
       nothing ! $ owned ! usize (Is usize) (uint-makes 𝓤 H A W w64) (r .held) _ (refl, omega (arith, bound .0)) $ fjoin ! $ owned ! Ws (Is Ws) (array-makes 𝓤 H A W T.the-row (LL.makes T.the-type T′.the-plain 𝓤 H A) 64) (r .table) _ g $ fjoin ! $ move ! (1 ∷ 0 ∷ []) $ fjoin ! $ done !
 
-  exits : (r : Stretch) (zs ls : List ℕ) (ws : List Worker) → Says (r .served) zs ws ls → length zs ≡ length (s .now) → length ls ≡ length (l .now) → length ws ≡ length ys → Is Sd.the-row (r .served) (val-served (r .served) ∷ [])
-      → ent 𝓤 (⋆ 𝓤 H A ((‵ (flft κ₃ q₃) ⊛ ‵ ftrue) ∷ ‵ (finally T.the-row γ ws) ∷ tokens ∷ ‵ (finally u64 (s .name) zs) ∷ ‵ (finally u8 (l .name) ls) ∷ [])) (Post (val-served (r .served)))
+  exits : (r : HeldBatch) (zs ls : List ℕ) (ws : List Worker) → Says (r .ending) zs ws ls → length zs ≡ length (s .now) → length ls ≡ length (l .now) → length ws ≡ length ys → Is Sd.the-row (r .ending) (val-ending (r .ending) ∷ [])
+      → ent 𝓤 (⋆ 𝓤 H A ((‵ (flft κ₃ q₃) ⊛ ‵ ftrue) ∷ ‵ (finally T.the-row γ ws) ∷ tokens ∷ ‵ (finally u64 (s .name) zs) ∷ ‵ (finally u8 (l .name) ls) ∷ [])) (Post (val-ending (r .ending)))
   exits r zs ls ws e same-s same-l same is =
       qed W ((‵ (flft κ₃ q₃) ⊛ ‵ ftrue) ∷ ‵ (finally T.the-row γ ws) ∷ tokens ∷ ‵ (finally u64 (s .name) zs) ∷ ‵ (finally u8 (l .name) ls) ∷ []) ∵
-      suffices ! _ (ends-at 𝓤 H A f.ended stayed (f.clauses 𝓤 H A mem run) W (((κ₀, (κ₁, (κ₂, (κ₃, tt)))), (q₀, (q₁, (q₂, (q₃, tt)))), tt, args, at), tt) (val-served (r .served)) (r .served) (tt, (tt, (ls, (zs, (ws, tt))))) (tt, (tt, (same-l, (same-s, (same, tt)))))) $ says ! e $
+      suffices ! _ (ends-at 𝓤 H A f.ended stayed (f.clauses 𝓤 H A mem run) W (((κ₀, (κ₁, (κ₂, (κ₃, tt)))), (q₀, (q₁, (q₂, (q₃, tt)))), tt, args, at), tt) (val-ending (r .ending)) (r .ending) (tt, (tt, (ls, (zs, (ws, tt))))) (tt, (tt, (same-l, (same-s, (same, tt)))))) $ says ! e $
       move ! (2 ∷ []) $ split ! $ move ! (1 ∷ []) $ split ! $ move ! (1 ∷ []) $ split ! $ move ! (0 ∷ 4 ∷ []) $ join ! $ move ! (2 ∷ 0 ∷ []) $ join ! $ move ! (2 ∷ 0 ∷ []) $ join ! $ frame ! $
       -- [true; the table's last list; the store's; the lines']
       move ! (1 ∷ 0 ∷ []) $ fjoin ! $ move ! (1 ∷ 0 ∷ []) $ fjoin ! $ move ! (1 ∷ 0 ∷ []) $ fjoin ! $ nothing ! $ fjoin ! $ nothing ! $ fjoin ! $
-      frame ! $ owned ! Sd.the-row (Is Sd.the-row) (LL.makes Sd.the-type Sd′.the-plain 𝓤 H A) (r .served) _ is $ done !
+      frame ! $ owned ! Sd.the-row (Is Sd.the-row) (LL.makes Sd.the-type Sd′.the-plain 𝓤 H A) (r .ending) _ is $ done !
 
-  module _ (C : Calls 𝓤 H) (Λ : Loops 𝓤 H) (fm : FmC 𝓤 H (W .laws) C) (known-count : Triple 𝓤 (C #count) (Count 𝓤 H A mem run)) (known-workers : Triple 𝓤 (C #workers) (Workers 𝓤 H A mem run)) (known-out : Triple 𝓤 (C #out) (Out 𝓤 H A mem run)) (known-serve : Triple 𝓤 (C #serve) (Serve 𝓤 H A mem run)) (known-back : Triple 𝓤 (C #back) (Back 𝓤 H A mem run)) where
+  module _ (C : Calls 𝓤 H) (Λ : Loops 𝓤 H) (fm : FmC 𝓤 H (W .laws) C) (known-count : Triple 𝓤 (C #count) (Count 𝓤 H A mem run)) (known-workers : Triple 𝓤 (C #workers) (Workers 𝓤 H A mem run)) (known-out : Triple 𝓤 (C #out) (Out 𝓤 H A mem run)) (known-work : Triple 𝓤 (C #work) (Work 𝓤 H A mem run)) (known-back : Triple 𝓤 (C #back) (Back 𝓤 H A mem run)) where
     walk : ent 𝓤 (onEntry 𝓤 H A f.signature (κ₀, (κ₁, (κ₂, (κ₃, tt)))) (q₀, (q₁, (q₂, (q₃, tt)))) args at) (WpFn 𝓤 H C Λ code.function (val-sh sh ∷ iv ∷ lv ∷ sv ∷ tv ∷ []) Post)
     walk =
         qed W ((‵ (flft κ₀ q₀) ⊛ ‵ (flft κ₁ q₁) ⊛ ‵ (flft κ₂ q₂) ⊛ ‵ (flft κ₃ q₃) ⊛ ‵ ftrue) ∷ ‵ (owns (Sh.the-row ∷ ShrSlice (named 0) κ₀ u8 ∷ MutSlice (named 1) κ₁ u8 ∷ MutSlice (named 2) κ₂ u64 ∷ MutSlice (named 3) κ₃ T.the-row ∷ []) args at) ∷ []) ∵ enter ! C Λ code.function (val-sh sh ∷ iv ∷ lv ∷ sv ∷ tv ∷ []) _ $
@@ -319,12 +319,12 @@ module _ {M : Type 1} (𝓤 : URA M) (H : Heap 𝓤) (A : Atoms 𝓤) (W : Given
         assigns ! (agg ! (and-then ! (load ! (from ! (stop !)) (look ! 22 refl)) (and-then ! (load ! (from ! (fld ! refl (stop !))) (look-in ! 42 (sub ! 1 refl (whole !)))) (no-more !)))) (from ! (stop !)) (init ! 20 refl (tt, (tt, (record { fits = room-l .0 }, tt)))) $
         assigns ! (addr ! (from ! (fld ! refl (hop ! (look-in ! 40 (sub ! 0 refl (whole !))) (stop !))))) (from ! (stop !)) (init ! 18 refl (tt, tt)) $
         assigns ! (agg ! (and-then ! (load ! (from ! (stop !)) (look ! 18 refl)) (and-then ! (load ! (from ! (fld ! refl (stop !))) (look-in ! 40 (sub ! 1 refl (whole !)))) (no-more !)))) (from ! (stop !)) (init ! 16 refl (tt, (tt, (record { fits = room-s .0 }, tt)))) $
-        -- `serve_records`
+        -- `run_held`
         move ! (4 ∷ 2 ∷ []) $ join ! $ move ! (4 ∷ 0 ∷ []) $ join ! $ move ! (4 ∷ 0 ∷ []) $ join ! $ move ! (4 ∷ 3 ∷ []) $ fjoin ! $ move ! (4 ∷ 0 ∷ []) $ fjoin ! $ move ! (4 ∷ 0 ∷ []) $ fjoin ! $
-        move ! (1 ∷ 0 ∷ []) $ use2 W (raw (Serve 𝓤 H A mem run .pre (to-serve hs))) (goes-serve hs (array-is hs v₁ is₁)) $
-        calls-at ! fm (Serve 𝓤 H A mem run) known-serve (to-serve hs) (and-then ! (load ! (from ! (stop !)) (look ! 39 refl)) (and-then ! (load ! (from ! (stop !)) (look ! 29 refl)) (and-then ! (load ! (from ! (stop !)) (look ! 25 refl)) (and-then ! (load ! (from ! (stop !)) (look ! 37 refl)) (and-then ! (load ! (from ! (stop !)) (look ! 13 refl)) (and-then ! (load ! (from ! (stop !)) (look ! 9 refl)) (no-more !))))))) (λ v.
-        use1 W (later (some (λ (r : Stretch). (tokens ⊛ ‵ (St.the-row .own r (v ∷ []))) ⊛ raw (ensured 𝓤 H A serve.ended (serve.clauses 𝓤 H A mem run) (κ₀, (κ₁, (κ₂, tt))) (sh, (counted, (hs, (i, (l, (s, tt)))))) tt r)))) (id⊢ 𝓤 _) $ await ! tt $ pick ! (λ r.
-        split ! $ move ! (1 ∷ []) $ use1 W (some (λ (zs : Unit {0} × (Unit {0} × (Unit {0} × (Unit {0} × (List ℕ × (List ℕ × Unit {0})))))). ‵ (lasts serve.ended (κ₀, (κ₁, (κ₂, tt))) (sh, (counted, (hs, (i, (l, (s, tt)))))) zs) ⊛ raw (fact 𝓤 (Heard hs r (zs .1 .1 .1 .1 .1 .0) (zs .1 .1 .1 .1 .0))))) (id⊢ 𝓤 _) $ pick ! (λ zs.
+        move ! (1 ∷ 0 ∷ []) $ use2 W (raw (Work 𝓤 H A mem run .pre (to-work hs))) (goes-work hs (array-is hs v₁ is₁)) $
+        calls-at ! fm (Work 𝓤 H A mem run) known-work (to-work hs) (and-then ! (load ! (from ! (stop !)) (look ! 39 refl)) (and-then ! (load ! (from ! (stop !)) (look ! 29 refl)) (and-then ! (load ! (from ! (stop !)) (look ! 25 refl)) (and-then ! (load ! (from ! (stop !)) (look ! 37 refl)) (and-then ! (load ! (from ! (stop !)) (look ! 13 refl)) (and-then ! (load ! (from ! (stop !)) (look ! 9 refl)) (no-more !))))))) (λ v.
+        use1 W (later (some (λ (r : HeldBatch). (tokens ⊛ ‵ (St.the-row .own r (v ∷ []))) ⊛ raw (ensured 𝓤 H A work.ended (work.clauses 𝓤 H A mem run) (κ₀, (κ₁, (κ₂, tt))) (sh, (counted, (hs, (i, (l, (s, tt)))))) tt r)))) (id⊢ 𝓤 _) $ await ! tt $ pick ! (λ r.
+        split ! $ move ! (1 ∷ []) $ use1 W (some (λ (zs : Unit {0} × (Unit {0} × (Unit {0} × (Unit {0} × (List ℕ × (List ℕ × Unit {0})))))). ‵ (lasts work.ended (κ₀, (κ₁, (κ₂, tt))) (sh, (counted, (hs, (i, (l, (s, tt)))))) zs) ⊛ raw (fact 𝓤 (Heard hs r (zs .1 .1 .1 .1 .1 .0) (zs .1 .1 .1 .1 .0))))) (id⊢ 𝓤 _) $ pick ! (λ zs.
         split ! $ move ! (1 ∷ []) $ heard ! (Heard hs r (zs .1 .1 .1 .1 .1 .0) (zs .1 .1 .1 .1 .0)) (λ e. fsplit ! $ drop ! $ fsplit ! $ drop ! $ fsplit ! $ drop ! $ fsplit ! $ drop ! $ fsplit ! $ fsplit ! $ move ! (1 ∷ []) $ feqL ! (λ same-l. move ! (1 ∷ []) $ fsplit ! $ fsplit ! $ move ! (1 ∷ []) $ feqL ! (λ same-s.
         move ! (3 ∷ []) $ split ! $ move ! (1 ∷ []) $ peeks ! St.the-row (Is St.the-row) (shows 𝓤 H A St.the-row) r (v ∷ []) (λ is.
         land ! (from ! (stop !)) (init ! 27 refl (LL.lawful St.the-type St′.the-laws 𝓤 H A W .typed r _ is .0)) $ rewrite ! 27 (λ (u : Val). ‵ (fat fullShare St′.mir l₉ 0 u)) (ap only (St′.lowers .val-is r _ is)) refl $
@@ -340,12 +340,12 @@ module _ {M : Type 1} (𝓤 : URA M) (H : Heap 𝓤) (A : Atoms 𝓤) (W : Given
         move ! (2 ∷ []) $ split ! $ move ! (1 ∷ []) $ feqL ! (λ ev.
         land ! (from ! (stop !)) (init ! 12 refl (subst (λ (y : Val). Holds (hasTy tyUnit y) × WT y) (sym (ap only ev)) (tt, tt))) $
         -- [the table's token; its last list; true; what r owns; the three tokens; the store's last list; true; the lines'; the locals]
-        assigns ! (of-opd ! (load ! (from ! (fld ! refl (stop !))) (look-in ! 28 (sub ! 2 refl (whole !))))) (from ! (stop !)) (init ! 46 refl (typed-served (r .served) (served-is r v is))) $
+        assigns ! (of-opd ! (load ! (from ! (fld ! refl (stop !))) (look-in ! 28 (sub ! 2 refl (whole !))))) (from ! (stop !)) (init ! 46 refl (typed-ending (r .ending) (ending-is r v is))) $
         returns ! (look ! 46 refl) $ forget ! 46 refl $ forget ! 44 refl $ forget ! 42 refl $ forget ! 40 refl $ forget ! 38 refl $ forget ! 36 refl $ forget ! 34 refl $ forget ! 32 refl $ forget ! 30 refl $ forget ! 28 refl $ forget ! 26 refl $ forget ! 24 refl $ forget ! 22 refl $ forget ! 20 refl $ forget ! 18 refl $ forget ! 16 refl $ forget ! 14 refl $ forget ! 12 refl $ forget ! 10 refl $ forget ! 8 refl $
         move ! (46 ∷ 47 ∷ []) $ free1 ! $ move ! (44 ∷ 45 ∷ []) $ free1 ! $ move ! (42 ∷ 43 ∷ []) $ free1 ! $ move ! (40 ∷ 41 ∷ []) $ free1 ! $ move ! (38 ∷ 39 ∷ []) $ free1 ! $ move ! (36 ∷ 37 ∷ []) $ free1 ! $ move ! (34 ∷ 35 ∷ []) $ free1 ! $ move ! (32 ∷ 33 ∷ []) $ free1 ! $ move ! (30 ∷ 31 ∷ []) $ free1 ! $ move ! (28 ∷ 29 ∷ []) $ free1 ! $ move ! (26 ∷ 27 ∷ []) $ free1 ! $ move ! (24 ∷ 25 ∷ []) $ free1 ! $ move ! (22 ∷ 23 ∷ []) $ free1 ! $ move ! (20 ∷ 21 ∷ []) $ free1 ! $ move ! (18 ∷ 19 ∷ []) $ free1 ! $ move ! (16 ∷ 17 ∷ []) $ free1 ! $ move ! (14 ∷ 15 ∷ []) $ free1 ! $ move ! (12 ∷ 13 ∷ []) $ free1 ! $ move ! (10 ∷ 11 ∷ []) $ free1 ! $ move ! (8 ∷ 9 ∷ []) $ free1 ! $ free0 ! $
-        keep ! (0 ∷ 1 ∷ 4 ∷ 5 ∷ 7 ∷ []) $ by ! (exits r (zs .1 .1 .1 .1 .1 .0) (zs .1 .1 .1 .1 .0) (ws .0) (stretch-is sh (s .now) ys (i .now) (l .now) hs e₁ r (zs .1 .1 .1 .1 .1 .0) (zs .1 .1 .1 .1 .0) (e .0) (e .1) (ws .0) c) same-s same-l same (served-is r v is)))))))))))))))))))))))))))))))))))))))))))))))))
+        keep ! (0 ∷ 1 ∷ 4 ∷ 5 ∷ 7 ∷ []) $ by ! (exits r (zs .1 .1 .1 .1 .1 .0) (zs .1 .1 .1 .1 .0) (ws .0) (batch-is sh (s .now) ys (i .now) (l .now) hs e₁ r (zs .1 .1 .1 .1 .1 .0) (zs .1 .1 .1 .1 .0) (e .0) (e .1) (ws .0) c) same-s same-l same (ending-is r v is)))))))))))))))))))))))))))))))))))))))))))))))))
       where
-        bound : (hs : List Worker) → Copied copied ys hs → (r : Stretch) → r .held ≡ heldOn sh (s .now) (take counted hs) (i .now) (l .now) → (r .held ≤ 64) × (r .held ≤ length ys)
+        bound : (hs : List Worker) → Copied copied ys hs → (r : HeldBatch) → r .held ≡ heldOn sh (s .now) (take counted hs) (i .now) (l .now) → (r .held ≤ 64) × (r .held ≤ length ys)
         bound hs e r h = back-bound sh (s .now) ys (i .now) (l .now) hs e (r .held) h
 
         typed-sh : Holds (hasTy Sh′.mir (val-sh sh)) × WT (val-sh sh)
@@ -354,35 +354,35 @@ module _ {M : Type 1} (𝓤 : URA M) (H : Heap 𝓤) (A : Atoms 𝓤) (W : Given
         atyped : (rs : List Worker) (v : Val) → Is Ws rs (v ∷ []) → Holds (hasTy (tyArray T′.mir 64) v) × WT v
         atyped rs v g = array-lawful 𝓤 H A W T.the-row (LL.lawful T.the-type T′.the-laws 𝓤 H A W) 64 .typed rs _ g .0
 
-        typed-served : (d : Served) → Is Sd.the-row d (val-served d ∷ []) → Holds (hasTy Sd′.mir (val-served d)) × WT (val-served d)
-        typed-served d g = LL.lawful Sd.the-type Sd′.the-laws 𝓤 H A W .typed d _ g .0
+        typed-ending : (d : BatchEnd) → Is Sd.the-row d (val-ending d ∷ []) → Holds (hasTy Sd′.mir (val-ending d)) × WT (val-ending d)
+        typed-ending d g = LL.lawful Sd.the-type Sd′.the-laws 𝓤 H A W .typed d _ g .0
 
 module _ {M : Type 1} (𝓤 : URA M) (H : Heap 𝓤) (A : Atoms 𝓤) (W : Given 𝓤 H A) (mem : Memory → SProp 𝓤) (run : Routine → Fun 𝓤) where
-  walks : (C : Calls 𝓤 H) (Λ : Loops 𝓤 H) → FmC 𝓤 H (W .laws) C → Triple 𝓤 (C #count) (Count 𝓤 H A mem run) → Triple 𝓤 (C #workers) (Workers 𝓤 H A mem run) → Triple 𝓤 (C #out) (Out 𝓤 H A mem run) → Triple 𝓤 (C #serve) (Serve 𝓤 H A mem run) → Triple 𝓤 (C #back) (Back 𝓤 H A mem run)
+  walks : (C : Calls 𝓤 H) (Λ : Loops 𝓤 H) → FmC 𝓤 H (W .laws) C → Triple 𝓤 (C #count) (Count 𝓤 H A mem run) → Triple 𝓤 (C #workers) (Workers 𝓤 H A mem run) → Triple 𝓤 (C #out) (Out 𝓤 H A mem run) → Triple 𝓤 (C #work) (Work 𝓤 H A mem run) → Triple 𝓤 (C #back) (Back 𝓤 H A mem run)
       → Walks 𝓤 H A f.ended stayed (WpFn 𝓤 H C Λ code.function) (f.clauses 𝓤 H A mem run)
-  walks C Λ fm known-count known-workers known-out known-serve known-back = walked 𝓤 H A f.ended stayed (f.clauses 𝓤 H A mem run) (WpFn 𝓤 H C Λ code.function)
+  walks C Λ fm known-count known-workers known-out known-work known-back = walked 𝓤 H A f.ended stayed (f.clauses 𝓤 H A mem run) (WpFn 𝓤 H C Λ code.function)
       (λ κs. (vals-sh, (slice-vals, (slice-vals, (slice-vals, (slice-vals, tt))))))
       (λ κs. (LL.tells Sh.the-type Sh′.the-laws, (shr-slice-tells (named 0) (κs .0) u8, (mut-slice-tells (named 1) (κs .1 .0) u8, (mut-slice-tells (named 2) (κs .1 .1 .0) u64, (mut-slice-tells (named 3) (κs .1 .1 .1 .0) T.the-row, tt))))))
       (λ κs qs bounds a g are. via 𝓤 _ (fst∗ 𝓤 _ (emp 𝓤))
       (walk 𝓤 H A W mem run (κs .0) (κs .1 .0) (κs .1 .1 .0) (κs .1 .1 .1 .0) (qs .0) (qs .1 .0) (qs .1 .1 .0) (qs .1 .1 .1 .0) (a .0) (a .1 .0) (a .1 .1 .0) (a .1 .1 .1 .0) (a .1 .1 .1 .1 .0 .ptr .0) (a .1 .1 .1 .1 .0 .ptr .1) (a .1 .1 .1 .1 .0 .name) (a .1 .1 .1 .1 .0 .now)
-      (are .0) (are .1 .0 .0 .1) (are .1 .1 .0 .0 .1) (are .1 .1 .1 .0 .0 .1) (are .1 .1 .1 .1 .0 .0 .1) C Λ fm known-count known-workers known-out known-serve known-back))
+      (are .0) (are .1 .0 .0 .1) (are .1 .1 .0 .0 .1) (are .1 .1 .1 .0 .0 .1) (are .1 .1 .1 .1 .0 .0 .1) C Λ fm known-count known-workers known-out known-work known-back))
 
 meets : {M : Type 1} (𝓤 : URA M) (H : Heap 𝓤) (A : Atoms 𝓤) → Given 𝓤 H A → (mem : Memory → SProp 𝓤) (run : Routine → Fun 𝓤) (𝓣 : Tables 𝓤 H)
-    → Triple 𝓤 (𝓣 .C #count) (Count 𝓤 H A mem run) → Triple 𝓤 (𝓣 .C #workers) (Workers 𝓤 H A mem run) → Triple 𝓤 (𝓣 .C #out) (Out 𝓤 H A mem run) → Triple 𝓤 (𝓣 .C #serve) (Serve 𝓤 H A mem run) → Triple 𝓤 (𝓣 .C #back) (Back 𝓤 H A mem run)
+    → Triple 𝓤 (𝓣 .C #count) (Count 𝓤 H A mem run) → Triple 𝓤 (𝓣 .C #workers) (Workers 𝓤 H A mem run) → Triple 𝓤 (𝓣 .C #out) (Out 𝓤 H A mem run) → Triple 𝓤 (𝓣 .C #work) (Work 𝓤 H A mem run) → Triple 𝓤 (𝓣 .C #back) (Back 𝓤 H A mem run)
     → Meets 𝓤 H A f.signature (WpFn 𝓤 H (𝓣 .C) (𝓣 .Λ) code.function) (f.spec 𝓤 H A mem run)
-meets 𝓤 H A W mem run 𝓣 known-count known-workers known-out known-serve known-back =
+meets 𝓤 H A W mem run 𝓣 known-count known-workers known-out known-work known-back =
     walk-meets 𝓤 H A f.ended stayed W
     (goes-dropped 𝓤 H A W 4 (plain (λ _. Sh.the-row)) yes (λ κs x f. refl), (goes-dropped 𝓤 H A W 4 (shrSliceOf (0 ∷ []) tt (plain (λ _. u8))) yes (λ κs x f. refl), (goes-gave-slice 𝓤 H A W 4 1 tt (plain (λ _. u8)), (goes-gave-slice 𝓤 H A W 4 2 tt (plain (λ _. u64)), (goes-gave-slice 𝓤 H A W 4 3 tt (plain (λ _. T.the-row)), tt))))) (f.clauses 𝓤 H A mem run)
-    (WpFn 𝓤 H (𝓣 .C) (𝓣 .Λ) code.function) (WpFn-mono 𝓤 H (W .laws) 𝓣 code.function) (walks 𝓤 H A W mem run (𝓣 .C) (𝓣 .Λ) (fmOf 𝓤 H (W .laws) 𝓣) known-count known-workers known-out known-serve known-back)
+    (WpFn 𝓤 H (𝓣 .C) (𝓣 .Λ) code.function) (WpFn-mono 𝓤 H (W .laws) 𝓣 code.function) (walks 𝓤 H A W mem run (𝓣 .C) (𝓣 .Λ) (fmOf 𝓤 H (W .laws) 𝓣) known-count known-workers known-out known-work known-back)
 
-pub wubraken-serve-spec : {M : Type 1} → stated.statement M
+pub wubraken-run-batch-spec : {M : Type 1} → stated.statement M
 unfolding code.routine tablesOf
-wubraken-serve-spec 𝓤 H 𝓜 𝓖 𝓡 =
+wubraken-run-batch-spec 𝓤 H 𝓜 𝓖 𝓡 =
     entered 𝓤 H (tripleOf 𝓤 H (𝓖 .A) f.signature (f.spec 𝓤 H (𝓖 .A) (𝓜 .mem) (𝓡 .run)))
     (tables 𝓤 H 𝓜 𝓡 code.env .C) (tables 𝓤 H 𝓜 𝓡 code.env .Λ) #key code.function (code.unfolded 𝓤 H 𝓜 𝓡)
     (meets 𝓤 H (𝓖 .A) (givenOf 𝓤 H 𝓜 𝓖) (𝓜 .mem) (𝓡 .run) (tablesOf 𝓤 H 𝓜 (tables 𝓤 H 𝓜 𝓡 code.env))
-    (cited 𝓤 H (Count 𝓤 H (𝓖 .A) (𝓜 .mem) (𝓡 .run)) 𝓜 𝓡 code.env #count count-def.routine code.calls-wubraken·stretch·records-counted (count-thm.met 𝓤 H 𝓜 𝓖 𝓡))
+    (cited 𝓤 H (Count 𝓤 H (𝓖 .A) (𝓜 .mem) (𝓡 .run)) 𝓜 𝓡 code.env #count count-def.routine code.calls-wubraken·batches·records-counted (count-thm.met 𝓤 H 𝓜 𝓖 𝓡))
     (cited 𝓤 H (Workers 𝓤 H (𝓖 .A) (𝓜 .mem) (𝓡 .run)) 𝓜 𝓡 code.env #workers workers-def.routine code.calls-wubraken·table·records-surveyed (workers-thm.met 𝓤 H 𝓜 𝓖 𝓡))
     (cited 𝓤 H (Out 𝓤 H (𝓖 .A) (𝓜 .mem) (𝓡 .run)) 𝓜 𝓡 code.env #out out-def.routine code.calls-wubraken·copies·copy-out (out-thm.met 𝓤 H 𝓜 𝓖 𝓡))
-    (cited 𝓤 H (Serve 𝓤 H (𝓖 .A) (𝓜 .mem) (𝓡 .run)) 𝓜 𝓡 code.env #serve serve-def.routine code.calls-wubraken·stretch·serve-records (serve-thm.met 𝓤 H 𝓜 𝓖 𝓡))
+    (cited 𝓤 H (Work 𝓤 H (𝓖 .A) (𝓜 .mem) (𝓡 .run)) 𝓜 𝓡 code.env #work work-def.routine code.calls-wubraken·batches·run-held (work-thm.met 𝓤 H 𝓜 𝓖 𝓡))
     (cited 𝓤 H (Back 𝓤 H (𝓖 .A) (𝓜 .mem) (𝓡 .run)) 𝓜 𝓡 code.env #back back-def.routine code.calls-wubraken·copies·copy-back (back-thm.met 𝓤 H 𝓜 𝓖 𝓡)))

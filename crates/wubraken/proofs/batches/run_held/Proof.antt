@@ -1,4 +1,4 @@
--- The desk of held records is sound, and what `batch::serve` leaves is told in numbers. Assumes nothing.
+-- The pool of held records is sound, and what `batch::run_batch` leaves is told in numbers. Assumes nothing.
 use mathlib.Core.Path.{_≡_, sym, ap, _∙_, subst⁻¹}
 use mathlib.Core.Bool.{Bool}
 use lib.ListN.{length, take}
@@ -10,11 +10,11 @@ use Rattle.admission.specs.Gate.{soundOf, sound-opens}
 use Rattle.batch.specs.Held.{heldAll}
 use Rattle.batch.specs.BatchLoop.{at-work}
 use Rattle.wubraken.specs.Survey.{surveyed, surveyed-bound, surveyed-shape}
-use Rattle.wubraken.specs.LentBatch.{Account, stretchOn, heldOn, stopNumber, accountOf, heldInRange, held-watched}
+use Rattle.wubraken.specs.LentBatch.{Account, batchOn, heldOn, stopNumber, accountOf, heldInRange, held-watched}
 use Rattle.wubraken.specs.Results.{lent}
 use borrow.Author.Needs.{needs}
-use Rattle.wubraken.proofs.stretch.serve_records.Statement.{statement}
-use Rattle.wubraken.proofs.stretch.serve_records.Tie as tie
+use Rattle.wubraken.proofs.batches.run_held.Statement.{statement}
+use Rattle.wubraken.proofs.batches.run_held.Tie as tie
 
 records-surveyed-requires : tie.Need-records-surveyed-requires
 records-surveyed-requires c κs = search needs
@@ -29,8 +29,8 @@ held-in-range-requires c κs =
 is-sound-requires : tie.Need-is-sound-requires
 is-sound-requires c κs = search needs
 
-serve-requires : tie.Need-serve-requires
-serve-requires c κs =
+run-batch-requires : tie.Need-run-batch-requires
+run-batch-requires c κs =
     let start = c .before .before .before .before .before .before .before .before .before in
     let a = start .args in
     let long : length (a .table) ≡ 64 = search needs in
@@ -54,25 +54,25 @@ same-length-2 : tie.Need-same-length-2
 same-length-2 c = search needs
 
 returns : tie.Need-returns
-unfolding stretchOn heldOn
+unfolding batchOn heldOn
 returns c =
-    let served = c .before .before .before .before .before .before .before .before .serve in
+    let ending = c .before .before .before .before .before .before .before .before .run-batch in
     let start = c .before .before .before .before .before .before .before .before .before .before .before .before .before .before .before .before .before .before in
     let a = start .args in
-    let r = served .result in
+    let r = ending .result in
     let long : length (a .table) ≡ 64 = search needs in
-    let lends : ℕ → ℕ → Account = λ (m k : ℕ). record { shape = r .desk .shape; memory = lent (served .last .1 .1 .1 .1 .1 .0) (take m (r .desk .table)); lines = served .last .1 .1 .1 .0; read = r .at; written = r .to; stop = k } in
+    let lends : ℕ → ℕ → Account = λ (m k : ℕ). record { shape = r .pool .shape; memory = lent (ending .last .1 .1 .1 .1 .1 .0) (take m (r .pool .table)); lines = ending .last .1 .1 .1 .0; read = r .at; written = r .to; stop = k } in
     let first = c .before .before .before .before .before .before .before .before .before .before .before .before .before .before .records-surveyed .ensures ∙ ap (surveyed (a .shape)) (sym (length-take-le (a .n) (a .table) (omega (arith, long, start .pre)))) in
-    (ap (lends (a .n)) (c .stop-number .ensures) ∙ ap (λ m. lends m (stopNumber (r .stop))) (sym (served .ensures .2)) ∙ ap accountOf (served .ensures .0), served .ensures .3 ∙ ap (λ k. heldAll (a .input .now) k (at-work (a .shape) (a .store .now) (take (a .n) (a .table)) 0 (a .out .now) 0)) first)
+    (ap (lends (a .n)) (c .stop-number .ensures) ∙ ap (λ m. lends m (stopNumber (r .stop))) (sym (ending .ensures .2)) ∙ ap accountOf (ending .ensures .0), ending .ensures .3 ∙ ap (λ k. heldAll (a .input .now) k (at-work (a .shape) (a .store .now) (take (a .n) (a .table)) 0 (a .out .now) 0)) first)
 
-pub serve-records-spec : {M : Type 1} → statement M
-serve-records-spec =
+pub run-held-spec : {M : Type 1} → statement M
+run-held-spec =
     tie.close
     (tie.spec
     records-surveyed-requires
     held-in-range-requires
     is-sound-requires
-    serve-requires
+    run-batch-requires
     stop-number-requires
     same-length
     same-length-2

@@ -4,13 +4,13 @@ use Prim.Native.Nat.{ℕ}
 use native.Mathlib.Omega.{arith}
 use Rattle.calendar.specs.rules.Ranges.{blank}
 use Rattle.turns.specs.TurnsRun.{lent}
-use Rattle.turns.proofs.fresh_desk.Statement.{statement}
-use Rattle.turns.proofs.fresh_desk.Tie as tie
+use Rattle.turns.proofs.fresh_pool.Statement.{statement}
+use Rattle.turns.proofs.fresh_pool.Tie as tie
 
 returns : tie.Need-returns
 unfolding lent blank
 returns c =
     ((refl, omega arith, λ l. absurd (omega (arith, l .limits .some-worker)), λ up. absurd (let z : _≡_ {A = ℕ} 0 1 = cc in omega arith)), refl, refl, refl)
 
-pub fresh-desk-spec : {M : Type 1} → statement M
-fresh-desk-spec = tie.close (tie.spec returns)
+pub fresh-pool-spec : {M : Type 1} → statement M
+fresh-pool-spec = tie.close (tie.spec returns)

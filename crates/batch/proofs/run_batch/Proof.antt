@@ -10,8 +10,8 @@ use Rattle.batch.specs.RoundArms.{Round, in-use, below-64, laid-out, rea
 use Rattle.batch.specs.RoundArms.{turned-away, enqueued, dequeued, stepped, not-opened, opened, at-drained, at-halted, at-full, kept}
 use Rattle.batch.specs.RoundArms.{known-open, known-act, nearer-open, nearer-act, first-round, no-room}
 use borrow.Author.Needs.{needs}
-use Rattle.batch.proofs.serve.Statement.{statement}
-use Rattle.batch.proofs.serve.Tie as tie
+use Rattle.batch.proofs.run_batch.Statement.{statement}
+use Rattle.batch.proofs.run_batch.Tie as tie
 
 abbrev Inv-loop2 : tie.InvT-loop2
 Inv-loop2 input at out to store shape sound records held table at' to' words room last next i arrival k w n low₀ j₀ low j =
@@ -418,8 +418,8 @@ returns-4 c =
     let end = at-full R (c .loop-test .left) in
     (end .0, kept R, refl, end .1)
 
-pub serve-spec : {M : Type 1} → statement M
-serve-spec =
+pub run-batch-spec : {M : Type 1} → statement M
+run-batch-spec =
     tie.close
     (tie.spec
     Inv-loop2
