@@ -1,5 +1,5 @@
 -- The refusals by number, and which of them each operation gets. Assumes nothing.
-use mathlib.Core.List.{List, [], _∷_}
+use mathlib.Core.List.{List, [], _∷_, _++_}
 use mathlib.Core.Bool.{Bool, cond, not, _&&_, _||_}
 use Prim.Native.Nat.{ℕ, _*_}
 use lib.Dec.{eqb, leb, ltb}
@@ -16,9 +16,12 @@ use Rattle.calendar.specs.rules.EnqueueSteps.{currentHolds}
 abbrev pub badShape : Shape → Bool
 badShape sh = not (shapeInRange sh)
 
--- 2: store or worker table too short
+-- 2: store or worker table too short; by how many words and records are lent
+abbrev pub short : Shape → ℕ → ℕ → Bool
+short sh words records = ltb words (layout sh) || ltb records (sh .workers)
+
 abbrev pub tooShort : Shape → List ℕ → List Worker → Bool
-tooShort sh s t = ltb (length s) (layout sh) || ltb (length t) (sh .workers)
+tooShort sh s t = short sh (length s) (length t)
 
 -- 3: a field of the lent store or table out of range
 abbrev pub outOfRange : Shape → List ℕ → List Worker → Bool
@@ -60,42 +63,37 @@ abbrev pub firstOf : List (ℕ × Bool) → ℕ
 firstOf [] = 0
 firstOf (x ∷ xs) = cond (x .1) (x .0) (firstOf xs)
 
--- Which refusals an operation can get.
+-- Which refusals an operation can get: the memory's first, 2 and 3 as tests that were made of it, and then its own.
+abbrev pub lengthTests : Shape → Bool → List (ℕ × Bool)
+lengthTests sh isShort = (1, badShape sh) ∷ (2, isShort) ∷ []
+
+abbrev pub memoryTests : Shape → Bool → Bool → ℕ → List (ℕ × Bool)
+memoryTests sh isShort isOut i = lengthTests sh isShort ++ (3, isOut) ∷ (4, noWorker sh i) ∷ []
+
+-- of a put, whose node is looked for: `none` says that none is free
+abbrev pub enqueueOwn : Shape → List ℕ → Arrival → Worker → Bool → List (ℕ × Bool)
+enqueueOwn sh s a w none = (5, badArrival a) ∷ (6, tooLate sh a) ∷ (9, busy w) ∷ (11, noTicket sh s) ∷ (12, none) ∷ []
+
+abbrev pub dequeueOwn : Shape → List ℕ → Worker → List (ℕ × Bool)
+dequeueOwn sh s w = (9, busy w) ∷ (11, noTicket sh s) ∷ []
+
+abbrev pub stepOwn : Shape → List ℕ → Worker → List (ℕ × Bool)
+stepOwn sh s w = (10, idle w) ∷ (11, noEpoch sh s w) ∷ []
+
 abbrev pub openTests : Shape → List ℕ → List Worker → List (ℕ × Bool)
-openTests sh s t = (1, badShape sh) ∷ (2, tooShort sh s t) ∷ []
+openTests sh s t = lengthTests sh (tooShort sh s t)
+
+abbrev pub memoryOf : Shape → List ℕ → List Worker → ℕ → List (ℕ × Bool)
+memoryOf sh s t i = memoryTests sh (tooShort sh s t) (outOfRange sh s t) i
 
 abbrev pub enqueueTests : Shape → List ℕ → List Worker → ℕ → Arrival → List (ℕ × Bool)
-enqueueTests sh s t i a =
-    (1, badShape sh)
-    ∷ (2, tooShort sh s t)
-    ∷ (3, outOfRange sh s t)
-    ∷ (4, noWorker sh i)
-    ∷ (5, badArrival a)
-    ∷ (6, tooLate sh a)
-    ∷ (9, busy (worker t i))
-    ∷ (11, noTicket sh s)
-    ∷ (12, noNode sh s t)
-    ∷ []
+enqueueTests sh s t i a = memoryOf sh s t i ++ enqueueOwn sh s a (worker t i) (noNode sh s t)
 
 abbrev pub dequeueTests : Shape → List ℕ → List Worker → ℕ → List (ℕ × Bool)
-dequeueTests sh s t i =
-    (1, badShape sh)
-    ∷ (2, tooShort sh s t)
-    ∷ (3, outOfRange sh s t)
-    ∷ (4, noWorker sh i)
-    ∷ (9, busy (worker t i))
-    ∷ (11, noTicket sh s)
-    ∷ []
+dequeueTests sh s t i = memoryOf sh s t i ++ dequeueOwn sh s (worker t i)
 
 abbrev pub stepTests : Shape → List ℕ → List Worker → ℕ → List (ℕ × Bool)
-stepTests sh s t i =
-    (1, badShape sh)
-    ∷ (2, tooShort sh s t)
-    ∷ (3, outOfRange sh s t)
-    ∷ (4, noWorker sh i)
-    ∷ (10, idle (worker t i))
-    ∷ (11, noEpoch sh s (worker t i))
-    ∷ []
+stepTests sh s t i = memoryOf sh s t i ++ stepOwn sh s (worker t i)
 
 -- The lowest number that applies is the answer.
 unfoldable pub openRefusal : Shape → List ℕ → List Worker → ℕ
