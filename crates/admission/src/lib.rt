@@ -1,12 +1,15 @@
-// Refusals 1 to 4. Of 3 there is a flag: computed by a look at every field, or carried from record to record.
+// Refusals 1 to 4 and the ranges that 3 tests. Of 3 there is a flag: computed by a look at every field, or carried from record to record.
 ghost use mathlib.Core.Path.{_≡_};
 ghost use mathlib.Core.Bool.{true};
 ghost use Rattle.calendar.specs.rules.Ranges.{shapeInRange};
-ghost use Rattle.admission.specs.Gate.{short, gateOf, openGate, soundOf, Tight};
+ghost use Rattle.calendar.specs.rules.Refusals.{short};
+ghost use Rattle.admission.specs.Gate.{gateOf, openGate, soundOf, Tight};
 use arrival::Shape;
 use ranges::shape_in_range;
 use ranges::store_in_range;
 use words::layout_words;
+
+pub mod ranges;
 
 // Whether so many words or records are too few.
 fn is_short(shape: Shape, words: usize, records: usize) -> bool

@@ -1,3 +1,4 @@
+pub mod FirstOf
 pub mod Views
 pub mod RangeFacts
 pub mod Accepted

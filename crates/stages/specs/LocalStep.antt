@@ -1,7 +1,7 @@
 -- The turn of one record: which refusals it can get by itself, and what it does otherwise. Assumes nothing.
 use mathlib.Core.Path.{_≡_, refl, sym, ap, _∙_}
 use mathlib.Core.Bool.{Bool, true, false, cond, _&&_}
-use mathlib.Core.List.{List, [], _∷_}
+use mathlib.Core.List.{List, _∷_}
 use mathlib.Core.Logic.{_≢_}
 use Prim.Native.Nat.{ℕ, _+_, _≤_, zero-le}
 use native.Mathlib.Omega.{arith}
@@ -13,12 +13,12 @@ use Rattle.arrival.specs.declared.Worker.{Worker}
 use Rattle.calendar.specs.rules.Layout.{epochIn}
 use Rattle.calendar.specs.rules.EnqueueSteps.{currentHolds, step-7}
 use Rattle.calendar.specs.rules.Steps.{rules, no-step, step, step-at}
-use Rattle.calendar.specs.rules.Refusals.{firstOf, idle, noEpoch}
+use Rattle.calendar.specs.rules.Refusals.{firstOf, stepOwn}
 use Rattle.words.specs.Done.{Done, done, refused, unlessRefused}
 
--- a stage that there is none, an idle record, no epoch left
+-- a stage that there is none comes before a turn's own refusals
 abbrev pub localRefusal : Shape → List ℕ → Worker → ℕ
-localRefusal sh s w = firstOf ((3, leb 14 (w .stage)) ∷ (10, idle w) ∷ (11, noEpoch sh s w) ∷ [])
+localRefusal sh s w = firstOf ((3, leb 14 (w .stage)) ∷ stepOwn sh s w)
 
 unfoldable pub localStep : Shape → List ℕ → Worker → Done
 localStep sh s w = unlessRefused (localRefusal sh s w) s w (done sh s (step sh s w))

@@ -12,7 +12,7 @@ use arrival::Shape;
 use arrival::Worker;
 use batch::HeldPool;
 use batch::Stop;
-use ranges::record_in_range;
+use admission::ranges::record_in_range;
 
 // The shape after a batch, the bytes read and written, and why it was left: 0 all bytes are worked through, 1 the next line may not fit, 7 or 8 what
 // follows is refused by that number.

@@ -17,7 +17,7 @@ use batches::records_counted;
 use batches::run_held;
 use copies::copy_back;
 use copies::copy_out;
-use ranges::shape_in_range;
+use admission::ranges::shape_in_range;
 use records::dequeue_record;
 use records::enqueue_record;
 use records::open_words;

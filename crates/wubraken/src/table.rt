@@ -8,8 +8,8 @@ ghost use Rattle.calendar.specs.rules.Ranges.{shapeInRange, blank};
 ghost use Rattle.wubraken.specs.Survey.{seen, surveyed, survey};
 use arrival::Shape;
 use arrival::Worker;
-use ranges::record_in_range;
-use ranges::shape_in_range;
+use admission::ranges::record_in_range;
+use admission::ranges::shape_in_range;
 use starts::free::lower_ticket;
 
 // What a look over records finds: whether all are in range, and the least ticket in progress; and how many they are.

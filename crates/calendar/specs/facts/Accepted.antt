@@ -18,6 +18,8 @@ use Rattle.calendar.specs.facts.RangeFacts.{Limits, limits, StoreRanges,
 use Rattle.calendar.specs.facts.Views.{view}
 use Rattle.calendar.specs.rules.Reclaim.{firstFree}
 use Rattle.calendar.specs.rules.Refusals.{badShape, tooShort, outOfRange, noWorker, badArrival, tooLate, busy, idle, noTicket, noEpoch, noNode, openRefusal, enqueueRefusal, dequeueRefusal, stepRefusal}
+use Rattle.calendar.specs.rules.Refusals.{openTests, enqueueTests, dequeueTests, stepTests}
+use Rattle.calendar.specs.facts.FirstOf.{first-none}
 
 -- shape and lengths: refusals 1 and 2
 pub record Lent (sh : Shape) (s : List ℕ) (t : List Worker) : Type 0 where
@@ -53,11 +55,6 @@ pub record StepAccepted (sh : Shape) (s : List ℕ) (t : List Worker) (i : ℕ) 
   pub busy : worker t i .stage ≢ 0
   pub epoch : noEpoch sh s (worker t i) ≡ false
 
--- the first of a chain of refusals does not apply, and the rest gives none
-passed : (b : Bool) (k rest : ℕ) → cond b (suc k) rest ≡ 0 → (b ≡ false) × (rest ≡ 0)
-passed true k rest e = absurd (omega arith)
-passed false k rest e = (refl, e)
-
 holds : (b : Bool) → not b ≡ false → b ≡ true
 holds true e = refl
 holds false e = sym e
@@ -75,22 +72,13 @@ usable sh s t i one two three four =
 pub open-accepted : (sh : Shape) (s : List ℕ) (t : List Worker) → openRefusal sh s t ≡ 0 → Lent sh s t
 unfolding openRefusal
 open-accepted sh s t e =
-    let (one, e) = passed _ 0 _ e in
-    let (two, e) = passed _ 1 _ e in
+    let (one, (two, last)) = first-none (openTests sh s t) refl e in
     lent sh s t one two
 
 pub enqueue-accepted : (sh : Shape) (s : List ℕ) (t : List Worker) (i : ℕ) (a : Arrival) → enqueueRefusal sh s t i a ≡ 0 → EnqueueAccepted sh s t i a
 unfolding enqueueRefusal
 enqueue-accepted sh s t i a e =
-    let (one, e) = passed _ 0 _ e in
-    let (two, e) = passed _ 1 _ e in
-    let (three, e) = passed _ 2 _ e in
-    let (four, e) = passed _ 3 _ e in
-    let (five, e) = passed _ 4 _ e in
-    let (six, e) = passed _ 5 _ e in
-    let (nine, e) = passed _ 8 _ e in
-    let (eleven, e) = passed _ 10 _ e in
-    let (twelve, e) = passed _ 11 _ e in
+    let (one, (two, (three, (four, (five, (six, (nine, (eleven, (twelve, last))))))))) = first-none (enqueueTests sh s t i a) refl e in
     let (p, far) = parts _ _ (holds _ five) in
     let (path, order) = parts _ _ p in
     let (some-distance, distance) = parts _ _ far in
@@ -109,21 +97,11 @@ enqueue-accepted sh s t i a e =
 pub dequeue-accepted : (sh : Shape) (s : List ℕ) (t : List Worker) (i : ℕ) → dequeueRefusal sh s t i ≡ 0 → DequeueAccepted sh s t i
 unfolding dequeueRefusal
 dequeue-accepted sh s t i e =
-    let (one, e) = passed _ 0 _ e in
-    let (two, e) = passed _ 1 _ e in
-    let (three, e) = passed _ 2 _ e in
-    let (four, e) = passed _ 3 _ e in
-    let (nine, e) = passed _ 8 _ e in
-    let (eleven, e) = passed _ 10 _ e in
+    let (one, (two, (three, (four, (nine, (eleven, last)))))) = first-none (dequeueTests sh s t i) refl e in
     record { usable = usable sh s t i one two three four; idle = eqb-true _ _ (holds _ nine); ticket = eqb-false _ _ eleven }
 
 pub step-accepted : (sh : Shape) (s : List ℕ) (t : List Worker) (i : ℕ) → stepRefusal sh s t i ≡ 0 → StepAccepted sh s t i
 unfolding stepRefusal
 step-accepted sh s t i e =
-    let (one, e) = passed _ 0 _ e in
-    let (two, e) = passed _ 1 _ e in
-    let (three, e) = passed _ 2 _ e in
-    let (four, e) = passed _ 3 _ e in
-    let (ten, e) = passed _ 9 _ e in
-    let (eleven, e) = passed _ 10 _ e in
+    let (one, (two, (three, (four, (ten, (eleven, last)))))) = first-none (stepTests sh s t i) refl e in
     record { usable = usable sh s t i one two three four; busy = eqb-false _ _ (not-true _ (holds _ ten)); epoch = eleven }

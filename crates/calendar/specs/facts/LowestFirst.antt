@@ -9,11 +9,7 @@ use Rattle.arrival.specs.declared.Shape.{Shape}
 use Rattle.arrival.specs.declared.Arrival.{Arrival}
 use Rattle.arrival.specs.declared.Worker.{Worker}
 use Rattle.calendar.specs.rules.Refusals.{firstOf, openTests, enqueueTests, dequeueTests, stepTests, openRefusal, enqueueRefusal, dequeueRefusal, stepRefusal}
-
--- the numbers rise from above k
-abbrev pub Rising : ℕ → List (ℕ × Bool) → Type 0
-Rising k [] = Unit {0}
-Rising k (x ∷ xs) = (k < x .0) × Rising (x .0) xs
+use Rattle.calendar.specs.facts.FirstOf.{Rising, rises, by-numbers}
 
 -- number n is in the list, and its test holds
 abbrev pub Applies : ℕ → List (ℕ × Bool) → Type 0
@@ -42,21 +38,21 @@ first-lowest k (x ∷ xs) r n a = go (x .1) refl a (λ b. first-lowest (x .0) xs
 abbrev pub Lowest : ℕ → List (ℕ × Bool) → Type 0
 Lowest k tests = (k ≢ 0 → Applies k tests) × ((n : ℕ) → Applies n tests → (0 < k) × (k ≤ n))
 
-lowest-of : (tests : List (ℕ × Bool)) → Rising 0 tests → Lowest (firstOf tests) tests
-lowest-of tests r = (first-applies tests, first-lowest 0 tests r)
+lowest-of : (tests : List (ℕ × Bool)) → rises 0 tests ≡ true → Lowest (firstOf tests) tests
+lowest-of tests up = (first-applies tests, first-lowest 0 tests (by-numbers 0 tests up))
 
 pub open-lowest : (sh : Shape) (s : List ℕ) (t : List Worker) → Lowest (openRefusal sh s t) (openTests sh s t)
 unfolding openRefusal
-open-lowest sh s t = lowest-of (openTests sh s t) (omega arith, (omega arith, tt))
+open-lowest sh s t = lowest-of (openTests sh s t) refl
 
 pub enqueue-lowest : (sh : Shape) (s : List ℕ) (t : List Worker) (i : ℕ) (a : Arrival) → Lowest (enqueueRefusal sh s t i a) (enqueueTests sh s t i a)
 unfolding enqueueRefusal
-enqueue-lowest sh s t i a = lowest-of (enqueueTests sh s t i a) (omega arith, (omega arith, (omega arith, (omega arith, (omega arith, (omega arith, (omega arith, (omega arith, (omega arith, tt)))))))))
+enqueue-lowest sh s t i a = lowest-of (enqueueTests sh s t i a) refl
 
 pub dequeue-lowest : (sh : Shape) (s : List ℕ) (t : List Worker) (i : ℕ) → Lowest (dequeueRefusal sh s t i) (dequeueTests sh s t i)
 unfolding dequeueRefusal
-dequeue-lowest sh s t i = lowest-of (dequeueTests sh s t i) (omega arith, (omega arith, (omega arith, (omega arith, (omega arith, (omega arith, tt))))))
+dequeue-lowest sh s t i = lowest-of (dequeueTests sh s t i) refl
 
 pub step-lowest : (sh : Shape) (s : List ℕ) (t : List Worker) (i : ℕ) → Lowest (stepRefusal sh s t i) (stepTests sh s t i)
 unfolding stepRefusal
-step-lowest sh s t i = lowest-of (stepTests sh s t i) (omega arith, (omega arith, (omega arith, (omega arith, (omega arith, (omega arith, tt))))))
+step-lowest sh s t i = lowest-of (stepTests sh s t i) refl

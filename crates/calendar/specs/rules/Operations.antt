@@ -54,10 +54,14 @@ refusal sh m (Enqueue i a) = enqueueRefusal sh (m .store) (m .table) i a
 refusal sh m (Dequeue i) = dequeueRefusal sh (m .store) (m .table) i
 refusal sh m (Step i) = stepRefusal sh (m .store) (m .table) i
 
+-- what it does to its worker's record w; n is the node that a put gets
+abbrev pub outcomeOf : Shape → List ℕ → ℕ → Action → Worker → Outcome
+outcomeOf sh s n (Enqueue i a) w = enqueueStart sh s n a w
+outcomeOf sh s n (Dequeue i) w = dequeueStart sh s w
+outcomeOf sh s n (Step i) w = step sh s w
+
 abbrev pub outcome : Shape → Memory → Action → Outcome
-outcome sh m (Enqueue i a) = enqueueStart sh (m .store) (firstFree sh (m .store) (m .table)) a (worker (m .table) i)
-outcome sh m (Dequeue i) = dequeueStart sh (m .store) (worker (m .table) i)
-outcome sh m (Step i) = step sh (m .store) (worker (m .table) i)
+outcome sh m a = outcomeOf sh (m .store) (firstFree sh (m .store) (m .table)) a (worker (m .table) (actor a))
 
 unfoldable pub act : Shape → Memory → Action → Result
 act sh m a = unless (refusal sh m a) m (perform sh m (actor a) (outcome sh m a))

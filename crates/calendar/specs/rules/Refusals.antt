@@ -7,6 +7,8 @@ use lib.ListN.{length}
 use Rattle.arrival.specs.declared.Shape.{Shape}
 use Rattle.arrival.specs.declared.Arrival.{Arrival}
 use Rattle.arrival.specs.declared.Worker.{Worker}
+use Rattle.arrival.specs.declared.Action.{Action}
+use Rattle.arrival.specs.declared.Action.the-variants.{Enqueue, Dequeue, Step}
 use Rattle.calendar.specs.rules.Layout.{layout, started, epochIn}
 use Rattle.calendar.specs.rules.Ranges.{shapeInRange, pathInRange, orderInRange, distanceInRange, storeInRange, tableInRange, worker}
 use Rattle.calendar.specs.rules.Reclaim.{inProgress, firstFree}
@@ -70,15 +72,26 @@ lengthTests sh isShort = (1, badShape sh) ∷ (2, isShort) ∷ []
 abbrev pub memoryTests : Shape → Bool → Bool → ℕ → List (ℕ × Bool)
 memoryTests sh isShort isOut i = lengthTests sh isShort ++ (3, isOut) ∷ (4, noWorker sh i) ∷ []
 
--- of a put, whose node is looked for: `none` says that none is free
-abbrev pub enqueueOwn : Shape → List ℕ → Arrival → Worker → Bool → List (ℕ × Bool)
-enqueueOwn sh s a w none = (5, badArrival a) ∷ (6, tooLate sh a) ∷ (9, busy w) ∷ (11, noTicket sh s) ∷ (12, none) ∷ []
+-- of a put, before a node is looked for: `spent` says that no ticket is left; and then, `none` that no node is free
+abbrev pub earlyOwn : Shape → Arrival → Worker → Bool → List (ℕ × Bool)
+earlyOwn sh a w spent = (5, badArrival a) ∷ (6, tooLate sh a) ∷ (9, busy w) ∷ (11, spent) ∷ []
 
-abbrev pub dequeueOwn : Shape → List ℕ → Worker → List (ℕ × Bool)
-dequeueOwn sh s w = (9, busy w) ∷ (11, noTicket sh s) ∷ []
+abbrev pub enqueueOwn : Shape → Arrival → Worker → Bool → Bool → List (ℕ × Bool)
+enqueueOwn sh a w spent none = earlyOwn sh a w spent ++ (12, none) ∷ []
 
+-- of a take
+abbrev pub dequeueOwn : Worker → Bool → List (ℕ × Bool)
+dequeueOwn w spent = (9, busy w) ∷ (11, spent) ∷ []
+
+-- of a turn
 abbrev pub stepOwn : Shape → List ℕ → Worker → List (ℕ × Bool)
 stepOwn sh s w = (10, idle w) ∷ (11, noEpoch sh s w) ∷ []
+
+-- by the action, of its worker's record w
+abbrev pub ownTests : Shape → List ℕ → Bool → Action → Worker → List (ℕ × Bool)
+ownTests sh s none (Enqueue i a) w = enqueueOwn sh a w (noTicket sh s) none
+ownTests sh s none (Dequeue i) w = dequeueOwn w (noTicket sh s)
+ownTests sh s none (Step i) w = stepOwn sh s w
 
 abbrev pub openTests : Shape → List ℕ → List Worker → List (ℕ × Bool)
 openTests sh s t = lengthTests sh (tooShort sh s t)
@@ -87,10 +100,10 @@ abbrev pub memoryOf : Shape → List ℕ → List Worker → ℕ → List (ℕ �
 memoryOf sh s t i = memoryTests sh (tooShort sh s t) (outOfRange sh s t) i
 
 abbrev pub enqueueTests : Shape → List ℕ → List Worker → ℕ → Arrival → List (ℕ × Bool)
-enqueueTests sh s t i a = memoryOf sh s t i ++ enqueueOwn sh s a (worker t i) (noNode sh s t)
+enqueueTests sh s t i a = memoryOf sh s t i ++ enqueueOwn sh a (worker t i) (noTicket sh s) (noNode sh s t)
 
 abbrev pub dequeueTests : Shape → List ℕ → List Worker → ℕ → List (ℕ × Bool)
-dequeueTests sh s t i = memoryOf sh s t i ++ dequeueOwn sh s (worker t i)
+dequeueTests sh s t i = memoryOf sh s t i ++ dequeueOwn (worker t i) (noTicket sh s)
 
 abbrev pub stepTests : Shape → List ℕ → List Worker → ℕ → List (ℕ × Bool)
 stepTests sh s t i = memoryOf sh s t i ++ stepOwn sh s (worker t i)

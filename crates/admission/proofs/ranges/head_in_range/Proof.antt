@@ -1,7 +1,7 @@
 -- `ranges::head_in_range` tests one head. Assumes nothing.
 use borrow.Author.Needs.{needs}
-use Rattle.ranges.proofs.head_in_range.Statement.{statement}
-use Rattle.ranges.proofs.head_in_range.Tie as tie
+use Rattle.admission.proofs.ranges.head_in_range.Statement.{statement}
+use Rattle.admission.proofs.ranges.head_in_range.Tie as tie
 
 get-cell-requires : tie.Need-get-cell-requires
 get-cell-requires c κs = search needs

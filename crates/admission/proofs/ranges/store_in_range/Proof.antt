@@ -1,8 +1,8 @@
 -- `ranges::store_in_range` tests the three words, the heads and the nodes. Assumes nothing.
 use Rattle.calendar.specs.rules.Ranges.{storeInRange}
 use borrow.Author.Needs.{needs}
-use Rattle.ranges.proofs.store_in_range.Statement.{statement}
-use Rattle.ranges.proofs.store_in_range.Tie as tie
+use Rattle.admission.proofs.ranges.store_in_range.Statement.{statement}
+use Rattle.admission.proofs.ranges.store_in_range.Tie as tie
 
 get-word-requires : tie.Need-get-word-requires
 get-word-requires c κs = search needs

@@ -5,8 +5,8 @@ use native.Mathlib.Omega.{arith}
 use Rattle.laws.specs.Every.{every, every-none, every-step}
 use Rattle.calendar.specs.rules.Ranges.{headInRange}
 use borrow.Author.Needs.{needs}
-use Rattle.ranges.proofs.heads_in_range.Statement.{statement}
-use Rattle.ranges.proofs.heads_in_range.Tie as tie
+use Rattle.admission.proofs.ranges.heads_in_range.Statement.{statement}
+use Rattle.admission.proofs.ranges.heads_in_range.Tie as tie
 
 abbrev Inv-loop : tie.InvT-loop
 Inv-loop shape store buckets ok₀ b₀ ok b = (b ≤ buckets) × (buckets ≡ shape .buckets) × (ok ≡ every b (λ k. headInRange shape store k))

@@ -1,7 +1,7 @@
 -- `ranges::node_in_range` tests one node's words. Assumes nothing.
 use borrow.Author.Needs.{needs}
-use Rattle.ranges.proofs.node_in_range.Statement.{statement}
-use Rattle.ranges.proofs.node_in_range.Tie as tie
+use Rattle.admission.proofs.ranges.node_in_range.Statement.{statement}
+use Rattle.admission.proofs.ranges.node_in_range.Tie as tie
 
 add-get-cell : tie.Need-add-get-cell
 add-get-cell c = search needs

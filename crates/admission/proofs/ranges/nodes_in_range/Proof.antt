@@ -5,8 +5,8 @@ use native.Mathlib.Omega.{arith}
 use Rattle.laws.specs.Every.{every, every-none, every-step}
 use Rattle.calendar.specs.rules.Ranges.{nodeInRange}
 use borrow.Author.Needs.{needs}
-use Rattle.ranges.proofs.nodes_in_range.Statement.{statement}
-use Rattle.ranges.proofs.nodes_in_range.Tie as tie
+use Rattle.admission.proofs.ranges.nodes_in_range.Statement.{statement}
+use Rattle.admission.proofs.ranges.nodes_in_range.Tie as tie
 
 abbrev Inv-loop : tie.InvT-loop
 Inv-loop shape store nodes ok₀ n₀ ok n = (n ≤ nodes) × (nodes ≡ shape .nodes) × (ok ≡ every n (λ k. nodeInRange shape store k))
