@@ -3,7 +3,7 @@ ghost use mathlib.Core.Path.{_≡_};
 ghost use Prim.Native.Nat.{_≤_};
 ghost use Rattle.calendar.specs.rules.Operations as operations;
 ghost use Rattle.words.specs.Done.{gives};
-ghost use Rattle.operation.specs.Local.{Admitted, localAct};
+ghost use Rattle.operation.specs.LocalAct.{Admitted, localAct};
 use arrival::Action;
 use arrival::Shape;
 use arrival::Worker;
