@@ -3,11 +3,11 @@ use mathlib.Core.Path.{_≡_, refl, sym, ap, _∙_}
 use mathlib.Core.List.{List}
 use mathlib.Core.Bool.{Bool, true, false, cond, not}
 use mathlib.Core.Logic.{_≢_}
-use Prim.Native.Nat.{ℕ, zero, suc, _-_, _≤_, _<_}
+use Prim.Native.Nat.{ℕ, zero, suc, _+_, _-_, _≤_, _<_}
 use native.Mathlib.Omega.{arith}
-use lib.Dec.{eqb}
+use lib.Dec.{eqb, leb}
 use lib.ListN.{length}
-use borrow.Author.Tests.{eqb-true, eqb-false}
+use borrow.Author.Tests.{eqb-true, eqb-false, leb-true, leb-false, le-leb, lt-leb}
 use Rattle.arrival.specs.declared.Shape.{Shape}
 use Rattle.arrival.specs.declared.Arrival.{Arrival}
 use Rattle.arrival.specs.declared.Worker.{Worker}
@@ -29,41 +29,46 @@ use Rattle.admission.specs.Watched.{inRange, Watched, enqueue-sound, dequeue-so
 use Rattle.admission.specs.Gate.{gateOf, gate-passed, usable, turn-at-3}
 
 -- ── the flag past an action that the gate lets in ──
-module _ (sh : Shape) (m : Memory) (i : ℕ) (sound : Bool) (watched : Watched sh m sound) (z : gateOf sh (length (m .store)) (length (m .table)) i sound ≡ 0) where
-  U : Usable sh (m .store) (m .table) i
-  U = usable sh m sound watched i z
+-- an action leaves the ranges just by a turn's leak
+abbrev pub actionLeaks : Shape → List ℕ → Action → Worker → Bool
+actionLeaks sh s (Enqueue i x) w = false
+actionLeaks sh s (Dequeue i) w = false
+actionLeaks sh s (Step i) w = leaks sh s w
 
-  up : sound ≡ true
-  up = gate-passed sh (length (m .store)) (length (m .table)) i sound z .0
+module _ (sh : Shape) (m : Memory) (sound : Bool) (watched : Watched sh m sound) (a : Action) (z : gateOf sh (length (m .store)) (length (m .table)) (actor a) sound ≡ 0) where
+  U : Usable sh (m .store) (m .table) (actor a)
+  U = usable sh m sound watched (actor a) z
 
   ranged : inRange sh m ≡ true
-  ranged = sym (watched (U .lent)) ∙ up
+  ranged = sym (watched (U .lent)) ∙ gate-passed sh (length (m .store)) (length (m .table)) (actor a) sound z .0
 
   -- by whether it is refused after all
-  past : (a : Action) (b : Bool) → (refusal sh m a ≡ 0 → inRange sh (perform sh m (actor a) (outcome sh m a) .memory) ≡ b) → (refusal sh m a ≢ 0 → b ≡ true) → b ≡ inRange sh (act sh m a .memory)
+  past : (b : Bool) → (refusal sh m a ≡ 0 → inRange sh (perform sh m (actor a) (outcome sh m a) .memory) ≡ b) → (refusal sh m a ≢ 0 → b ≡ true) → b ≡ inRange sh (act sh m a .memory)
   unfolding act
-  past a b did not-done = go (eqb (refusal sh m a) 0) refl
+  past b did not-done = go (eqb (refusal sh m a) 0) refl
     where
       go : (c : Bool) → eqb (refusal sh m a) 0 ≡ c → b ≡ inRange sh (cond c (perform sh m (actor a) (outcome sh m a)) (record { memory = m; response = response.Refused (refusal sh m a) }) .memory)
       go true e = sym (did (eqb-true (refusal sh m a) 0 e))
       go false e = not-done (eqb-false (refusal sh m a) 0 e) ∙ sym ranged
 
-  pub enqueue-watched : (a : Arrival) → Watched sh (act sh m (Enqueue i a) .memory) sound
-  enqueue-watched a l = past (Enqueue i a) sound (λ e. enqueue-sound sh m i a (enqueue-accepted sh (m .store) (m .table) i a e) ∙ sym up) (λ n. up)
+-- a turn that is refused does not leak: it is not at stage 3
+idle-tight : (sh : Shape) (m : Memory) (sound : Bool) (watched : Watched sh m sound) (i : ℕ) → gateOf sh (length (m .store)) (length (m .table)) i sound ≡ 0
+    → refusal sh m (Step i) ≢ 0 → not (leaks sh (m .store) (worker (m .table) i)) ≡ true
+idle-tight sh m sound watched i z n = go (eqb (worker (m .table) i .stage) 3) refl
+  where
+    go : (b : Bool) → eqb (worker (m .table) i .stage) 3 ≡ b → not (leaks sh (m .store) (worker (m .table) i)) ≡ true
+    go false e = rw e
+    go true e = absurd (n (turn-at-3 sh m sound watched i z (eqb-true (worker (m .table) i .stage) 3 e)))
 
-  pub dequeue-watched : Watched sh (act sh m (Dequeue i) .memory) sound
-  dequeue-watched l = past (Dequeue i) sound (λ e. dequeue-sound sh m i (dequeue-accepted sh (m .store) (m .table) i e) ∙ sym up) (λ n. up)
-
-  -- a turn that is refused does not leak: it is not at stage 3
-  idle-tight : refusal sh m (Step i) ≢ 0 → not (leaks sh (m .store) (worker (m .table) i)) ≡ true
-  idle-tight n = go (eqb (worker (m .table) i .stage) 3) refl
-    where
-      go : (b : Bool) → eqb (worker (m .table) i .stage) 3 ≡ b → not (leaks sh (m .store) (worker (m .table) i)) ≡ true
-      go false e = rw e
-      go true e = absurd (n (turn-at-3 sh m sound watched i z (eqb-true (worker (m .table) i .stage) 3 e)))
-
-  pub step-watched : Watched sh (act sh m (Step i) .memory) (not (leaks sh (m .store) (worker (m .table) i)))
-  step-watched l = past (Step i) (not (leaks sh (m .store) (worker (m .table) i))) (λ e. step-sound sh m i (step-accepted sh (m .store) (m .table) i e)) idle-tight
+pub act-watched : (sh : Shape) (m : Memory) (sound : Bool) → Watched sh m sound → (a : Action) → gateOf sh (length (m .store)) (length (m .table)) (actor a) sound ≡ 0
+    → Watched sh (act sh m a .memory) (not (actionLeaks sh (m .store) a (worker (m .table) (actor a))))
+act-watched sh m sound w (Enqueue i x) z l =
+    past sh m sound w (Enqueue i x) z true (λ e. enqueue-sound sh m i x (enqueue-accepted sh (m .store) (m .table) i x e)) (λ n. refl)
+act-watched sh m sound w (Dequeue i) z l =
+    past sh m sound w (Dequeue i) z true (λ e. dequeue-sound sh m i (dequeue-accepted sh (m .store) (m .table) i e)) (λ n. refl)
+act-watched sh m sound w (Step i) z l =
+    past sh m sound w (Step i) z (not (leaks sh (m .store) (worker (m .table) i)))
+    (λ e. step-sound sh m i (step-accepted sh (m .store) (m .table) i e)) (idle-tight sh m sound w i z)
 
 -- ── rounds ──
 -- h and h₀ of the lent records are held
@@ -142,3 +147,11 @@ module _ (bytes : List ℕ) (p₀ : Progress) (h₀ : ℕ) (p : Progress) (h : �
 -- the loop's own values as a progress
 abbrev pub at-work : Shape → List ℕ → List Worker → ℕ → List ℕ → ℕ → Progress
 at-work sh s t at lines to = record { pool = record { shape = sh; memory = record { store = s; table = t } }; at = at; lines = lines; to = to }
+
+-- room for the longest line, as the code tests it
+pub room-from : (to space : ℕ) → 89 ≤ space → leb to (space - 89) ≡ leb (to + 89) space
+room-from to space h = go (leb to (space - 89)) refl
+  where
+    go : (b : Bool) → leb to (space - 89) ≡ b → b ≡ leb (to + 89) space
+    go true e = sym (le-leb (to + 89) space (omega (arith, leb-true to (space - 89) e)))
+    go false e = sym (lt-leb (to + 89) space (omega (arith, leb-false to (space - 89) e)))

@@ -3,6 +3,7 @@ pub mod Held
 pub mod RecordsCounted
 pub mod WithinBuffers
 pub mod RecordsNotHeld
+pub mod Tickets
 pub mod LentPart
 pub mod BatchLoop
 pub mod RoundArms

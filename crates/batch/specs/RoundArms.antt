@@ -1,16 +1,15 @@
 -- One round of the loop, arm by arm: from what the code has at its end to what is still to be worked. Assumes nothing.
 use mathlib.Core.Path.{_≡_, refl, sym, ap, _∙_, subst, subst⁻¹}
 use mathlib.Core.List.{List, _++_}
-use mathlib.Core.Bool.{Bool, true, cond, not}
+use mathlib.Core.Bool.{Bool, true, false, cond, not}
 use mathlib.Core.Logic.{_≢_}
 use Prim.Native.Nat.{ℕ, _+_, _-_, _≤_, _<_}
 use native.Mathlib.Omega.{arith}
-use lib.Dec.{eqb}
+use lib.Dec.{eqb, leb}
 use lib.ListN.{length, take, set, drop, replicate, length-set}
 use lib.Seq.{length-take-le, getD-take, take-set-lt}
 use borrow.Author.Tests.{le-leb, lt-leb, eq-eqb, ne-eqb}
 use Rattle.arrival.specs.declared.Shape.{Shape}
-use Rattle.arrival.specs.declared.Arrival.{Arrival}
 use Rattle.arrival.specs.declared.Worker.{Worker}
 use Rattle.arrival.specs.declared.Action.{Action}
 use Rattle.arrival.specs.declared.Action.the-variants.{Enqueue, Dequeue, Step}
@@ -18,23 +17,20 @@ use Rattle.arrival.specs.declared.Response.{Response}
 use Rattle.arrival.specs.declared.Response.the-variants.{Opened, Refused}
 use Rattle.calendar.specs.rules.Ranges.{blank, worker}
 use Rattle.calendar.specs.rules.Refusals.{openRefusal}
-use Rattle.calendar.specs.facts.RangesKept.{leaks}
 use Rattle.calendar.specs.rules.Opening.{openStore, openTable}
 use Rattle.calendar.specs.facts.Accepted.{Lent, Usable, open-accepted}
 use Rattle.calendar.specs.rules.Operations.{Memory, Result, actor, act, open-pool}
 use Rattle.calendar.specs.facts.Untouched.{act-same-size, open-same-size}
 use Rattle.words.specs.Laid.{Laid, laid}
 use Rattle.words.specs.Done.{Done}
-use Rattle.stages.specs.Ready.{Ready}
-use Rattle.stages.specs.LocalStep.{localStep}
-use Rattle.starts.specs.LeastTicket.{leastTicket}
-use Rattle.starts.specs.LocalStart.{localEnqueue, localDequeue}
+use Rattle.operation.specs.LocalAct.{Admitted, admitted, localAct, LowFor, back, act-is}
 use Rattle.turn_file.specs.declared.Read.{Read}
 use Rattle.turn_file.specs.declared.Read.the-variants.{Open, Act, End}
 use Rattle.turn_file.specs.declared.Read.the-variants as variants
 use Rattle.turn_file.specs.Records.{Record, opens, acts}
 use Rattle.turn_file.specs.Reading.{recordAt, whole}
 use Rattle.turn_file.specs.OneReading.{read-on}
+use Rattle.batch.specs.declared.Stop.{Stop}
 use Rattle.batch.specs.declared.Stop.the-variants.{Drained, Full, Halted}
 use Rattle.turn_file.specs.Lines.{lineOf}
 use Rattle.turn_file.specs.Buffer.{written, after, written-length}
@@ -42,24 +38,24 @@ use Rattle.batch.specs.Batch.{opening, acting, Progress, hasRoom, wrote,
 use Rattle.batch.specs.Held.{greater, heldAll}
 use Rattle.batch.specs.LentPart.{least-taken, over-taken, over-length}
 use Rattle.admission.specs.Watched.{Watched, opened-sound}
-use Rattle.admission.specs.Gate.{gateOf, openGate, Tight, gate-opens, open-gate-is, usable, refused-is, enqueue-is, dequeue-is, step-is, back}
-use Rattle.batch.specs.BatchLoop.{Going, going, go-on, drained, halted, full, at-work, enqueue-watched, dequeue-watched, step-watched}
+use Rattle.admission.specs.Gate.{gateOf, openGate, Tight, gate-opens, open-gate-is, usable, refused-is}
+use Rattle.batch.specs.BatchLoop.{Going, going, go-on, drained, halted, full, at-work, actionLeaks, act-watched}
 
--- What the loop keeps: `words`, `records` and `last` are what it computed from what is lent, and t is its array, of which the first records are lent; h are held.
-pub record Round (bytes : List ℕ) (p₀ : Progress) (h₀ words records last : ℕ) (sh : Shape) (s : List ℕ) (t : List Worker) (at : ℕ) (lines : List ℕ) (to : ℕ) (sound : Bool) (h : ℕ) : Type 0 where
+-- What the loop keeps: `words`, `records` and `space` are what is lent, and t is its array, of which the first records are lent; h are held.
+pub record Round (bytes : List ℕ) (p₀ : Progress) (h₀ words records space : ℕ) (sh : Shape) (s : List ℕ) (t : List Worker) (at : ℕ) (lines : List ℕ) (to : ℕ) (sound : Bool) (h : ℕ) : Type 0 where
   pub going : Going bytes p₀ h₀ (at-work sh s (take records t) at lines to) h sound
   pub store : words ≡ length s
   pub array : length t ≡ 64
   pub lent : records ≤ 64
-  pub buffer : last + 89 ≡ length lines
+  pub buffer : space ≡ length lines
   pub tight : Tight sh words records sound
 
 -- the line l of a record, written, as `write_line` tells
 abbrev pub Line : List ℕ → ℕ → Response → List ℕ → ℕ → Type 0
 Line lines to l lines′ to′ = (to′ ≡ after lines to (lineOf l)) × (lines′ ≡ written lines to (lineOf l)) × (length (lineOf l) ≤ 89)
 
-module _ {bytes : List ℕ} {p₀ : Progress} {h₀ words records last : ℕ} {sh : Shape} {s : List ℕ} {t : List Worker} {at : ℕ} {lines : List ℕ} {to : ℕ} {sound : Bool} {h : ℕ}
-    (R : Round bytes p₀ h₀ words records last sh s t at lines to sound h) where
+module _ {bytes : List ℕ} {p₀ : Progress} {h₀ words records space : ℕ} {sh : Shape} {s : List ℕ} {t : List Worker} {at : ℕ} {lines : List ℕ} {to : ℕ} {sound : Bool} {h : ℕ}
+    (R : Round bytes p₀ h₀ words records space sh s t at lines to sound h) where
   abbrev m : Memory
   m = record { store = s; table = take records t }
 
@@ -96,8 +92,8 @@ module _ {bytes : List ℕ} {p₀ : Progress} {h₀ words records last : ℕ} {s
     pub laid-out : Laid sh s
     laid-out = laid sh s (in-use .lent .limits) (in-use .lent .store)
 
-    pub ready : Ready sh s (worker t i)
-    ready = subst (λ (w : Worker). Ready sh s w) own record { laid = laid-out; store = in-use .store; worker = in-use .table i (in-use .exists) }
+    pub let-in : Admitted sh s (worker t i)
+    let-in = subst (λ (w : Worker). Admitted sh s w) own (admitted sh s (take records t) i in-use)
 
   -- an opening that is not refused
   module _ (sh′ : Shape) (k : ℕ) (is : k ≡ openGate sh′ words records) (z : k ≡ 0) where
@@ -110,18 +106,27 @@ module _ {bytes : List ℕ} {p₀ : Progress} {h₀ words records last : ℕ} {s
     pub laid-for : Laid sh′ s
     laid-for = laid sh′ s (lent-to .limits) (lent-to .store)
 
-  -- ── the rounds ──
-  module _ (fits : to ≤ last) (next : ℕ) (l : Response) (lines′ : List ℕ) (to′ : ℕ) (line : Line lines to l lines′ to′) where
-    room : hasRoom lines to ≡ true
-    room = le-leb (to + 89) (length lines) (omega (arith, R .buffer))
+    pub array-cleared : (t′ : List Worker) → t′ ≡ replicate (sh′ .workers) blank ++ drop (sh′ .workers) t → length t′ ≡ 64
+    array-cleared t′ table = ap length table ∙ over-length blank t (sh′ .workers) (omega (arith, lent-to .limits .workers, R .array)) ∙ R .array
 
-    length-kept : last + 89 ≡ length lines′
+  -- the least ticket of the array's workers is that of the lent ones
+  lent-low : (a : Action) (low : ℕ) → LowFor sh t a low → sh .workers ≤ records → LowFor sh (take records t) a low
+  lent-low (Enqueue i x) low e k = e ∙ sym (least-taken records t (sh .workers) k)
+  lent-low (Dequeue i) low e k = tt
+  lent-low (Step i) low e k = tt
+
+  -- ── the rounds ──
+  module _ (fits : leb (to + 89) space ≡ true) (next : ℕ) (l : Response) (lines′ : List ℕ) (to′ : ℕ) (line : Line lines to l lines′ to′) where
+    room : hasRoom lines to ≡ true
+    room = ap (leb (to + 89)) (sym (R .buffer)) ∙ fits
+
+    length-kept : space ≡ length lines′
     length-kept = R .buffer ∙ sym (ap length (line .1) ∙ written-length lines to (lineOf l))
 
     -- an action a with what it leaves
     acted : (a : Action) → Act a next ≡ recordAt bytes at → (s′ : List ℕ) (t′ : List Worker) → length t′ ≡ 64
         → record { memory = record { store = s′; table = take records t′ }; response = l } ≡ act sh (record { store = s; table = take records t }) a
-        → (sound′ : Bool) → Watched sh (act sh (record { store = s; table = take records t }) a .memory) sound′ → Tight sh words records sound′ → Round bytes p₀ h₀ words records last sh s′ t′ next lines′ to′ sound′ h
+        → (sound′ : Bool) → Watched sh (act sh (record { store = s; table = take records t }) a .memory) sound′ → Tight sh words records sound′ → Round bytes p₀ h₀ words records space sh s′ t′ next lines′ to′ sound′ h
     unfolding acting
     acted a e s′ t′ array is sound′ w tight = record {
       going = go-on bytes p₀ h₀ (at-work sh s (take records t) at lines to) h sound (R .going) room (acts a) next e (at-work sh s′ (take records t′) next lines′ to′) there h refl sound′
@@ -142,49 +147,47 @@ module _ {bytes : List ℕ} {p₀ : Progress} {h₀ words records last : ℕ} {s
         }
 
     -- refused by 1 to 4
-    pub turned-away : (a : Action) → Act a next ≡ recordAt bytes at → (k : ℕ) → k ≡ gateOf sh words records (actor a) sound → k ≢ 0 → l ≡ Refused k → Round bytes p₀ h₀ words records last sh s t next lines′ to′ sound h
-    turned-away a e k is n said =
-        let g = is ∙ gate-here (actor a) in
+    pub turned-away : (a : Action) (i : ℕ) → i ≡ actor a → Act a next ≡ recordAt bytes at → (k : ℕ) → k ≡ gateOf sh words records i sound → k ≢ 0 → l ≡ Refused k → Round bytes p₀ h₀ words records space sh s t next lines′ to′ sound h
+    turned-away a i named e k is n said =
+        let g = is ∙ ap (λ (j : ℕ). gateOf sh words records j sound) named ∙ gate-here (actor a) in
         let r = refused-is sh m sound W a (λ z. n (g ∙ z)) in
         acted a e s t (R .array) (ap (λ (x : Response). record { memory = m; response = x }) (said ∙ ap Refused g) ∙ r) sound
         (subst (λ (x : Result). Watched sh (x .memory) sound) r W) (R .tight)
 
-    module _ (i k : ℕ) (is : k ≡ gateOf sh words records i sound) (z : k ≡ 0) (s′ : List ℕ) (w′ : Worker) where
-      -- the record stored in the array, and what that is of the lent ones
-      array-kept : length (set t i w′) ≡ 64
-      array-kept = length-set t i w′ ∙ R .array
-
+    -- let in, and done to worker i's record, which goes back into the array
+    module _ (a : Action) (e : Act a next ≡ recordAt bytes at) (k : ℕ) (is : k ≡ gateOf sh words records (actor a) sound) (z : k ≡ 0) (s′ : List ℕ) (w′ : Worker) where
       stored : (d : Done) → record { store = s′; worker = w′; response = l } ≡ d
-          → record { memory = record { store = s′; table = take records (set t i w′) }; response = l } ≡ back (take records t) i d
-      stored d e = ap (λ (u : List Worker). record { memory = record { store = s′; table = u }; response = l }) (take-set-lt records t i w′ (is-lent i k is z)) ∙ ap (back (take records t) i) e
+          → record { memory = record { store = s′; table = take records (set t (actor a) w′) }; response = l } ≡ back (take records t) (actor a) d
+      stored d done =
+          ap (λ (u : List Worker). record { memory = record { store = s′; table = u }; response = l }) (take-set-lt records t (actor a) w′ (is-lent (actor a) k is z))
+          ∙ ap (back (take records t) (actor a)) done
 
-      pub enqueued : (a : Arrival) → Act (Enqueue i a) next ≡ recordAt bytes at → (low : ℕ) → low ≡ leastTicket t (sh .workers)
-          → record { store = s′; worker = w′; response = l } ≡ localEnqueue sh low s a (worker t i) → Round bytes p₀ h₀ words records last sh s′ (set t i w′) next lines′ to′ sound h
-      enqueued a e low least d =
-          let g = passes i k is z in
-          let U = in-use i k is z in
-          let among = least-taken records t (sh .workers) (omega (arith, U .lent .table, counted)) in
-          let same = ap (λ (n : ℕ). localEnqueue sh n s a (worker t i)) (least ∙ sym among) ∙ ap (localEnqueue sh (leastTicket (take records t) (sh .workers)) s a) (sym (own i k is z)) in
-          acted (Enqueue i a) e s′ (set t i w′) array-kept (stored _ (d ∙ same) ∙ enqueue-is sh m sound W i a g) sound (enqueue-watched sh m i sound W g a) (R .tight)
-
-      pub dequeued : Act (Dequeue i) next ≡ recordAt bytes at → record { store = s′; worker = w′; response = l } ≡ localDequeue sh s (worker t i) → Round bytes p₀ h₀ words records last sh s′ (set t i w′) next lines′ to′ sound h
-      dequeued e d =
-          let g = passes i k is z in
-          acted (Dequeue i) e s′ (set t i w′) array-kept (stored _ (d ∙ ap (localDequeue sh s) (sym (own i k is z))) ∙ dequeue-is sh m sound W i g) sound (dequeue-watched sh m i sound W g) (R .tight)
-
-      pub stepped : Act (Step i) next ≡ recordAt bytes at → (leak : Bool) → leak ≡ leaks sh s (worker t i) → record { store = s′; worker = w′; response = l } ≡ localStep sh s (worker t i)
-          → Round bytes p₀ h₀ words records last sh s′ (set t i w′) next lines′ to′ (not leak) h
-      stepped e leak is-leak d =
+      pub performed : (low : ℕ) → LowFor sh t a low → (leak : Bool) → leak ≡ actionLeaks sh s a (worker t (actor a))
+          → record { store = s′; worker = w′; response = l } ≡ localAct sh low s a (worker t (actor a))
+          → Round bytes p₀ h₀ words records space sh s′ (set t (actor a) w′) next lines′ to′ (not leak) h
+      performed low least leak is-leak d =
+          let i = actor a in
           let g = passes i k is z in
           let o = sym (own i k is z) in
-          acted (Step i) e s′ (set t i w′) array-kept (stored _ (d ∙ ap (localStep sh s) o) ∙ step-is sh m sound W i g) (not leak)
-          (subst⁻¹ (λ b. Watched sh (act sh m (Step i) .memory) (not b)) (is-leak ∙ ap (leaks sh s) o) (step-watched sh m i sound W g)) (λ _. gate-opens sh words records i sound (sym is ∙ z))
+          acted a e s′ (set t i w′) (length-set t i w′ ∙ R .array)
+          (stored _ (d ∙ ap (localAct sh low s a) o) ∙ act-is sh m sound W a low (lent-low a low least (omega (arith, in-use i k is z .lent .table, counted))) g) (not leak)
+          (subst⁻¹ (λ b. Watched sh (act sh m a .memory) (not b)) (is-leak ∙ ap (actionLeaks sh s a) o) (act-watched sh m sound W a g)) (λ _. gate-opens sh words records i sound (sym is ∙ z))
+
+    -- the same, where the code has read the worker's number
+    pub performed-at : (a : Action) (i : ℕ) → i ≡ actor a → Act a next ≡ recordAt bytes at → (k : ℕ) → k ≡ gateOf sh words records i sound → k ≡ 0
+        → (s′ : List ℕ) (w′ : Worker) (low : ℕ) → LowFor sh t a low → (leak : Bool) → leak ≡ actionLeaks sh s a (worker t i)
+        → record { store = s′; worker = w′; response = l } ≡ localAct sh low s a (worker t i)
+        → Round bytes p₀ h₀ words records space sh s′ (set t i w′) next lines′ to′ (not leak) h
+    performed-at a i named e k is z s′ w′ low least leak is-leak d =
+        subst⁻¹ (λ (j : ℕ). Round bytes p₀ h₀ words records space sh s′ (set t j w′) next lines′ to′ (not leak) h) named
+        (performed a e k (is ∙ ap (λ (j : ℕ). gateOf sh words records j sound) named) z s′ w′ low least leak
+        (is-leak ∙ ap (λ (j : ℕ). actionLeaks sh s a (worker t j)) named) (d ∙ ap (λ (j : ℕ). localAct sh low s a (worker t j)) named))
 
     -- an opening with what it leaves
     opened-with : (sh′ : Shape) → Open sh′ next ≡ recordAt bytes at → (sh″ : Shape) (s′ : List ℕ) (t′ : List Worker) → length t′ ≡ 64 → sh″ ≡ cond (eqb (openRefusal sh′ s (take records t)) 0) sh′ sh
         → (h′ : ℕ) → h′ ≡ cond (eqb (openRefusal sh′ s (take records t)) 0) (greater h (sh′ .workers)) h
         → record { memory = record { store = s′; table = take records t′ }; response = l } ≡ open-pool sh′ (record { store = s; table = take records t })
-        → (sound′ : Bool) → Watched sh″ (record { store = s′; table = take records t′ }) sound′ → Tight sh″ words records sound′ → Round bytes p₀ h₀ words records last sh″ s′ t′ next lines′ to′ sound′ h′
+        → (sound′ : Bool) → Watched sh″ (record { store = s′; table = take records t′ }) sound′ → Tight sh″ words records sound′ → Round bytes p₀ h₀ words records space sh″ s′ t′ next lines′ to′ sound′ h′
     unfolding opening
     opened-with sh′ e sh″ s′ t′ array shape h′ holds is sound′ w tight = record {
       going = go-on bytes p₀ h₀ (at-work sh s (take records t) at lines to) h sound (R .going) room (opens sh′) next e (at-work sh″ s′ (take records t′) next lines′ to′) there h′ holds sound′ w;
@@ -203,7 +206,7 @@ module _ {bytes : List ℕ} {p₀ : Progress} {h₀ words records last : ℕ} {s
           to = (line .0 ∙ ap (λ (r : Result). after lines to (lineOf (r .response))) is) j;
         }
 
-    pub not-opened : (sh′ : Shape) → Open sh′ next ≡ recordAt bytes at → (k : ℕ) → k ≡ openGate sh′ words records → k ≢ 0 → l ≡ Refused k → Round bytes p₀ h₀ words records last sh s t next lines′ to′ sound h
+    pub not-opened : (sh′ : Shape) → Open sh′ next ≡ recordAt bytes at → (k : ℕ) → k ≡ openGate sh′ words records → k ≢ 0 → l ≡ Refused k → Round bytes p₀ h₀ words records space sh s t next lines′ to′ sound h
     unfolding open-pool
     not-opened sh′ e k is n said =
         let g = is ∙ open-gate-here sh′ in
@@ -211,35 +214,37 @@ module _ {bytes : List ℕ} {p₀ : Progress} {h₀ words records last : ℕ} {s
         opened-with sh′ e sh s t (R .array) (rw none) h (rw none) (rw (none, said, g)) sound W (R .tight)
 
     pub opened : (sh′ : Shape) → Open sh′ next ≡ recordAt bytes at → (k : ℕ) → k ≡ openGate sh′ words records → k ≡ 0 → l ≡ Opened → (s′ : List ℕ) → s′ ≡ openStore sh′ s
-        → (t′ : List Worker) → t′ ≡ replicate (sh′ .workers) blank ++ drop (sh′ .workers) t → (h′ : ℕ) → h′ ≡ greater h (sh′ .workers) → Round bytes p₀ h₀ words records last sh′ s′ t′ next lines′ to′ true h′
+        → (t′ : List Worker) → t′ ≡ replicate (sh′ .workers) blank ++ drop (sh′ .workers) t → (h′ : ℕ) → h′ ≡ greater h (sh′ .workers) → Round bytes p₀ h₀ words records space sh′ s′ t′ next lines′ to′ true h′
     unfolding open-pool openTable
     opened sh′ e k is z said s′ store t′ table h′ holds =
         let all = eq-eqb (openRefusal sh′ s (take records t)) 0 (no-refusal sh′ k is z) in
         let L = lent-to sh′ k is z in
-        let array = ap length table ∙ over-length blank t (sh′ .workers) (omega (arith, L .limits .workers, R .array)) ∙ R .array in
         let first = ap (take records) table ∙ over-taken blank records t (sh′ .workers) (omega (arith, L .table, counted)) (omega (arith, R .lent, R .array)) in
-        opened-with sh′ e sh′ s′ t′ array (rw all) h′ (rw all holds) (rw (all, said, store, first)) true (λ _. rw (store, first) (sym (opened-sound sh′ m (L .limits)))) (λ _. sym is ∙ z)
+        opened-with sh′ e sh′ s′ t′ (array-cleared sh′ k is z t′ table) (rw all) h′ (rw all holds) (rw (all, said, store, first)) true (λ _. rw (store, first) (sym (opened-sound sh′ m (L .limits)))) (λ _. sym is ∙ z)
 
   -- ── the ends ──
   pub kept : (length t ≡ 64) × (records ≤ 64) × Watched sh (record { store = s; table = take records t }) sound × Tight sh (length s) records sound
   kept = (R .array, R .lent, W, λ up. sym (ap (λ n. openGate sh n records) (R .store)) ∙ R .tight up)
 
-  pub at-drained : to ≤ last → End ≡ recordAt bytes at → (record { progress = at-work sh s (take records t) at lines to; stop = Drained } ≡ workedAll bytes p₀) × (h ≡ heldAll bytes h₀ p₀)
-  at-drained fits e = drained bytes p₀ h₀ (at-work sh s (take records t) at lines to) h sound (R .going) (le-leb (to + 89) (length lines) (omega (arith, R .buffer))) e
+  pub at-drained : leb (to + 89) space ≡ true → End ≡ recordAt bytes at → (record { progress = at-work sh s (take records t) at lines to; stop = Drained } ≡ workedAll bytes p₀) × (h ≡ heldAll bytes h₀ p₀)
+  at-drained fits e = drained bytes p₀ h₀ (at-work sh s (take records t) at lines to) h sound (R .going) (ap (leb (to + 89)) (sym (R .buffer)) ∙ fits) e
 
-  pub at-halted : to ≤ last → (k : ℕ) → variants.Refused k ≡ recordAt bytes at → (record { progress = at-work sh s (take records t) at lines to; stop = Halted k } ≡ workedAll bytes p₀) × (h ≡ heldAll bytes h₀ p₀)
-  at-halted fits k e = halted bytes p₀ h₀ (at-work sh s (take records t) at lines to) h sound (R .going) (le-leb (to + 89) (length lines) (omega (arith, R .buffer))) k e
+  pub at-halted : leb (to + 89) space ≡ true → (k : ℕ) → variants.Refused k ≡ recordAt bytes at → (record { progress = at-work sh s (take records t) at lines to; stop = Halted k } ≡ workedAll bytes p₀) × (h ≡ heldAll bytes h₀ p₀)
+  at-halted fits k e = halted bytes p₀ h₀ (at-work sh s (take records t) at lines to) h sound (R .going) (ap (leb (to + 89)) (sym (R .buffer)) ∙ fits) k e
 
-  pub at-full : last < to → (record { progress = at-work sh s (take records t) at lines to; stop = Full } ≡ workedAll bytes p₀) × (h ≡ heldAll bytes h₀ p₀)
-  at-full over = full bytes p₀ h₀ (at-work sh s (take records t) at lines to) h sound (R .going) (lt-leb (to + 89) (length lines) (omega (arith, R .buffer)))
+  pub at-full : leb (to + 89) space ≡ false → (stop : Stop) → stop ≡ Full
+      → (record { progress = at-work sh s (take records t) at lines to; stop = stop } ≡ workedAll bytes p₀) × (h ≡ heldAll bytes h₀ p₀)
+  at-full over stop still =
+      let end = full bytes p₀ h₀ (at-work sh s (take records t) at lines to) h sound (R .going) (ap (leb (to + 89)) (sym (R .buffer)) ∙ over) in
+      (ap (λ (z : Stop). record { progress = at-work sh s (take records t) at lines to; stop = z }) still ∙ end .0, end .1)
 
 -- ── what was read ──
 module _ (bytes : List ℕ) (at : ℕ) (r : Read) (read : r ≡ recordAt bytes at) where
   pub known-open : (sh : Shape) (next : ℕ) → r ≡ Open sh next → Open sh next ≡ recordAt bytes at
   known-open sh next e = sym e ∙ read
 
-  pub known-act : (a a′ : Action) (next : ℕ) → r ≡ Act a next → a ≡ a′ → Act a′ next ≡ recordAt bytes at
-  known-act a a′ next e what = ap (λ (x : Action). Act x next) (sym what) ∙ sym e ∙ read
+  pub known-act : (a : Action) (next : ℕ) → r ≡ Act a next → Act a next ≡ recordAt bytes at
+  known-act a next e = sym e ∙ read
 
   nearer : (x : Record) (next : ℕ) → r ≡ whole x next → length bytes - next < length bytes - at
   nearer x next e = let (on, end) = read-on bytes at x next (sym read ∙ e) in omega arith
@@ -251,14 +256,8 @@ module _ (bytes : List ℕ) (at : ℕ) (r : Read) (read : r ≡ recordAt bytes a
   nearer-act a next e = nearer (acts a) next e
 
 -- ── before the loop ──
-pub no-room : (bytes : List ℕ) (sh : Shape) (s : List ℕ) (lent : List Worker) (at : ℕ) (lines : List ℕ) (to : ℕ) (sound : Bool) (h : ℕ) → Watched sh (record { store = s; table = lent }) sound → length lines < 89
-    → (record { progress = at-work sh s lent at lines to; stop = Full } ≡ workedAll bytes (at-work sh s lent at lines to)) × (h ≡ heldAll bytes h (at-work sh s lent at lines to))
-no-room bytes sh s lent at lines to sound h watched short =
-    let p = at-work sh s lent at lines to in
-    full bytes p h p h sound (going bytes p h sound watched) (lt-leb (to + 89) (length lines) (omega arith))
-
 pub first-round : (bytes : List ℕ) (sh : Shape) (s : List ℕ) (records : ℕ) (t : List Worker) (at : ℕ) (lines : List ℕ) (to : ℕ) (sound : Bool) (h : ℕ)
-    → Watched sh (record { store = s; table = take records t }) sound → length t ≡ 64 → records ≤ 64 → (words last : ℕ) → words ≡ length s → last + 89 ≡ length lines → Tight sh words records sound
-    → Round bytes (at-work sh s (take records t) at lines to) h words records last sh s t at lines to sound h
-first-round bytes sh s records t at lines to sound h watched array lent words last store long tight =
+    → Watched sh (record { store = s; table = take records t }) sound → length t ≡ 64 → records ≤ 64 → (words space : ℕ) → words ≡ length s → space ≡ length lines → Tight sh words records sound
+    → Round bytes (at-work sh s (take records t) at lines to) h words records space sh s t at lines to sound h
+first-round bytes sh s records t at lines to sound h watched array lent words space store long tight =
     record { going = going bytes (at-work sh s (take records t) at lines to) h sound watched; store = store; array = array; lent = lent; buffer = long; tight = tight }

@@ -1,30 +1,36 @@
 // A batch of a turn file against a pool: whole records in, lines out.
 ghost use mathlib.Core.Path.{_≡_};
+ghost use Prim.Native.Nat.{_+_};
+ghost use lib.Dec.{leb};
 ghost use Rattle.calendar.specs.facts.RangesKept.{leaks};
 ghost use Rattle.stages.specs.Ready.{Ready};
 ghost use Rattle.batch.specs.Batch.{workedAll};
+ghost use Rattle.batch.specs.BatchLoop.{actionLeaks};
 ghost use Rattle.batch.specs.Held.{heldAll};
 ghost use Rattle.batch.specs.CodeView.{begins, ends, Sound};
 use admission::gate;
 use admission::open_gate;
 use arrival::Action;
-use arrival::Response;
 use arrival::Shape;
 use arrival::Worker;
-use stages::step;
+use operation::actor;
+use operation::perform;
 use starts::free::lower_ticket;
 use starts::opening::open_store;
-use starts::start_dequeue;
-use starts::start_enqueue;
 use table::cleared;
 use table::greater;
+use tickets::low_for;
+use tickets::tickets_of;
 use turn_file::Read;
 use turn_file::read_record;
 use turn_file::write_line;
+use turn_file::write_opened;
+use turn_file::write_refusal;
 use words::get_cell;
 use words::get_field;
 
 pub mod table;
+pub mod tickets;
 
 // Why a batch was left: every byte is worked through, the next line may not fit, or what follows is refused by 7 or 8.
 pub enum Stop {
@@ -64,13 +70,35 @@ fn turn_leaks(shape: Shape, w: Worker, store: &[u64]) -> bool
     (left == 2 * w.right) & (distance == 0)
 }
 
+// The same of any action: a start keeps them.
+fn action_leaks(shape: Shape, action: Action, w: Worker, store: &[u64]) -> bool
+    requires { ⌜ Ready shape (now store) w ⌝ }
+    ensures { λ r. ⌜ r ≡ actionLeaks shape (now (store .entry)) action w ⌝ }
+{
+    match action {
+        Action::Enqueue(_, _) => false,
+        Action::Dequeue(_) => false,
+        Action::Step(_) => turn_leaks(shape, w, store),
+    }
+}
+
+// Whether the longest line fits from `to` on.
+fn has_room(room: usize, to: usize) -> bool
+    ensures { λ r. ⌜ r ≡ leb (to + 89) room ⌝ }
+{
+    if room < 89 {
+        return false;
+    }
+    to <= room - 89
+}
+
 // Works through the records from `at` on and writes their lines from `to` on, while the longest line fits.
 pub fn run_batch(
     pool: HeldPool,
     input: &[u8],
-    at: usize,
+    mut at: usize,
     out: &mut [u8],
-    to: usize,
+    mut to: usize,
     store: &mut [u64],
 ) -> Progress
     requires { ⌜ Sound pool (now store) ⌝ }
@@ -83,139 +111,63 @@ pub fn run_batch(
     let records = pool.records;
     let mut held = pool.held;
     let mut table = pool.table;
-    let mut at = at;
-    let mut to = to;
+    let mut tickets = tickets_of(table);
     let words = store.len();
     let room = out.len();
-    if room < 89 {
-        return Progress {
-            pool: HeldPool {
-                shape,
-                sound,
-                records,
-                held,
-                table,
-            },
-            at,
-            to,
-            stop: Stop::Full,
-        };
-    }
-    let last = room - 89;
-    while to <= last {
+    let mut stop = Stop::Full;
+    while has_room(room, to) {
         let record = read_record(input, at);
         match record {
             Read::Open(opened, next) => {
                 let k = open_gate(opened, words, records);
                 if k != 0 {
-                    to = write_line(Response::Refused(k), out, to);
-                    at = next;
+                    to = write_refusal(k, out, to);
                 } else {
+                    let n = opened.workers as usize;
                     open_store(opened, store);
-                    table = cleared(table, opened.workers as usize);
-                    held = greater(held, opened.workers as usize);
+                    table = cleared(table, n);
+                    tickets = tickets_of(table);
+                    held = greater(held, n);
                     shape = opened;
                     sound = true;
-                    to = write_line(Response::Opened, out, to);
-                    at = next;
+                    to = write_opened(out, to);
                 }
+                at = next;
             }
-            Read::Act(action, next) => match action {
-                Action::Enqueue(i, arrival) => {
-                    let k = gate(shape, words, records, i, sound);
-                    if k != 0 {
-                        to = write_line(Response::Refused(k), out, to);
-                        at = next;
-                    } else {
-                        let w = table[i as usize];
-                        let n = shape.workers as usize;
-                        let mut low = 4294967296;
-                        let mut j: usize = 0;
-                        while j < n {
-                            let other = table[j];
-                            low = lower_ticket(low, other);
-                            j += 1;
-                        }
-                        let begun = start_enqueue(shape, low, arrival, w, store);
-                        let worker = begun.worker;
-                        let response = begun.response;
-                        table[i as usize] = worker;
-                        to = write_line(response, out, to);
-                        at = next;
-                    }
+            Read::Act(action, next) => {
+                let i = actor(action);
+                let k = gate(shape, words, records, i, sound);
+                if k != 0 {
+                    to = write_refusal(k, out, to);
+                } else {
+                    let w = table[i as usize];
+                    let low = low_for(action, &tickets, shape.workers as usize);
+                    sound = !action_leaks(shape, action, w, store);
+                    let reply = perform(shape, low, action, w, store);
+                    let worker = reply.worker;
+                    let response = reply.response;
+                    table[i as usize] = worker;
+                    tickets[i as usize] = lower_ticket(4294967296, worker);
+                    to = write_line(response, out, to);
                 }
-                Action::Dequeue(i) => {
-                    let k = gate(shape, words, records, i, sound);
-                    if k != 0 {
-                        to = write_line(Response::Refused(k), out, to);
-                        at = next;
-                    } else {
-                        let w = table[i as usize];
-                        let begun = start_dequeue(shape, w, store);
-                        let worker = begun.worker;
-                        let response = begun.response;
-                        table[i as usize] = worker;
-                        to = write_line(response, out, to);
-                        at = next;
-                    }
-                }
-                Action::Step(i) => {
-                    let k = gate(shape, words, records, i, sound);
-                    if k != 0 {
-                        to = write_line(Response::Refused(k), out, to);
-                        at = next;
-                    } else {
-                        let w = table[i as usize];
-                        sound = !turn_leaks(shape, w, store);
-                        let stepped = step(shape, w, store);
-                        let worker = stepped.worker;
-                        let response = stepped.response;
-                        table[i as usize] = worker;
-                        to = write_line(response, out, to);
-                        at = next;
-                    }
-                }
-            },
+                at = next;
+            }
             Read::End => {
-                return Progress {
-                    pool: HeldPool {
-                        shape,
-                        sound,
-                        records,
-                        held,
-                        table,
-                    },
-                    at,
-                    to,
-                    stop: Stop::Drained,
-                };
+                stop = Stop::Drained;
+                break;
             }
             Read::Refused(k) => {
-                return Progress {
-                    pool: HeldPool {
-                        shape,
-                        sound,
-                        records,
-                        held,
-                        table,
-                    },
-                    at,
-                    to,
-                    stop: Stop::Halted(k),
-                };
+                stop = Stop::Halted(k);
+                break;
             }
         }
     }
-    Progress {
-        pool: HeldPool {
-            shape,
-            sound,
-            records,
-            held,
-            table,
-        },
-        at,
-        to,
-        stop: Stop::Full,
-    }
+    let pool = HeldPool {
+        shape,
+        sound,
+        records,
+        held,
+        table,
+    };
+    Progress { pool, at, to, stop }
 }

@@ -8,6 +8,7 @@ ghost use Prim.Native.Nat.{_+_, _≤_, _<_};
 ghost use lib.ListN.{length};
 ghost use Rattle.turn_file.specs.Records.{sizeOf};
 ghost use Rattle.turn_file.specs.Reading.{fieldsAt, whole, recordAt};
+ghost use Rattle.arrival.specs.declared.Response.the-variants.{Opened, Refused};
 ghost use Rattle.turn_file.specs.Lines.{lineOf};
 ghost use Rattle.turn_file.specs.Buffer.{written, after};
 use arrival::Action;
@@ -103,4 +104,21 @@ pub fn write_line(response: Response, out: &mut [u8], at: usize) -> usize
         Response::Empty => lines::word_line(b"empty\n", out, at),
         Response::Refused(number) => lines::number_line(b"no ", number, out, at),
     }
+}
+
+// The same for a refusal, and for an opening.
+pub fn write_refusal(number: u64, out: &mut [u8], at: usize) -> usize
+    ensures { λ r. ⌜ (r ≡ after (now (out .entry)) at (lineOf (Refused number)))
+        × (now (out .exit) ≡ written (now (out .entry)) at (lineOf (Refused number)))
+        × (length (lineOf (Refused number)) ≤ 89) ⌝ }
+{
+    lines::number_line(b"no ", number, out, at)
+}
+
+pub fn write_opened(out: &mut [u8], at: usize) -> usize
+    ensures { λ r. ⌜ (r ≡ after (now (out .entry)) at (lineOf Opened))
+        × (now (out .exit) ≡ written (now (out .entry)) at (lineOf Opened))
+        × (length (lineOf Opened) ≤ 89) ⌝ }
+{
+    lines::word_line(b"open\n", out, at)
 }

@@ -8,11 +8,11 @@ ghost use Rattle.batch.specs.RecordsCounted.{countedOf};
 ghost use Rattle.wubraken.specs.LentBatch.{stopNumber, heldInRange, heldOn, account, batchOn};
 use super::table::records_surveyed;
 use admission::is_sound;
+use admission::ranges::record_in_range;
 use arrival::Shape;
 use arrival::Worker;
 use batch::HeldPool;
 use batch::Stop;
-use admission::ranges::record_in_range;
 
 // The shape after a batch, the bytes read and written, and why it was left: 0 all bytes are worked through, 1 the next line may not fit, 7 or 8 what
 // follows is refused by that number.

@@ -6,10 +6,10 @@ ghost use Prim.Native.Nat.{_≤_};
 ghost use lib.ListN.{length, drop, replicate};
 ghost use Rattle.calendar.specs.rules.Ranges.{shapeInRange, blank};
 ghost use Rattle.wubraken.specs.Survey.{seen, surveyed, survey};
-use arrival::Shape;
-use arrival::Worker;
 use admission::ranges::record_in_range;
 use admission::ranges::shape_in_range;
+use arrival::Shape;
+use arrival::Worker;
 use starts::free::lower_ticket;
 
 // What a look over records finds: whether all are in range, and the least ticket in progress; and how many they are.
