@@ -60,7 +60,7 @@ static void call_by_call(void)
     finish(shape, 0);
 }
 
-/* Stretch by stretch; what is left of a cut record waits for the rest. */
+/* Batch by batch; what is left of a cut record waits for the rest. */
 static void turn_file(FILE *file)
 {
     static uint8_t input[4096], out[4096];
@@ -68,17 +68,17 @@ static void turn_file(FILE *file)
     size_t have = 0, more = 1;
 
     for (;;) {
-        wubraken_served served = wubraken_serve(shape, input, have, out, sizeof out,
-                                                store, WORDS, table, RECORDS);
-        fwrite(out, 1, served.written, stdout);
-        shape = served.shape;
-        have -= served.read;
-        memmove(input, input + served.read, have);
-        if (served.stop == WUBRAKEN_FULL)
+        wubraken_batch_end end = wubraken_run_batch(shape, input, have, out, sizeof out,
+                                                    store, WORDS, table, RECORDS);
+        fwrite(out, 1, end.written, stdout);
+        shape = end.shape;
+        have -= end.read;
+        memmove(input, input + end.read, have);
+        if (end.stop == WUBRAKEN_FULL)
             continue;
-        if (served.stop == WUBRAKEN_UNKNOWN_MARK || more == 0) {
-            if (served.stop != WUBRAKEN_DRAINED)
-                printf("no %" PRIu64 "\n", served.stop);
+        if (end.stop == WUBRAKEN_UNKNOWN_MARK || more == 0) {
+            if (end.stop != WUBRAKEN_DRAINED)
+                printf("no %" PRIu64 "\n", end.stop);
             return;
         }
         more = fread(input + have, 1, sizeof input - have, file);

@@ -128,7 +128,7 @@ wubraken_answer wubraken_step(wubraken_shape shape, uint64_t worker,
                               uint64_t *store, size_t words,
                               wubraken_worker *table, size_t records);
 
-/* Why wubraken_serve stopped; otherwise by WUBRAKEN_UNKNOWN_MARK or
+/* Why wubraken_run_batch stopped; otherwise by WUBRAKEN_UNKNOWN_MARK or
  * WUBRAKEN_CUT_RECORD, for which no line is written. A record may be cut only
  * because the rest of it has not been handed in yet. */
 enum {
@@ -144,18 +144,18 @@ typedef struct {
     uint64_t read;        /* bytes of input worked through */
     uint64_t written;     /* bytes of lines in `out` */
     uint64_t stop;
-} wubraken_served;
+} wubraken_batch_end;
 
 /* Works through the records of a turn file and writes one line a record, as the
  * single calls would answer them. It looks through the lent memory once, not
  * once a record, and works on a copy of the workers' records, which it stores
  * back. It needs at least WUBRAKEN_LINE bytes of room, and some 20 KB of stack.
  * To go on, hand in the shape it answered and the input from `read` on. */
-wubraken_served wubraken_serve(wubraken_shape shape,
-                               const uint8_t *input, size_t bytes,
-                               uint8_t *out, size_t room,
-                               uint64_t *store, size_t words,
-                               wubraken_worker *table, size_t records);
+wubraken_batch_end wubraken_run_batch(wubraken_shape shape,
+                                      const uint8_t *input, size_t bytes,
+                                      uint8_t *out, size_t room,
+                                      uint64_t *store, size_t words,
+                                      wubraken_worker *table, size_t records);
 
 #ifdef __cplusplus
 }

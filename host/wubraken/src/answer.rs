@@ -28,7 +28,7 @@ pub enum Step {
     Empty,
 }
 
-/// Why a stretch of a turn file was left.
+/// Why a batch of a turn file was left.
 #[derive(Clone, Copy, Debug, PartialEq, Eq, Hash)]
 pub enum Stop {
     /// All of the input is worked through.
@@ -41,10 +41,10 @@ pub enum Stop {
     Halted(Refusal),
 }
 
-/// How far a stretch of a turn file was worked through.
+/// How far a batch of a turn file was worked through.
 #[derive(Clone, Copy, Debug, PartialEq, Eq, Hash)]
 #[must_use]
-pub struct Served {
+pub struct BatchEnd {
     /// Bytes of input worked through.
     pub read: usize,
     /// Bytes of lines written.
@@ -85,11 +85,11 @@ pub(crate) fn stepped(answer: raw::Answer) -> Result<Step, Refusal> {
     }
 }
 
-pub(crate) fn served(served: raw::Served) -> Served {
-    Served {
-        read: served.read as usize,
-        written: served.written as usize,
-        stop: match served.stop {
+pub(crate) fn end(end: raw::BatchEnd) -> BatchEnd {
+    BatchEnd {
+        read: end.read as usize,
+        written: end.written as usize,
+        stop: match end.stop {
             stop::DRAINED => Stop::Drained,
             stop::FULL => Stop::Full,
             number => Stop::Halted(refusal(number)),

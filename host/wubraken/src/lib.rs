@@ -29,7 +29,7 @@
 //! }
 //! ```
 //!
-//! [`Pool::serve`] works through a whole stretch of a turn file at once.
+//! [`Pool::run_batch`] works through a batch of a turn file: many records in one call.
 //!
 //! The library is linked from the repository's `target/staticlib`, where
 //! `rt staticlib wubraken` writes it, or from the directory `WUBRAKEN_LIB_DIR`.
@@ -44,10 +44,10 @@ mod types;
 
 pub mod raw;
 
-pub use answer::{Served, Step, Stop, Taken};
+pub use answer::{BatchEnd, Step, Stop, Taken};
 pub use pool::Pool;
 pub use refusal::Refusal;
 pub use types::{Arrival, Shape, Worker};
 
-/// No line that [`Pool::serve`] writes is longer.
+/// No line that [`Pool::run_batch`] writes is longer.
 pub const LINE: usize = 89;

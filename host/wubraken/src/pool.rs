@@ -1,7 +1,7 @@
 //! The pool over its memory.
 
 use crate::raw;
-use crate::{answer, Arrival, Refusal, Served, Shape, Step, Worker};
+use crate::{answer, Arrival, BatchEnd, Refusal, Shape, Step, Worker};
 
 /// A pool: its shape, a store of words and a table of workers' records.
 ///
@@ -187,16 +187,16 @@ impl<S: AsMut<[u64]>, T: AsMut<[Worker]>> Pool<S, T> {
     ///
     /// let mut pool = Pool::resume(Shape::default(), [0; 37], [Worker::default()]);
     /// let mut out = [0; 1024];
-    /// let served = pool.serve(b"OP\x01\x04\x00\x02\x00\x0A\x00TA\x00TU\x00TU", &mut out);
-    /// assert_eq!(&out[..served.written], b"open\nbegun 1\non\n");
-    /// assert_eq!((served.read, served.stop), (15, Stop::Halted(Refusal::CutRecord)));
+    /// let end = pool.run_batch(b"OP\x01\x04\x00\x02\x00\x0A\x00TA\x00TU\x00TU", &mut out);
+    /// assert_eq!(&out[..end.written], b"open\nbegun 1\non\n");
+    /// assert_eq!((end.read, end.stop), (15, Stop::Halted(Refusal::CutRecord)));
     /// assert_eq!(pool.shape().nodes, 4);
     /// ```
-    pub fn serve(&mut self, input: &[u8], out: &mut [u8]) -> Served {
+    pub fn run_batch(&mut self, input: &[u8], out: &mut [u8]) -> BatchEnd {
         let (store, table) = (self.store.as_mut(), self.table.as_mut());
         // SAFETY: four slices, borrowed for the call.
-        let served = unsafe {
-            raw::wubraken_serve(
+        let end = unsafe {
+            raw::wubraken_run_batch(
                 self.shape,
                 input.as_ptr(),
                 input.len(),
@@ -208,7 +208,7 @@ impl<S: AsMut<[u64]>, T: AsMut<[Worker]>> Pool<S, T> {
                 table.len(),
             )
         };
-        self.shape = served.shape;
-        answer::served(served)
+        self.shape = end.shape;
+        answer::end(end)
     }
 }

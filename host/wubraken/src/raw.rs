@@ -34,7 +34,7 @@ pub mod kind {
 
 #[repr(C)]
 #[derive(Clone, Copy, Debug, PartialEq, Eq)]
-pub struct Served {
+pub struct BatchEnd {
     pub shape: Shape,
     pub read: u64,
     pub written: u64,
@@ -42,7 +42,7 @@ pub struct Served {
     pub stop: u64,
 }
 
-/// Why a stretch was left, if not by a refusal.
+/// Why a batch was left, if not by a refusal.
 pub mod stop {
     pub const DRAINED: u64 = 0;
     pub const FULL: u64 = 1;
@@ -87,7 +87,7 @@ extern "C" {
         records: usize,
     ) -> Answer;
 
-    pub fn wubraken_serve(
+    pub fn wubraken_run_batch(
         shape: Shape,
         input: *const u8,
         bytes: usize,
@@ -97,5 +97,5 @@ extern "C" {
         words: usize,
         table: *mut Worker,
         records: usize,
-    ) -> Served;
+    ) -> BatchEnd;
 }

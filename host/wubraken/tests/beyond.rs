@@ -1,6 +1,6 @@
 //! Words beyond a shape's layout and records beyond its workers are not touched,
 //! not even read: the lengths count them, but they lie behind a fence. In a
-//! stretch that is the shape of which it has the most workers.
+//! batch that is the shape of which it has the most workers.
 #![cfg(target_os = "linux")]
 
 mod common;
@@ -13,7 +13,8 @@ use schedule::lent::{small_shape, Memory};
 use schedule::Random;
 use second::Record;
 use wubraken::raw::{
-    kind, stop, wubraken_dequeue, wubraken_enqueue, wubraken_open, wubraken_serve, wubraken_step,
+    kind, stop, wubraken_dequeue, wubraken_enqueue, wubraken_open, wubraken_run_batch,
+    wubraken_step,
 };
 use wubraken::{Shape, Worker};
 
@@ -78,11 +79,11 @@ impl Lent {
     }
 
     /// The lines of a turn file.
-    fn serve(self, shape: Shape, file: &[u8]) -> String {
+    fn run_batch(self, shape: Shape, file: &[u8]) -> String {
         let mut out = [0; 4_096];
         // SAFETY: as above.
-        let served = unsafe {
-            wubraken_serve(
+        let end = unsafe {
+            wubraken_run_batch(
                 shape,
                 file.as_ptr(),
                 file.len(),
@@ -94,8 +95,8 @@ impl Lent {
                 self.records,
             )
         };
-        assert_eq!(served.stop, stop::DRAINED);
-        String::from_utf8(out[..served.written as usize].to_vec()).unwrap()
+        assert_eq!(end.stop, stop::DRAINED);
+        String::from_utf8(out[..end.written as usize].to_vec()).unwrap()
     }
 }
 
@@ -125,27 +126,27 @@ fn single_calls() {
 }
 
 #[test]
-fn stretches() {
-    on_each_memory("beyond, stretches", 0, |random, shape, lent| {
+fn batches() {
+    on_each_memory("beyond, batches", 0, |random, shape, lent| {
         let mut file = Vec::new();
         for _ in 0..4 {
             for worker in 0..shape.workers as u8 {
                 file.extend(records_of(random, shape, worker));
             }
         }
-        assert!(!lent.serve(shape, &file).contains("no 4"));
+        assert!(!lent.run_batch(shape, &file).contains("no 4"));
         for workers in [65, lent.records as u64 + 1, shape.workers] {
             let opened = translate::shape(Shape { workers, ..shape });
             Record::Open(opened).encode(&mut file);
         }
-        assert!(lent.serve(shape, &file).ends_with("no 1\nno 2\nopen\n"));
+        assert!(lent.run_batch(shape, &file).ends_with("no 1\nno 2\nopen\n"));
         let no_worker = records_of(random, shape, shape.workers as u8);
-        assert_eq!(lent.serve(shape, &no_worker), "no 4\n".repeat(4));
+        assert_eq!(lent.run_batch(shape, &no_worker), "no 4\n".repeat(4));
     });
 }
 
 #[test]
-fn openings_in_a_stretch() {
+fn openings_in_a_batch() {
     on_each_memory("beyond, openings", MORE, |random, shape, lent| {
         let most = shape.workers as u32 + MORE as u32;
         let mut file = Vec::new();
@@ -159,7 +160,7 @@ fn openings_in_a_stretch() {
                 file.extend(records_of(random, opened, worker));
             }
         }
-        let lines = lent.serve(shape, &file);
+        let lines = lent.run_batch(shape, &file);
         assert_eq!(lines.matches("open\n").count(), 3);
         assert_eq!(lines.matches("no 4\n").count(), 3 * 4);
     });
@@ -167,7 +168,7 @@ fn openings_in_a_stretch() {
 
 /// Of a shape outside its limits not even the first record is there.
 #[test]
-fn stretches_of_no_shape() {
+fn batches_of_no_shape() {
     on_each_memory("beyond, no shape", 0, |random, shape, lent| {
         let nothing = Lent {
             table: lent.table.wrapping_add(lent.records - SPARE),
@@ -179,7 +180,7 @@ fn stretches_of_no_shape() {
             workers: 65,
             ..shape
         };
-        assert_eq!(nothing.serve(none, &file), "no 1\n".repeat(4));
+        assert_eq!(nothing.run_batch(none, &file), "no 1\n".repeat(4));
     });
 }
 

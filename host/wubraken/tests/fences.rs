@@ -29,7 +29,7 @@ fn all_calls<S: AsMut<[u64]>, T: AsMut<[Worker]>>(
             _ => format!("{:?}", pool.step(worker)),
         };
     }
-    said += &format!("{:?}", pool.serve(file, out));
+    said += &format!("{:?}", pool.run_batch(file, out));
     said += &format!("{:?}", pool.reopen(SMALL));
     said
 }

@@ -2,7 +2,7 @@
 
 use std::mem::{align_of, size_of};
 
-use wubraken::raw::{kind, stop, Answer, Served};
+use wubraken::raw::{kind, stop, Answer, BatchEnd};
 use wubraken::{Arrival, Refusal, Shape, Worker, LINE};
 
 const HEADER: &str = include_str!("../../include/wubraken.h");
@@ -64,13 +64,13 @@ fn structs() {
         kind: "uint64_t" at 0, number: "uint64_t" at 8, ticket: "uint64_t" at 16,
         time: "uint64_t" at 24, path: "uint64_t" at 32, order: "uint64_t" at 40,
         distance: "uint64_t" at 48, energy: "uint64_t" at 56);
-    let served = Served {
+    let end = BatchEnd {
         shape: Shape::default(),
         read: 0,
         written: 0,
         stop: 0,
     };
-    check!(Served "wubraken_served" 56 served,
+    check!(BatchEnd "wubraken_batch_end" 56 end,
         shape: "wubraken_shape" at 0, read: "uint64_t" at 32,
         written: "uint64_t" at 40, stop: "uint64_t" at 48);
     assert_eq!(
@@ -81,7 +81,7 @@ fn structs() {
         ],
         [8; 3]
     );
-    assert_eq!((align_of::<Arrival>(), align_of::<Served>()), (4, 8));
+    assert_eq!((align_of::<Arrival>(), align_of::<BatchEnd>()), (4, 8));
 }
 
 /// `BadShape` is `BAD_SHAPE` in C.

@@ -128,12 +128,12 @@ fn cases_by_hand_one_by_one() {
 }
 
 #[test]
-fn cases_by_hand_as_a_stretch() {
+fn cases_by_hand_as_a_batch() {
     for script in scripts() {
         let mut pool = Pool::resume(Shape::default(), [0; 1_000], [Worker::default(); 64]);
         let mut out = [0; 8_192];
-        let served = pool.serve(&script.bytes(), &mut out);
-        assert_eq!(served.stop, Stop::Drained);
-        assert_eq!(&out[..served.written], script.output().as_bytes());
+        let end = pool.run_batch(&script.bytes(), &mut out);
+        assert_eq!(end.stop, Stop::Drained);
+        assert_eq!(&out[..end.written], script.output().as_bytes());
     }
 }

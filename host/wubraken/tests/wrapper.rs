@@ -2,7 +2,7 @@
 
 use std::collections::HashSet;
 
-use wubraken::{Arrival, Pool, Refusal, Served, Shape, Step, Stop, Taken, Worker};
+use wubraken::{Arrival, BatchEnd, Pool, Refusal, Shape, Step, Stop, Taken, Worker};
 
 const SHAPE: Shape = Shape {
     workers: 2,
@@ -93,14 +93,20 @@ fn every_refusal_by_name() {
     assert_eq!(pool.enqueue(0, ARRIVAL), Ok(2));
     assert_eq!(pool.enqueue(1, ARRIVAL), Err(Refusal::NoNode));
 
-    let halted = |read, refusal| Served {
+    let halted = |read, refusal| BatchEnd {
         read,
         written: 0,
         stop: Stop::Halted(refusal),
     };
     let mut out = [0; 100];
-    assert_eq!(pool.serve(b"XX", &mut out), halted(0, Refusal::UnknownMark));
-    assert_eq!(pool.serve(b"TU", &mut out), halted(0, Refusal::CutRecord));
+    assert_eq!(
+        pool.run_batch(b"XX", &mut out),
+        halted(0, Refusal::UnknownMark)
+    );
+    assert_eq!(
+        pool.run_batch(b"TU", &mut out),
+        halted(0, Refusal::CutRecord)
+    );
 
     let (mut store, table) = pool.into_parts();
     store[1] = (1 << 32) - 1;

@@ -1,7 +1,7 @@
 //! One call made twice: of the library, and of the second program. Answer, every
 //! word, every record and the guards are compared.
 //!
-//! The single calls are made as C makes them, stretches through the wrapper.
+//! The single calls are made as C makes them, batches through the wrapper.
 
 use std::fmt::Debug;
 use std::sync::atomic::{AtomicU64, Ordering};
@@ -9,7 +9,7 @@ use std::sync::atomic::{AtomicU64, Ordering};
 use schedule::lent::Memory;
 use second::{Answer, Record, Records};
 use wubraken::raw::{self, wubraken_dequeue, wubraken_enqueue, wubraken_open, wubraken_step};
-use wubraken::{Arrival, Pool, Refusal, Served, Shape, Stop, Worker, LINE};
+use wubraken::{Arrival, BatchEnd, Pool, Refusal, Shape, Stop, Worker, LINE};
 
 use super::guarded::{Guarded, GARBAGE, GARBAGE_RECORD};
 use super::translate;
@@ -110,24 +110,34 @@ impl Both {
         }
     }
 
-    /// Serves a stretch into so many bytes of room: how far, and the lines.
-    pub fn serve(&mut self, shape: &mut Shape, input: &[u8], room: usize) -> (Served, Vec<u8>) {
+    /// Runs a batch into so many bytes of room: how far, and the lines.
+    pub fn run_batch(
+        &mut self,
+        shape: &mut Shape,
+        input: &[u8],
+        room: usize,
+    ) -> (BatchEnd, Vec<u8>) {
         let mut out = Guarded::new(&vec![UNWRITTEN; room], !UNWRITTEN);
         let mut pool = Pool::resume(*shape, self.store.lent(), self.table.lent());
-        let served = pool.serve(input, out.lent());
+        let end = pool.run_batch(input, out.lent());
         let left = pool.shape();
 
-        let (expected, lines) = self.serve_second(shape, input, room);
-        assert_eq!((served, left), (expected, *shape));
-        let (written, rest) = out.contents().split_at(served.written);
+        let (expected, lines) = self.run_batch_second(shape, input, room);
+        assert_eq!((end, left), (expected, *shape));
+        let (written, rest) = out.contents().split_at(end.written);
         assert_eq!(written, lines);
         assert!(rest.iter().all(|&byte| byte == UNWRITTEN));
-        self.compare(*shape, "a stretch");
-        (served, lines)
+        self.compare(*shape, "a batch");
+        (end, lines)
     }
 
     /// Record by record, each on memory that is looked through again.
-    fn serve_second(&mut self, shape: &mut Shape, input: &[u8], room: usize) -> (Served, Vec<u8>) {
+    fn run_batch_second(
+        &mut self,
+        shape: &mut Shape,
+        input: &[u8],
+        room: usize,
+    ) -> (BatchEnd, Vec<u8>) {
         let (mut read, mut lines) = (0, Vec::new());
         let mut records = Records::new(input);
         let stop = loop {
@@ -150,7 +160,7 @@ impl Both {
         };
         let written = lines.len();
         (
-            Served {
+            BatchEnd {
                 read,
                 written,
                 stop,

@@ -1,4 +1,4 @@
-//! Stretches of turn files, in pieces of any length and into room of any size,
+//! Batches of turn files, in pieces of any length and into room of any size,
 //! against the second program.
 
 mod common;
@@ -33,11 +33,11 @@ fn run_in_pieces(random: &mut Random, lent: &mut Both, shape: &mut Shape, file: 
     let (mut at, mut have) = (0, 0);
     let bits = random.between(2, 14);
     loop {
-        let (served, lines) = lent.serve(shape, &file[at..have], any_room(random));
-        at += served.read;
+        let (end, lines) = lent.run_batch(shape, &file[at..have], any_room(random));
+        at += end.read;
         output.extend(lines);
         let is_all = have == file.len();
-        match served.stop {
+        match end.stop {
             Stop::Full => {}
             Stop::Drained if is_all => return output,
             Stop::Halted(refusal) if is_all || refusal != Refusal::CutRecord => {
@@ -85,8 +85,8 @@ fn every_mark() {
     let mut known = Vec::new();
     for mark in 0..=u16::MAX {
         let file = opened_and_then(&mark.to_le_bytes());
-        let (served, _) = fresh(37, 1).serve(&mut Shape::default(), &file, 200);
-        match served.stop {
+        let (end, _) = fresh(37, 1).run_batch(&mut Shape::default(), &file, 200);
+        match end.stop {
             Stop::Halted(Refusal::CutRecord) => known.push(mark.to_le_bytes()),
             stop => assert_eq!(stop, Stop::Halted(Refusal::UnknownMark)),
         }
@@ -100,16 +100,13 @@ fn cut_at_every_byte_into_every_room() {
     let (file, lines) = WORKED_EXAMPLE;
     for have in 0..=file.len() {
         for room in 0..=lines.len() + LINE {
-            let (served, _) = fresh(37, 1).serve(&mut Shape::default(), &file[..have], room);
-            assert_eq!((served.read, served.stop) == (0, Stop::Full), room < LINE);
+            let (end, _) = fresh(37, 1).run_batch(&mut Shape::default(), &file[..have], room);
+            assert_eq!((end.read, end.stop) == (0, Stop::Full), room < LINE);
         }
     }
     let mut lent = fresh(37, 1);
-    let (served, written) = lent.serve(&mut Shape::default(), file, lines.len() + LINE);
-    assert_eq!(
-        (served.stop, &written[..]),
-        (Stop::Drained, lines.as_bytes())
-    );
+    let (end, written) = lent.run_batch(&mut Shape::default(), file, lines.len() + LINE);
+    assert_eq!((end.stop, &written[..]), (Stop::Drained, lines.as_bytes()));
 }
 
 #[test]
@@ -219,7 +216,7 @@ fn any_memory_at_all() {
                 None => line.to_string(),
             }));
         }
-        // By stage 3, in the midst of a stretch.
+        // By stage 3, in the midst of a batch.
         assert!(left_the_ranges > 0);
         let expected = "begun, empty, no 1, no 10, no 11, no 12, no 2, no 3, no 4, no 5, no 6, no 9, on, open, stored, took";
         let seen: Vec<String> = seen.into_iter().collect();
