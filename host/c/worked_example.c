@@ -1,15 +1,23 @@
 /* The worked example, call by call: an arrival is put in and taken out again.
- * Given a turn file, all of its records instead. Prints one line a record. */
+ * Given a turn file, all of its records instead. Prints one line a record, and
+ * on standard error what a refusal means. */
 #include <inttypes.h>
 #include <stdio.h>
 #include <string.h>
 
 #include "wubraken.h"
 
-enum { WORDS = 4355, RECORDS = 64 };
+/* As `turns` lends. */
+enum { WORDS = WUBRAKEN_WORDS(512, WUBRAKEN_MAX_BUCKETS), RECORDS = WUBRAKEN_MAX_WORKERS };
 
 static uint64_t store[WORDS];
 static wubraken_worker table[RECORDS];
+
+static void print_refusal(uint64_t number)
+{
+    printf("no %" PRIu64 "\n", number);
+    fprintf(stderr, "refused: %s\n", wubraken_refusal_text(number));
+}
 
 static void print(wubraken_answer answer)
 {
@@ -34,7 +42,7 @@ static void print(wubraken_answer answer)
         puts("empty");
         break;
     default:
-        printf("no %" PRIu64 "\n", answer.number);
+        print_refusal(answer.number);
     }
 }
 
@@ -78,7 +86,7 @@ static void turn_file(FILE *file)
             continue;
         if (end.stop == WUBRAKEN_UNKNOWN_MARK || more == 0) {
             if (end.stop != WUBRAKEN_DRAINED)
-                printf("no %" PRIu64 "\n", end.stop);
+                print_refusal(end.stop);
             return;
         }
         more = fread(input + have, 1, sizeof input - have, file);

@@ -2,8 +2,12 @@
 
 use std::fmt::{self, Write};
 
-use crate::history::{Call, Fault, History, Kind, Run};
-use crate::order::find_order;
+use order::{find_order, Kind};
+
+use crate::history::{Fault, History, Run};
+use crate::line::Taken;
+
+type Call = order::Call<Taken>;
 
 /// What has been checked.
 #[derive(Clone, Copy, Debug, Default, PartialEq, Eq)]
@@ -40,8 +44,8 @@ pub fn check(input: &[u8], output: &str) -> Result<Checked, Violation> {
     let mut checked = Checked::default();
     for history in run.histories().map_err(Violation::Fault)? {
         checked.histories += 1;
-        checked.calls += history.calls.len();
-        if find_order(&history.calls).is_none() {
+        checked.calls += history.calls.calls().len();
+        if !history.calls.has_order() {
             return Err(no_order(&run, &history));
         }
     }
@@ -49,7 +53,7 @@ pub fn check(input: &[u8], output: &str) -> Result<Checked, Violation> {
 }
 
 fn no_order(run: &Run<'_>, history: &History) -> Violation {
-    let last = first_without_order(&history.calls);
+    let last = first_without_order(history.calls.calls());
     Violation::NoOrder {
         opening: history.opening,
         last,
@@ -80,7 +84,7 @@ fn describe(run: &Run<'_>, history: &History, last: usize) -> String {
         history.opening + 1,
         last + 1
     );
-    for call in known_after(&history.calls, last) {
+    for call in known_after(history.calls.calls(), last) {
         push_call(&mut text, run, &call);
     }
     text.push_str("records:\n");
@@ -102,7 +106,7 @@ fn describe(run: &Run<'_>, history: &History, last: usize) -> String {
 fn push_call(text: &mut String, run: &Run<'_>, call: &Call) {
     let Call { ticket, worker, .. } = call;
     let kind = match call.kind {
-        Kind::Put(arrival) => format!("put at {}", arrival.time),
+        Kind::Put(time, _) => format!("put at {time}"),
         Kind::Take => "take".to_string(),
     };
     let (end, answer) = match call.end {

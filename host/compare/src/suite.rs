@@ -112,7 +112,7 @@ fn run_input(engine: &Engine, input: &Input, checked: &mut Checked) -> Result<us
         .run(&input.bytes)
         .map_err(|error| format!("cannot run {}: {error}\n", engine.path().display()))?;
     let mut wrong = String::new();
-    if let Some(difference) = difference::first(&input.bytes, &expected, &output) {
+    if let Some(difference) = difference::first(&input.bytes, expected.as_bytes(), &output) {
         push_difference(&mut wrong, &difference, "second", "engine");
     }
     if input.is_small {
@@ -134,11 +134,11 @@ fn run_input(engine: &Engine, input: &Input, checked: &mut Checked) -> Result<us
 }
 
 /// What the second program prints; it must know what is known by hand.
-fn expected(input: &Input) -> Result<Vec<u8>, String> {
-    let mut output = Vec::new();
-    second::run(&input.bytes[..], &mut output).expect("a vector takes all");
+fn expected(input: &Input) -> Result<String, String> {
+    let output = schedule::lines(&input.bytes[..]);
     if let Some(known) = &input.output {
-        if let Some(difference) = difference::first(&input.bytes, known.as_bytes(), &output) {
+        let (known, printed) = (known.as_bytes(), output.as_bytes());
+        if let Some(difference) = difference::first(&input.bytes, known, printed) {
             let mut text = String::new();
             push_difference(&mut text, &difference, "by hand", "second");
             return Err(text);

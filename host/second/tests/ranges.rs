@@ -4,8 +4,10 @@ mod common;
 
 use common::*;
 use schedule::lent::{fields, often_small, small_shape, Memory};
+use schedule::script::shape;
 use schedule::Random;
-use second::{field, in_range, word, Response, Worker};
+use second::layout::{field, CURRENT, LAST_ALLOCATED, STARTED};
+use second::{word, Response, Worker};
 
 const WORKERS: usize = 3;
 const NODES: u64 = 4;
@@ -33,7 +35,7 @@ fn passes(lent: &Lent) -> bool {
     ];
     let passed = calls.map(|answer| answer != refused(3));
     assert!(passed.iter().all(|&each| each == passed[0]), "{calls:?}");
-    assert_eq!(passed[0], in_range(lent.shape, &lent.store, &lent.workers));
+    assert_eq!(passed[0], lent.is_in_range());
     passed[0]
 }
 
@@ -64,14 +66,14 @@ fn fixed_words() {
     check(
         &[0, COUNT - 1, COUNT, last],
         &[last + 1, u64::MAX],
-        |lent, value| lent.store[0] = value,
+        |lent, value| lent.store[CURRENT] = value,
     );
     check(&[0, COUNT - 1], &[COUNT, u64::MAX], |lent, value| {
         // At the largest count every start is refused by 11, which 3 precedes.
-        lent.store[1] = value
+        lent.store[STARTED] = value
     });
     check(&[0, NODES - 1], &[NODES, u64::MAX], |lent, value| {
-        lent.store[2] = value
+        lent.store[LAST_ALLOCATED] = value
     });
 }
 
@@ -262,7 +264,7 @@ fn the_one_leak() {
     *lent.node_word(0, field::LINK) = 5;
     *lent.node_word(1, field::RECLAMATION) = 1;
     *lent.node_word(1, field::DISTANCE) = 1;
-    lent.store[1] = 8;
+    lent.store[STARTED] = 8;
     lent.workers[0] = Worker {
         own: 1,
         link_seen: 5,
@@ -306,7 +308,7 @@ fn what_the_swaps_of_current_compare() {
     let open = || Lent::open(shape(1, 4, 3, 10));
 
     let mut lent = open();
-    lent.store[0] = word::current(0, 7);
+    lent.store[CURRENT] = word::current(0, 7);
     lent.workers[0] = record(12);
     assert_eq!(lent.turn(0), ON);
     assert_eq!((lent.stage(0), lent.current()), (9, (1, 7)));
@@ -321,7 +323,7 @@ fn what_the_swaps_of_current_compare() {
     lent.workers[0] = record(7);
     assert_eq!(lent.turn(0), ON);
     assert_eq!((lent.stage(0), lent.current()), (6, (1, 7)));
-    lent.store[0] = word::current(2, 7);
+    lent.store[CURRENT] = word::current(2, 7);
     lent.workers[0] = record(7);
     assert_eq!(lent.turn(0), stored(0));
     assert_eq!(lent.current(), (0, 8));
@@ -362,7 +364,7 @@ fn any_memory_in_range() {
     let mut random = Random::new(1);
     for _ in 0..60_000 {
         let lent = lend(&any_in_range(&mut random));
-        assert!(in_range(lent.shape, &lent.store, &lent.workers));
+        assert!(lent.is_in_range());
         for worker in 0..lent.shape.workers as usize {
             for call in 0..3 {
                 let mut after = lent.clone();
@@ -376,7 +378,7 @@ fn any_memory_in_range() {
                 let leak = lent.stage(worker) == 3
                     && *after.node_word(right, field::DISTANCE) == 0
                     && *after.node_word(right, field::RECLAMATION) >= 2;
-                assert_eq!(in_range(after.shape, &after.store, &after.workers), !leak);
+                assert_eq!(after.is_in_range(), !leak);
             }
         }
     }

@@ -4,7 +4,9 @@
 mod common;
 
 use common::*;
-use second::{field, word, Answer, Arrival, Response, Shape, Worker};
+use schedule::script::shape;
+use second::layout::{field, node_at, CURRENT, LAST_ALLOCATED, NODE_WORDS, STARTED};
+use second::{word, Answer, Arrival, Response, Shape, Worker};
 
 const MAX: u64 = (1 << 32) - 1;
 
@@ -174,9 +176,9 @@ fn refusals_9_and_10_at_every_stage() {
 #[test]
 fn refusal_11_at_a_start() {
     let mut lent = Lent::open(shape(2, 4, 2, 10));
-    lent.store[1] = MAX - 1;
+    lent.store[STARTED] = MAX - 1;
     assert_eq!(lent.put(0, 5), begun(MAX));
-    assert_eq!(lent.store[1], MAX);
+    assert_eq!(lent.store[STARTED], MAX);
     assert_eq!(lent.put(1, 5), refused(11));
     assert_eq!(lent.take(1), refused(11));
     assert_eq!(lent.finish(0), (5, stored(MAX)));
@@ -185,7 +187,7 @@ fn refusal_11_at_a_start() {
 /// A put at stage 7 that saw (1, 2^32 - 1), wanting bucket 0.
 fn lowering_at_the_largest_epoch() -> Lent {
     let mut lent = Lent::open(shape(2, 4, 2, 10));
-    lent.store[0] = word::current(1, MAX);
+    lent.store[CURRENT] = word::current(1, MAX);
     lent.put(0, 5).unwrap();
     lent.turns_to(0, 7);
     lent
@@ -200,14 +202,14 @@ fn refusal_11_at_stage_7_only_if_the_swap_would_succeed() {
     // Another bucket, another epoch: the swap fails and the put reads again.
     for other in [word::current(0, MAX), word::current(1, MAX - 1)] {
         let mut lent = lowering_at_the_largest_epoch();
-        lent.store[0] = other;
+        lent.store[CURRENT] = other;
         assert_eq!(lent.turn(0), ON);
         assert_eq!(lent.stage(0), 6);
-        assert_eq!(lent.store[0], other);
+        assert_eq!(lent.store[CURRENT], other);
     }
     // One epoch below the largest is still lowered.
     let mut lent = lowering_at_the_largest_epoch();
-    lent.store[0] = word::current(1, MAX - 1);
+    lent.store[CURRENT] = word::current(1, MAX - 1);
     assert_eq!(lent.finish(0), (3, stored(1)));
     assert_eq!(lent.current(), (0, MAX));
 }
@@ -215,7 +217,7 @@ fn refusal_11_at_stage_7_only_if_the_swap_would_succeed() {
 #[test]
 fn the_arrival_of_a_refused_put_can_be_taken() {
     let mut lent = Lent::open(shape(2, 4, 1, 10));
-    lent.store[0] = word::current(0, MAX);
+    lent.store[CURRENT] = word::current(0, MAX);
     lent.put(0, 5).unwrap();
     lent.turns_to(0, 7);
     assert_eq!(lent.turn(0), refused(11));
@@ -241,7 +243,7 @@ fn refusal_12_while_nodes_rest() {
 fn a_ticket_equal_to_the_unlinking_keeps_the_node_resting() {
     for (ticket, answer) in [(6, refused(12)), (7, refused(12)), (8, begun(10))] {
         let mut lent = Lent::open(shape(2, 1, 2, 10));
-        lent.store[1] = 9;
+        lent.store[STARTED] = 9;
         *lent.node_word(0, field::DISTANCE) = 1;
         *lent.node_word(0, field::RECLAMATION) = 2 + 7;
         lent.workers[1] = Worker {
@@ -265,13 +267,16 @@ fn nodes_are_tried_after_the_last_one_and_round() {
         (3, &[0, 1][..], 2),
     ] {
         let mut lent = Lent::open(shape(2, 4, 2, 10));
-        lent.store[2] = last;
+        lent.store[LAST_ALLOCATED] = last;
         for &node in live {
             *lent.node_word(node, field::RECLAMATION) = 1;
             *lent.node_word(node, field::DISTANCE) = 1;
         }
         assert_eq!(lent.put(0, 5), begun(1));
-        assert_eq!((lent.store[2], lent.workers[0].own), (expected, expected));
+        assert_eq!(
+            (lent.store[LAST_ALLOCATED], lent.workers[0].own),
+            (expected, expected)
+        );
     }
 }
 
@@ -304,7 +309,9 @@ fn starts_touch_only_what_they_name() {
         ..seen
     };
     assert_eq!(lent.workers[0], put);
-    assert_eq!(lent.store[5..13], [9, 5, 1, 7, 1, 3, 55, 1]);
+    let node = node_at(2, 0);
+    let words = [9, 5, 1, 7, 1, 3, 55, 1];
+    assert_eq!(lent.store[node..node + NODE_WORDS], words);
 
     assert_eq!(lent.take(1), begun(2));
     let take = Worker {
@@ -314,7 +321,7 @@ fn starts_touch_only_what_they_name() {
         ..seen
     };
     assert_eq!(lent.workers[1], take);
-    assert_eq!(lent.store[1], 2);
+    assert_eq!(lent.store[STARTED], 2);
 }
 
 /// Makes the condition of a refusal true, for the start or turn of worker 0.
@@ -322,15 +329,15 @@ fn provoke(number: u8, lent: &mut Lent, call: &mut (usize, Arrival)) {
     match number {
         1 => lent.shape.width = 0,
         2 => lent.workers.truncate(1),
-        3 => lent.store[2] = 4,
+        3 => lent.store[LAST_ALLOCATED] = 4,
         4 => call.0 = 2,
         5 => call.1.distance = 0,
         6 => call.1.time = 20,
         9 => lent.workers[0].stage = 7,
         10 => lent.workers[0].stage = 0,
         11 => {
-            lent.store[0] = word::current(1, MAX);
-            lent.store[1] = MAX;
+            lent.store[CURRENT] = word::current(1, MAX);
+            lent.store[STARTED] = MAX;
             lent.workers[0].current_seen = word::current(1, MAX);
         }
         12 => {
@@ -382,9 +389,9 @@ fn the_lowest_number_wins() {
 #[test]
 fn each_applies_on_its_condition_only() {
     let mut lent = Lent::with_stored(shape(2, 1, 2, 10), &[5]);
-    lent.store[1] = MAX;
+    lent.store[STARTED] = MAX;
     lent.workers[0] = record_at(8);
     assert_eq!(lent.turn(0), ON); // 11 and 12 would hold for a put.
-    lent.store[1] = 1;
+    lent.store[STARTED] = 1;
     assert_eq!(lent.take(1), begun(2)); // 12 would hold for a put.
 }

@@ -3,48 +3,9 @@
 use std::io::{self, ErrorKind, Read, Write};
 use std::process::{Command, Stdio};
 
-use second::{run, Arrival, Record, Shape, LENT_WORDS};
-
-fn bytes(records: &[Record]) -> Vec<u8> {
-    let mut bytes = Vec::new();
-    for record in records {
-        record.encode(&mut bytes);
-    }
-    bytes
-}
-
-fn open(workers: u32, nodes: u32, buckets: u32, width: u32) -> Record {
-    Record::Open(Shape {
-        workers,
-        nodes,
-        buckets,
-        width,
-    })
-}
-
-fn put(worker: u8, time: u32) -> Record {
-    let arrival = Arrival {
-        time,
-        path: 7,
-        order: 1,
-        distance: 3,
-    };
-    Record::EnqueueStart { worker, arrival }
-}
-
-fn take(worker: u8) -> Record {
-    Record::DequeueStart { worker }
-}
-
-fn turn(worker: u8) -> Record {
-    Record::Step { worker }
-}
-
-fn lines(input: impl Read) -> String {
-    let mut output = Vec::new();
-    run(input, &mut output).unwrap();
-    String::from_utf8(output).unwrap()
-}
+use schedule::lines;
+use schedule::script::{bytes, open, put, take, turn};
+use second::{Record, LENT_WORDS};
 
 fn lines_of(records: &[Record]) -> String {
     lines(&bytes(records)[..])

@@ -23,9 +23,7 @@ fn the_stored_files() {
 
 #[test]
 fn through_the_library() {
-    let mut output = Vec::new();
-    second::run(INPUT, &mut output).unwrap();
-    assert_eq!(String::from_utf8(output).unwrap(), OUTPUT);
+    assert_eq!(schedule::lines(INPUT), OUTPUT);
 }
 
 #[test]

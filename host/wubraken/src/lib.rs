@@ -33,11 +33,13 @@
 //!
 //! The library is linked from the repository's `target/staticlib`, where
 //! `rt staticlib wubraken` writes it, or from the directory `WUBRAKEN_LIB_DIR`.
+#![warn(missing_docs)]
 
 #[cfg(not(all(target_arch = "x86_64", target_pointer_width = "64")))]
 compile_error!("the proved library is compiled for 64-bit x86-64");
 
 mod answer;
+mod limits;
 mod pool;
 mod refusal;
 mod types;
@@ -45,6 +47,7 @@ mod types;
 pub mod raw;
 
 pub use answer::{BatchEnd, Step, Stop, Taken};
+pub use limits::OutsideLimits;
 pub use pool::Pool;
 pub use refusal::Refusal;
 pub use types::{Arrival, Shape, Worker};
