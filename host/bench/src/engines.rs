@@ -39,14 +39,9 @@ const BLOCK: usize = 256 * 1024;
 impl BatchEntry {
     /// Lends so many words and records, with no pool open in them.
     pub fn lending(words: usize, records: usize) -> Self {
-        let none = Shape {
-            workers: 0,
-            nodes: 0,
-            buckets: 0,
-            width: 0,
-        };
+        let (store, table) = (vec![0; words], vec![Worker::default(); records]);
         Self {
-            pool: Pool::resume(none, vec![0; words], vec![Worker::default(); records]),
+            pool: Pool::resume(Shape::default(), store, table),
             block: vec![0; BLOCK],
         }
     }
@@ -61,7 +56,7 @@ impl Engine for BatchEntry {
             match end.stop {
                 Stop::Drained => break,
                 Stop::Full => {}
-                Stop::Halted(refusal) => panic!("no turn file: {refusal}"),
+                other => panic!("no turn file: {other:?}"),
             }
         }
     }

@@ -4,6 +4,7 @@
 use std::fs;
 use std::io;
 
+use schedule::script::shape;
 use second::Shape;
 
 use crate::arguments::Arguments;
@@ -74,13 +75,8 @@ pub fn run(arguments: &Arguments) -> io::Result<()> {
 const SPAN: u32 = 65_536;
 
 fn model(workers: u32, nodes: u32, buckets: u32, pending: usize) -> Model {
-    let shape = Shape {
-        workers,
-        nodes,
-        buckets,
-        width: (SPAN / buckets).min(65_535),
-    };
-    Model::new(shape, pending, SPAN / 4)
+    let width = (SPAN / buckets).min(Shape::MAX_WIDTH);
+    Model::new(shape(workers, nodes, buckets, width), pending, SPAN / 4)
 }
 
 fn all_series() -> [Series; 4] {

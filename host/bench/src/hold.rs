@@ -45,8 +45,8 @@ fn model(workers: u32, pending: usize) -> Model {
     const WIDTH: u32 = 1_000;
     let shape = Shape {
         workers,
-        nodes: (pending as u32 + 64).min(4_096),
-        buckets: 256,
+        nodes: (pending as u32 + 64).min(Shape::MAX_NODES),
+        buckets: Shape::MAX_BUCKETS,
         width: WIDTH,
     };
     let buckets = (pending as u32 / 4).min(shape.buckets / 2);

@@ -1,10 +1,11 @@
 //! The hold model: again and again the earliest arrival is taken, and put back
 //! later by a random increment, so that the number of arrivals stays the same.
 
+use schedule::script::{put, take, turn};
 use schedule::Random;
 use second::{Refusal, Response, Shape};
 
-use crate::recorder::{put, take, turn, Batch, Recorder};
+use crate::recorder::{Batch, Recorder};
 
 /// A pool with so many arrivals. Times do not go round, so a run ends where the
 /// calendar does, and another one begins.

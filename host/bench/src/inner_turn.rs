@@ -1,10 +1,11 @@
 //! The turn by itself: batches that are nearly all turns.
 
-use second::{Program, Shape, LENT_RECORDS, LENT_WORDS};
+use schedule::script::{put, shape, take};
+use second::{Program, LENT_RECORDS, LENT_WORDS};
 
 use crate::arguments::Arguments;
 use crate::engines::{assert_same_lines, BatchEntry, Engine};
-use crate::recorder::{put, take, Batch, Recorder};
+use crate::recorder::{Batch, Recorder};
 use crate::report::{heading, row, Target};
 use crate::timing::{best, nanoseconds_each, time};
 
@@ -26,12 +27,7 @@ const PIECE: usize = 100_000;
 
 /// Equal times in one bucket: each put walks past all before it.
 fn walking() -> Batch {
-    let mut recorder = Recorder::open(Shape {
-        workers: 1,
-        nodes: 500,
-        buckets: 1,
-        width: 1,
-    });
+    let mut recorder = Recorder::open(shape(1, 500, 1, 1));
     for _ in 0..500 {
         recorder.call(put(0, 0));
     }
@@ -40,12 +36,7 @@ fn walking() -> Batch {
 
 /// A take that finds the pool empty.
 fn passing() -> Batch {
-    let mut recorder = Recorder::open(Shape {
-        workers: 1,
-        nodes: 1,
-        buckets: 256,
-        width: 1,
-    });
+    let mut recorder = Recorder::open(shape(1, 1, 256, 1));
     recorder.call(take(0));
     recorder.cut()
 }

@@ -1,6 +1,7 @@
 //! Turn files written along a run of the pool.
 
-use second::{Answer, Arrival, Program, Record, Response, Shape};
+use schedule::script::turn;
+use second::{Answer, Program, Record, Response, Shape};
 
 /// Writes records and follows the pool they lead to.
 pub struct Recorder {
@@ -63,22 +64,4 @@ impl Batch {
             turns: self.turns * times,
         }
     }
-}
-
-pub fn put(worker: u8, time: u32) -> Record {
-    let arrival = Arrival {
-        time,
-        path: 7,
-        order: 1,
-        distance: 3,
-    };
-    Record::EnqueueStart { worker, arrival }
-}
-
-pub fn take(worker: u8) -> Record {
-    Record::DequeueStart { worker }
-}
-
-pub fn turn(worker: u8) -> Record {
-    Record::Step { worker }
 }

@@ -3,8 +3,9 @@
 use std::io;
 use std::time::Duration;
 
+use schedule::script::shape;
 use schedule::{Generator, Options};
-use second::{Program, Shape, LENT_RECORDS, LENT_WORDS};
+use second::{Program, LENT_RECORDS, LENT_WORDS};
 
 use crate::arguments::Arguments;
 use crate::engines::{assert_same_lines, BatchEntry, Engine};
@@ -31,12 +32,7 @@ fn schedules() -> [(&'static str, Options); 3] {
     let one_pool = |workers, nodes, buckets| Options {
         one_opening: true,
         no_refusals: true,
-        shape: Some(Shape {
-            workers,
-            nodes,
-            buckets,
-            width: 100,
-        }),
+        shape: Some(shape(workers, nodes, buckets, 100)),
     };
     [
         ("4 workers, 500 nodes, 256 buckets", one_pool(4, 500, 256)),

@@ -11,6 +11,7 @@ use common::seeds::on_seeds;
 use common::translate;
 use schedule::by_hand::WORKED_EXAMPLE;
 use schedule::lent::small_shape;
+use schedule::script::{put_arrival, take, turn};
 use schedule::{write, write_damaged, Options, Random};
 use second::{Program, Record, Records, LENT_RECORDS, LENT_WORDS};
 use wubraken::{Refusal, Shape, Stop, Worker, LINE};
@@ -19,8 +20,8 @@ fn any_room(random: &mut Random) -> usize {
     let room = match random.below(8) {
         0 => random.below(LINE as u32),
         1 => LINE as u32 - 1 + random.below(3),
-        2..=4 => random.between(89, 400),
-        5 | 6 => random.between(89, 4_000),
+        2..=4 => random.between(LINE as u32, 400),
+        5 | 6 => random.between(LINE as u32, 4_000),
         _ => 16_384,
     };
     room as usize
@@ -118,19 +119,12 @@ fn the_program_on_random_schedules() {
             let mut shape = Shape::default();
             let output = run_in_pieces(random, &mut lent, &mut shape, &file);
 
-            let mut expected = Vec::new();
-            second::run(&file[..], &mut expected).unwrap();
-            assert!(output == expected, "the lines differ");
+            let expected = schedule::lines(&file[..]);
+            assert!(output == expected.as_bytes(), "the lines differ");
             let program = program_after(&file);
             assert_eq!(shape, translate::shape_back(program.shape()));
             assert_eq!(lent.store(), program.store());
-            let table: Vec<_> = lent
-                .table()
-                .iter()
-                .copied()
-                .map(translate::worker)
-                .collect();
-            assert_eq!(table, program.workers());
+            assert_eq!(translate::table(lent.table()), program.workers());
         }
     });
 }
@@ -155,7 +149,7 @@ fn any_records(random: &mut Random, shape: Shape, records: usize) -> Vec<u8> {
     for _ in 0..records {
         let worker = match random.below(16) {
             0 => random.below(256) as u8,
-            _ => random.below(shape.workers.clamp(1, 64) as u32) as u8,
+            _ => random.below(shape.workers.clamp(1, Shape::MAX_WORKERS) as u32) as u8,
         };
         let record = match random.below(100) {
             0 => Record::Open(small_shape(random)),
@@ -165,12 +159,9 @@ fn any_records(random: &mut Random, shape: Shape, records: usize) -> Vec<u8> {
                 buckets: random.below(300),
                 width: random.below(65_536),
             }),
-            2..=17 => {
-                let arrival = translate::arrival(any_arrival(random, shape));
-                Record::EnqueueStart { worker, arrival }
-            }
-            18..=35 => Record::DequeueStart { worker },
-            _ => Record::Step { worker },
+            2..=17 => put_arrival(worker, translate::arrival(any_arrival(random, shape))),
+            18..=35 => take(worker),
+            _ => turn(worker),
         };
         record.encode(&mut file);
     }
@@ -187,7 +178,7 @@ fn any_shape(random: &mut Random, small: second::Shape) -> Shape {
             ..shape
         },
         2 => Shape {
-            width: random.choose(&[0, 65_536, u64::MAX]),
+            width: random.choose(&[0, Shape::MAX_WIDTH + 1, u64::MAX]),
             ..shape
         },
         _ => shape,

@@ -33,14 +33,15 @@ fn stepped(step: Step) -> raw::Answer {
             ..answer(kind::STORED)
         },
         Step::Took(taken) => raw::Answer {
-            time: taken.time,
-            path: taken.path,
-            order: taken.order,
-            distance: taken.distance,
-            energy: taken.energy,
+            time: taken.time.into(),
+            path: taken.path.into(),
+            order: taken.order.into(),
+            distance: taken.distance.into(),
+            energy: taken.energy.into(),
             ..answer(kind::TOOK)
         },
         Step::Empty => answer(kind::EMPTY),
+        other => panic!("{other:?} is new"),
     }
 }
 
@@ -90,11 +91,7 @@ impl Beside {
         assert_eq!(answer, translate::answer(expected), "{record:?}");
         assert_eq!(self.shape, translate::shape_back(program.shape()));
         assert!(self.store.contents() == program.store(), "{record:?}");
-        let table = self.table.contents().iter();
-        assert!(table
-            .copied()
-            .map(translate::worker)
-            .eq(program.workers().iter().copied()));
+        assert!(translate::table(self.table.contents()) == program.workers());
     }
 }
 

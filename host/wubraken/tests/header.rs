@@ -2,6 +2,7 @@
 
 use std::mem::{align_of, size_of};
 
+use second::layout::{HEADS, NODE_WORDS};
 use wubraken::raw::{kind, stop, Answer, BatchEnd};
 use wubraken::{Arrival, Refusal, Shape, Worker, LINE};
 
@@ -64,13 +65,7 @@ fn structs() {
         kind: "uint64_t" at 0, number: "uint64_t" at 8, ticket: "uint64_t" at 16,
         time: "uint64_t" at 24, path: "uint64_t" at 32, order: "uint64_t" at 40,
         distance: "uint64_t" at 48, energy: "uint64_t" at 56);
-    let end = BatchEnd {
-        shape: Shape::default(),
-        read: 0,
-        written: 0,
-        stop: 0,
-    };
-    check!(BatchEnd "wubraken_batch_end" 56 end,
+    check!(BatchEnd "wubraken_batch_end" 56 BatchEnd::default(),
         shape: "wubraken_shape" at 0, read: "uint64_t" at 32,
         written: "uint64_t" at 40, stop: "uint64_t" at 48);
     assert_eq!(
@@ -85,9 +80,9 @@ fn structs() {
 }
 
 /// `BadShape` is `BAD_SHAPE` in C.
-fn in_c(name: &str) -> String {
+fn name_in_c(refusal: &Refusal) -> String {
     let mut c = String::new();
-    for letter in name.chars() {
+    for letter in format!("{refusal:?}").chars() {
         if letter.is_uppercase() && !c.is_empty() {
             c.push('_');
         }
@@ -99,7 +94,7 @@ fn in_c(name: &str) -> String {
 #[test]
 fn numbers() {
     for refusal in Refusal::ALL {
-        assert_eq!(enumerator(&in_c(&format!("{refusal:?}"))), refusal.number());
+        assert_eq!(enumerator(&name_in_c(refusal)), refusal.number());
     }
     for (name, number) in [
         ("OPEN", kind::OPEN),
@@ -112,7 +107,33 @@ fn numbers() {
         ("DRAINED", stop::DRAINED),
         ("FULL", stop::FULL),
         ("LINE", LINE as u64),
+        ("MAX_WORKERS", Shape::MAX_WORKERS),
+        ("MAX_NODES", Shape::MAX_NODES),
+        ("MAX_BUCKETS", Shape::MAX_BUCKETS),
+        ("MAX_WIDTH", Shape::MAX_WIDTH),
+        ("MAX_PATH", Arrival::MAX_PATH.into()),
+        ("MAX_ORDER", Arrival::MAX_ORDER.into()),
+        ("MAX_DISTANCE", Arrival::MAX_DISTANCE.into()),
     ] {
         assert_eq!(enumerator(name), number, "{name}");
     }
+}
+
+/// The header says of a refusal what the wrapper says.
+#[test]
+fn texts() {
+    for refusal in Refusal::ALL {
+        let case = format!("case WUBRAKEN_{}:\n        return \"", name_in_c(refusal));
+        let (_, rest) = HEADER.split_once(&case).unwrap();
+        let (text, _) = rest.split_once("\";\n").unwrap();
+        let number = refusal.number();
+        assert_eq!(refusal.to_string(), format!("refused by {number}: {text}"));
+    }
+    assert!(HEADER.contains("default:\n        return \"no refusal has this number\";"));
+}
+
+#[test]
+fn words() {
+    let words = format!("({HEADS} + (buckets) + {NODE_WORDS} * (nodes))\n");
+    assert!(HEADER.contains(&format!("WUBRAKEN_WORDS(nodes, buckets) {words}")));
 }
