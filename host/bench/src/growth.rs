@@ -102,7 +102,7 @@ fn all_series() -> [Series; 4] {
         },
         Series {
             name: "arrivals in one bucket",
-            others: "1 worker, one node more than arrivals",
+            others: "1 worker, one node to spare",
             points: arrivals
                 .map(|it| (it, model(1, it + 1, 1, it as usize)))
                 .to_vec(),
