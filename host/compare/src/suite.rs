@@ -17,6 +17,9 @@ pub struct Group<'a> {
 /// All groups, quick ones first; the last ones for these seeds.
 pub fn groups(seeds: &[u64], records: u64) -> Vec<Group<'_>> {
     let seeds = || seeds.iter().copied();
+    let long = |name, file: fn(u64, u64) -> Input| {
+        group(name, seeds().map(move |seed| file(seed, records)))
+    };
     vec![
         group("worked example", inputs::worked_example()),
         group("by hand", inputs::by_hand()),
@@ -28,18 +31,9 @@ pub fn groups(seeds: &[u64], records: u64) -> Vec<Group<'_>> {
             "damaged",
             seeds().flat_map(move |seed| seeded::damaged(seed, records)),
         ),
-        group(
-            "every shape",
-            seeds().map(move |seed| seeded::every_shape(seed, records)),
-        ),
-        group(
-            "few nodes",
-            seeds().map(move |seed| seeded::narrow(seed, records)),
-        ),
-        group(
-            "no refusals",
-            seeds().map(move |seed| seeded::unrefused(seed, records)),
-        ),
+        long("every shape", seeded::every_shape),
+        long("few nodes", seeded::narrow),
+        long("no refusals", seeded::unrefused),
     ]
 }
 

@@ -220,7 +220,9 @@ impl Generator {
 
     fn no_such_worker(&mut self, time: u32) -> Record {
         let workers = self.program.shape().workers;
-        let beyond = self.random.choose(&[workers, workers + 1, 64, 128, 255]) as u8;
+        let beyond =
+            self.random
+                .choose(&[workers, workers + 1, Shape::MAX_WORKERS, 128, 255]) as u8;
         match self.random.below(4) {
             0 => self.start_on(beyond, time),
             1 => self.bad_arrival(beyond, time),

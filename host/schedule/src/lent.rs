@@ -15,6 +15,21 @@ pub fn small_shape(random: &mut Random) -> Shape {
     }
 }
 
+/// Out of range in every field.
+pub const GARBAGE: u64 = 0xDEAD_BEEF_DEAD_BEEF;
+
+pub const GARBAGE_RECORD: Worker = Worker {
+    stage: GARBAGE,
+    kind: GARBAGE,
+    own: GARBAGE,
+    bucket: GARBAGE,
+    left: GARBAGE,
+    right: GARBAGE,
+    link_seen: GARBAGE,
+    current_seen: GARBAGE,
+    ticket: GARBAGE,
+};
+
 /// A shape, and the words and records lent to its pool.
 #[derive(Clone, Debug, PartialEq, Eq)]
 pub struct Memory {

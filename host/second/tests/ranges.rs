@@ -3,7 +3,7 @@
 mod common;
 
 use common::*;
-use schedule::lent::{fields, often_small, small_shape, Memory};
+use schedule::lent::{fields, often_small, small_shape};
 use schedule::script::shape;
 use schedule::Random;
 use second::layout::{field, CURRENT, LAST_ALLOCATED, STARTED};

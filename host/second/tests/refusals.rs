@@ -96,7 +96,7 @@ fn opening_never_reads_the_old_contents() {
     expected.extend([GARBAGE; SPARE_WORDS]);
     assert_eq!(lent.store, expected);
     assert_eq!(lent.workers[..2], [Worker::default(); 2]);
-    assert_eq!(lent.workers[2..], [garbage_record(); SPARE_RECORDS]);
+    assert_eq!(lent.workers[2..], [GARBAGE_RECORD; SPARE_RECORDS]);
 }
 
 #[test]

@@ -29,7 +29,8 @@
 //! }
 //! ```
 //!
-//! [`Pool::run_batch`] works through a batch of a turn file: many records in one call.
+//! [`Pool::run_batch`] works through a batch, a piece of a turn file, in one call.
+//! Threads that share a pool lock it for a step (`examples/threads.rs`).
 //!
 //! The library is linked from the repository's `target/staticlib`, where
 //! `rt staticlib wubraken` writes it, or from the directory `WUBRAKEN_LIB_DIR`.

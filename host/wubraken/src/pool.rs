@@ -18,7 +18,8 @@ pub struct Pool<S = Vec<u64>, T = Vec<Worker>> {
 }
 
 impl Pool {
-    /// An open pool with memory of its own.
+    /// An open pool with memory of its own; or refusal 1, and [`Shape::check`] says
+    /// of which field.
     ///
     /// ```
     /// use wubraken::{Pool, Refusal, Shape};
@@ -144,6 +145,9 @@ impl<S: AsMut<[u64]>, T: AsMut<[Worker]>> Pool<S, T> {
     /// Works through the records of a turn file and writes one line a record, as
     /// the single calls would answer them. The memory is looked through once, not
     /// once a record. An opening among the records changes the pool's shape.
+    ///
+    /// A batch may end before its input does, or inside a record; `examples/batches.rs`
+    /// has the loop around that.
     ///
     /// ```
     /// use wubraken::{Pool, Refusal, Shape, Stop, Worker};

@@ -2,9 +2,11 @@
 //! nothing and that the spare words and records are never changed.
 #![allow(dead_code)]
 
+pub mod program;
+
 use std::ops::{Deref, DerefMut};
 
-use schedule::lent::Memory;
+pub use schedule::lent::{Memory, GARBAGE, GARBAGE_RECORD};
 pub use schedule::script::arrival;
 use schedule::Script;
 use second::layout::{field, CURRENT};
@@ -12,23 +14,6 @@ use second::{push_line, stage, word, Answer, Arrival, Record, Refusal, Response,
 
 pub const SPARE_WORDS: usize = 5;
 pub const SPARE_RECORDS: usize = 3;
-
-/// Garbage that would be out of range in any field.
-pub const GARBAGE: u64 = 0xDEAD_BEEF_DEAD_BEEF;
-
-pub fn garbage_record() -> Worker {
-    Worker {
-        stage: GARBAGE,
-        kind: GARBAGE,
-        own: GARBAGE,
-        bucket: GARBAGE,
-        left: GARBAGE,
-        right: GARBAGE,
-        link_seen: GARBAGE,
-        current_seen: GARBAGE,
-        ticket: GARBAGE,
-    }
-}
 
 /// The response to a dequeue of [`arrival`].
 pub fn took(time: u64) -> Answer {
@@ -97,7 +82,7 @@ impl Lent {
         Self(Memory {
             shape,
             store: vec![GARBAGE; shape.store_words() + SPARE_WORDS],
-            workers: vec![garbage_record(); shape.workers as usize + SPARE_RECORDS],
+            workers: vec![GARBAGE_RECORD; shape.workers as usize + SPARE_RECORDS],
         })
     }
 
