@@ -3,7 +3,7 @@
 
 use std::fmt;
 
-use order::{Answer, Kind};
+use order::{Answer, History, Kind};
 use second::{Record, Records, Refusal};
 
 use crate::line::{Line, Taken};
@@ -12,10 +12,10 @@ use crate::record::show;
 /// The calls from one opening to the next; their moments are places of records in
 /// the run, from 0.
 #[derive(Clone, Debug)]
-pub struct History {
+pub struct Opened {
     /// The place of the opening.
     pub opening: usize,
-    pub calls: order::History<Taken>,
+    pub history: History<Taken>,
 }
 
 /// A line that cannot be, whatever the order of the calls.
@@ -66,7 +66,7 @@ impl<'a> Run<'a> {
     }
 
     /// The calls of every history.
-    pub fn histories(&self) -> Result<Vec<History>, Fault> {
+    pub fn histories(&self) -> Result<Vec<Opened>, Fault> {
         let mut histories = Histories::default();
         for place in 0..self.records.len().max(self.lines.len()) {
             self.follow(&mut histories, place).map_err(|why| Fault {
@@ -107,14 +107,12 @@ impl<'a> Run<'a> {
 
 /// The histories so far.
 #[derive(Default)]
-struct Histories(Vec<History>);
+struct Histories(Vec<Opened>);
 
 impl Histories {
     fn open(&mut self, opening: usize) {
-        self.0.push(History {
-            opening,
-            calls: order::History::default(),
-        });
+        let history = History::default();
+        self.0.push(Opened { opening, history });
     }
 
     fn begin(
@@ -124,21 +122,21 @@ impl Histories {
         kind: Kind<Taken>,
         start: usize,
     ) -> Result<(), &'static str> {
-        let History { calls, .. } = self.0.last_mut().ok_or("nothing is open")?;
-        if ticket != calls.calls().len() as u64 + 1 {
+        let Opened { history, .. } = self.0.last_mut().ok_or("nothing is open")?;
+        if ticket != history.calls().len() as u64 + 1 {
             return Err("not the next ticket");
         }
-        if calls.is_busy(worker) {
+        if history.is_busy(worker) {
             return Err("the worker has a call in progress");
         }
-        calls.begin(worker, ticket, kind, start);
+        history.begin(worker, ticket, kind, start);
         Ok(())
     }
 
-    /// The calls of the last history, in which the worker has one in progress.
-    fn busy(&mut self, worker: usize) -> Result<&mut order::History<Taken>, &'static str> {
-        let last = self.0.last_mut().map(|history| &mut history.calls);
-        last.filter(|calls| calls.is_busy(worker))
+    /// The last history, in which the worker has a call in progress.
+    fn busy(&mut self, worker: usize) -> Result<&mut History<Taken>, &'static str> {
+        let last = self.0.last_mut().map(|opened| &mut opened.history);
+        last.filter(|history| history.is_busy(worker))
             .ok_or("the worker has no call in progress")
     }
 

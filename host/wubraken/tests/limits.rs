@@ -40,12 +40,18 @@ fn shapes() -> impl Iterator<Item = Shape> {
     })
 }
 
+/// The first field outside its limits.
+fn outside(shape: Shape) -> Option<usize> {
+    let fields = fields(shape);
+    (0..4).find(|&place| !(1..=LIMITS[place]).contains(&fields[place]))
+}
+
+fn fields(shape: Shape) -> [u64; 4] {
+    [shape.workers, shape.nodes, shape.buckets, shape.width]
+}
+
 fn is_within_limits(shape: Shape) -> bool {
-    let fields = [shape.workers, shape.nodes, shape.buckets, shape.width];
-    fields
-        .iter()
-        .zip(LIMITS)
-        .all(|(&field, most)| (1..=most).contains(&field))
+    outside(shape).is_none()
 }
 
 fn every_call(worker: u64) -> Vec<Call> {
@@ -69,18 +75,13 @@ fn words_to_lend() {
 #[test]
 fn the_field_of_a_shape() {
     for shape in shapes() {
-        let fields = [shape.workers, shape.nodes, shape.buckets, shape.width];
-        let names = ["workers", "nodes", "buckets", "width"];
-        let outside = (0..4).find(|&place| !(1..=LIMITS[place]).contains(&fields[place]));
-        let said = shape.check().map_err(|outside| outside.to_string());
-        match outside {
-            None => assert_eq!(said, Ok(())),
-            Some(place) => {
-                let (name, value, most) = (names[place], fields[place], LIMITS[place]);
-                let text = format!("{name} is {value}, and must be 1 to {most}");
-                assert_eq!(said, Err(text));
-            }
-        }
+        let text = outside(shape).map(|place| {
+            let name = ["workers", "nodes", "buckets", "width"][place];
+            let (value, most) = (fields(shape)[place], LIMITS[place]);
+            format!("{name} is {value}, and must be 1 to {most}")
+        });
+        let said = shape.check().err().map(|outside| outside.to_string());
+        assert_eq!(said, text);
     }
 }
 
