@@ -69,7 +69,7 @@ fn one_worker_takes_in_the_order_of_time() {
 /// An order of turns in which a worker overtakes another's reflections, so that
 /// the tests of several workers are about something.
 #[test]
-fn several_workers_may_not() {
+fn several_workers_may_take_out_of_order() {
     let times: Vec<u32> = run(Arguments::default())
         .taken()
         .iter()

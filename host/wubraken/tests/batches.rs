@@ -111,7 +111,7 @@ fn cut_at_every_byte_into_every_room() {
 }
 
 #[test]
-fn the_program_on_random_schedules() {
+fn random_schedules_in_pieces() {
     on_seeds("schedules", |random| {
         for nth in 0..40 {
             let file = any_file(random, 50 + nth * nth);

@@ -68,7 +68,7 @@ fn records_of(random: &mut Random, shape: Shape, worker: u8) -> Vec<u8> {
 }
 
 #[test]
-fn single_calls() {
+fn single_calls_stay_inside() {
     on_each_memory("beyond, single calls", 0, |random, shape, lent| {
         for _ in 0..4 {
             for worker in 0..shape.workers {
@@ -82,7 +82,7 @@ fn single_calls() {
 }
 
 #[test]
-fn batches() {
+fn batches_stay_inside() {
     on_each_memory("beyond, batches", 0, |random, shape, lent| {
         let mut file = Vec::new();
         for _ in 0..4 {
@@ -106,7 +106,7 @@ fn batches() {
 }
 
 #[test]
-fn openings_in_a_batch() {
+fn openings_in_a_batch_stay_inside() {
     on_each_memory("beyond, openings", MORE, |random, shape, lent| {
         let most = shape.workers as u32 + MORE as u32;
         let mut file = Vec::new();
@@ -128,7 +128,7 @@ fn openings_in_a_batch() {
 
 /// Of a shape outside its limits not even the first record is there.
 #[test]
-fn batches_of_no_shape() {
+fn batches_of_no_shape_touch_no_record() {
     on_each_memory("beyond, no shape", 0, |random, shape, lent| {
         let nothing = Lent {
             table: lent.table.wrapping_add(lent.records - SPARE),
@@ -146,7 +146,7 @@ fn batches_of_no_shape() {
 
 /// A worker past the shape's, whose record is lent all the same.
 #[test]
-fn records_of_no_worker() {
+fn records_of_no_worker_are_refused() {
     on_each_memory("beyond, no worker", 0, |random, shape, lent| {
         open(lent, shape);
         for worker in shape.workers..lent.records as u64 {

@@ -35,7 +35,7 @@ fn all_calls<S: AsMut<[u64]>, T: AsMut<[Worker]>>(
 }
 
 #[test]
-fn between_fences() {
+fn no_call_leaves_its_slices() {
     on_seeds("fences", |random| {
         let mut pages = [(); 4].map(|()| Fenced::new());
         for _ in 0..4_000 {

@@ -1,4 +1,4 @@
-//! Sizes and offsets of what crosses the boundary, and the header that says them.
+//! The header `wubraken.h` beside the wrapper: structs, numbers, limits and texts.
 
 use std::mem::{align_of, size_of};
 
@@ -50,7 +50,7 @@ macro_rules! check {
 }
 
 #[test]
-fn structs() {
+fn structs_are_declared_alike() {
     check!(Shape "wubraken_shape" 32 Shape::default(),
         workers: "uint64_t" at 0, nodes: "uint64_t" at 8,
         buckets: "uint64_t" at 16, width: "uint64_t" at 24);
@@ -92,7 +92,7 @@ fn name_in_c(refusal: &Refusal) -> String {
 }
 
 #[test]
-fn numbers() {
+fn numbers_and_limits_are_the_same() {
     for refusal in Refusal::ALL {
         assert_eq!(enumerator(&name_in_c(refusal)), refusal.number());
     }
@@ -121,7 +121,7 @@ fn numbers() {
 
 /// The header says of a refusal what the wrapper says.
 #[test]
-fn texts() {
+fn texts_of_refusals_are_the_same() {
     for refusal in Refusal::ALL {
         let case = format!("case WUBRAKEN_{}:\n        return \"", name_in_c(refusal));
         let (_, rest) = HEADER.split_once(&case).unwrap();
@@ -133,7 +133,7 @@ fn texts() {
 }
 
 #[test]
-fn words() {
+fn words_to_lend_by_macro() {
     let words = format!("({HEADS} + (buckets) + {NODE_WORDS} * (nodes))\n");
     assert!(HEADER.contains(&format!("WUBRAKEN_WORDS(nodes, buckets) {words}")));
 }

@@ -73,7 +73,7 @@ fn words_to_lend() {
 
 /// The first field that is outside is named, with what it is and its limits.
 #[test]
-fn the_field_of_a_shape() {
+fn check_names_the_field_of_a_shape() {
     for shape in shapes() {
         let text = outside(shape).map(|place| {
             let name = ["workers", "nodes", "buckets", "width"][place];
@@ -87,7 +87,7 @@ fn the_field_of_a_shape() {
 
 /// What is outside by the check is what the pool refuses.
 #[test]
-fn the_field_of_an_arrival() {
+fn check_names_the_field_of_an_arrival() {
     let pool = Pool::new(shape(1, 1, 2, 10)).unwrap();
     let arrival = |fields: [u32; 4]| Arrival {
         time: fields[0],
