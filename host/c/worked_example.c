@@ -1,15 +1,23 @@
 /* The worked example, call by call: an arrival is put in and taken out again.
- * Given a turn file, all of its records instead. Prints one line a record. */
+ * Given a turn file, all of its records instead. Prints one line a record, and
+ * on standard error what a refusal means. */
 #include <inttypes.h>
 #include <stdio.h>
 #include <string.h>
 
 #include "wubraken.h"
 
-enum { WORDS = 4355, RECORDS = 64 };
+/* As `turns` lends. */
+enum { WORDS = WUBRAKEN_WORDS(512, WUBRAKEN_MAX_BUCKETS), RECORDS = WUBRAKEN_MAX_WORKERS };
 
 static uint64_t store[WORDS];
 static wubraken_worker table[RECORDS];
+
+static void print_refusal(uint64_t number)
+{
+    printf("no %" PRIu64 "\n", number);
+    fprintf(stderr, "refused: %s\n", wubraken_refusal_text(number));
+}
 
 static void print(wubraken_answer answer)
 {
@@ -34,7 +42,7 @@ static void print(wubraken_answer answer)
         puts("empty");
         break;
     default:
-        printf("no %" PRIu64 "\n", answer.number);
+        print_refusal(answer.number);
     }
 }
 
@@ -60,7 +68,7 @@ static void call_by_call(void)
     finish(shape, 0);
 }
 
-/* Stretch by stretch; what is left of a cut record waits for the rest. */
+/* Batch by batch; what is left of a cut record waits for the rest. */
 static void turn_file(FILE *file)
 {
     static uint8_t input[4096], out[4096];
@@ -68,17 +76,17 @@ static void turn_file(FILE *file)
     size_t have = 0, more = 1;
 
     for (;;) {
-        wubraken_served served = wubraken_serve(shape, input, have, out, sizeof out,
-                                                store, WORDS, table, RECORDS);
-        fwrite(out, 1, served.written, stdout);
-        shape = served.shape;
-        have -= served.read;
-        memmove(input, input + served.read, have);
-        if (served.stop == WUBRAKEN_FULL)
+        wubraken_batch_end end = wubraken_run_batch(shape, input, have, out, sizeof out,
+                                                    store, WORDS, table, RECORDS);
+        fwrite(out, 1, end.written, stdout);
+        shape = end.shape;
+        have -= end.read;
+        memmove(input, input + end.read, have);
+        if (end.stop == WUBRAKEN_FULL)
             continue;
-        if (served.stop == WUBRAKEN_UNKNOWN_MARK || more == 0) {
-            if (served.stop != WUBRAKEN_DRAINED)
-                printf("no %" PRIu64 "\n", served.stop);
+        if (end.stop == WUBRAKEN_UNKNOWN_MARK || more == 0) {
+            if (end.stop != WUBRAKEN_DRAINED)
+                print_refusal(end.stop);
             return;
         }
         more = fread(input + have, 1, sizeof input - have, file);

@@ -23,20 +23,35 @@
 extern "C" {
 #endif
 
-/* What a pool is made for. Lend wubraken_words(shape) words and shape.workers
- * records, or more: what lies beyond is not touched. */
+/* Limits, all included. */
+enum {
+    WUBRAKEN_MAX_WORKERS = 64,
+    WUBRAKEN_MAX_NODES = 4096,
+    WUBRAKEN_MAX_BUCKETS = 256,
+    WUBRAKEN_MAX_WIDTH = 65535,
+    WUBRAKEN_MAX_PATH = 65535,
+    WUBRAKEN_MAX_ORDER = 63,
+    WUBRAKEN_MAX_DISTANCE = 1024
+};
+
+/* What a pool is made for; each field is at least 1. Lend wubraken_words(shape)
+ * words and shape.workers records, or more: what lies beyond is not touched. */
 typedef struct {
-    uint64_t workers; /* 1 to 64 */
-    uint64_t nodes;   /* 1 to 4,096: arrivals that it can hold */
-    uint64_t buckets; /* 1 to 256 */
-    uint64_t width;   /* 1 to 65,535: samples of time in one bucket */
+    uint64_t workers; /* to WUBRAKEN_MAX_WORKERS */
+    uint64_t nodes;   /* to WUBRAKEN_MAX_NODES: arrivals that it can hold */
+    uint64_t buckets; /* to WUBRAKEN_MAX_BUCKETS */
+    uint64_t width;   /* to WUBRAKEN_MAX_WIDTH: samples of time in one bucket */
 } wubraken_shape;
+
+/* The words for a number of nodes and buckets within their limits, as a constant:
+ * static uint64_t store[WUBRAKEN_WORDS(100, 16)]; */
+#define WUBRAKEN_WORDS(nodes, buckets) (3 + (buckets) + 8 * (nodes))
 
 typedef struct {
     uint32_t time;     /* samples, below buckets * width */
-    uint32_t path;     /* 0 to 65,535 */
-    uint32_t order;    /* reflections, 0 to 63 */
-    uint32_t distance; /* metres, 1 to 1,024 */
+    uint32_t path;     /* 0 to WUBRAKEN_MAX_PATH */
+    uint32_t order;    /* reflections, 0 to WUBRAKEN_MAX_ORDER */
+    uint32_t distance; /* metres, 1 to WUBRAKEN_MAX_DISTANCE */
 } wubraken_arrival;
 
 /* A worker's record. The caller lends it and need not look inside.
@@ -96,6 +111,39 @@ enum {
     WUBRAKEN_NO_NODE = 12      /* every node is in use or may still be stood on */
 };
 
+/* What is wrong, and what to do. */
+static inline const char *wubraken_refusal_text(uint64_t number)
+{
+    switch (number) {
+    case WUBRAKEN_BAD_SHAPE:
+        return "the shape is outside its limits; workers 1 to 64, nodes 1 to 4096, buckets 1 to 256, width 1 to 65535";
+    case WUBRAKEN_TOO_SHORT:
+        return "the memory is too short; lend the words that the shape needs, and a record for each worker";
+    case WUBRAKEN_OUT_OF_RANGE:
+        return "the memory is out of range; lend it as the pool left it, or open the pool again";
+    case WUBRAKEN_NO_WORKER:
+        return "there is no such worker; the first is 0, and the shape says how many there are";
+    case WUBRAKEN_BAD_ARRIVAL:
+        return "the arrival is outside its limits; path 0 to 65535, order 0 to 63, distance 1 to 1024";
+    case WUBRAKEN_TOO_LATE:
+        return "the time is past the last bucket; it must be below buckets times width";
+    case WUBRAKEN_UNKNOWN_MARK:
+        return "the turn file has an unknown mark; records begin with OP, PU, TA or TU";
+    case WUBRAKEN_CUT_RECORD:
+        return "the turn file ends inside a record; hand in the rest of it, too";
+    case WUBRAKEN_BUSY:
+        return "the worker has a call in progress; step it to its end first";
+    case WUBRAKEN_IDLE:
+        return "the worker has no call in progress; begin one first";
+    case WUBRAKEN_EXHAUSTED:
+        return "the tickets or the epochs are used up; open the pool again";
+    case WUBRAKEN_NO_NODE:
+        return "no node is free; end calls in progress, take arrivals, or open the pool with more nodes";
+    default:
+        return "no refusal has this number";
+    }
+}
+
 /* Fields that an answer does not carry are 0. */
 typedef struct {
     uint64_t kind;
@@ -128,7 +176,7 @@ wubraken_answer wubraken_step(wubraken_shape shape, uint64_t worker,
                               uint64_t *store, size_t words,
                               wubraken_worker *table, size_t records);
 
-/* Why wubraken_serve stopped; otherwise by WUBRAKEN_UNKNOWN_MARK or
+/* Why wubraken_run_batch stopped; otherwise by WUBRAKEN_UNKNOWN_MARK or
  * WUBRAKEN_CUT_RECORD, for which no line is written. A record may be cut only
  * because the rest of it has not been handed in yet. */
 enum {
@@ -144,18 +192,18 @@ typedef struct {
     uint64_t read;        /* bytes of input worked through */
     uint64_t written;     /* bytes of lines in `out` */
     uint64_t stop;
-} wubraken_served;
+} wubraken_batch_end;
 
 /* Works through the records of a turn file and writes one line a record, as the
  * single calls would answer them. It looks through the lent memory once, not
  * once a record, and works on a copy of the workers' records, which it stores
  * back. It needs at least WUBRAKEN_LINE bytes of room, and some 20 KB of stack.
  * To go on, hand in the shape it answered and the input from `read` on. */
-wubraken_served wubraken_serve(wubraken_shape shape,
-                               const uint8_t *input, size_t bytes,
-                               uint8_t *out, size_t room,
-                               uint64_t *store, size_t words,
-                               wubraken_worker *table, size_t records);
+wubraken_batch_end wubraken_run_batch(wubraken_shape shape,
+                                      const uint8_t *input, size_t bytes,
+                                      uint8_t *out, size_t room,
+                                      uint64_t *store, size_t words,
+                                      wubraken_worker *table, size_t records);
 
 #ifdef __cplusplus
 }

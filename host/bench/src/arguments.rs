@@ -46,7 +46,7 @@ pub struct Arguments {
     pub records: u64,
     /// Holds of a contest in the hold model.
     pub holds: usize,
-    /// Stretches that are nearly all turns.
+    /// Batches that are nearly all turns.
     pub pieces_of_turns: usize,
     pub svg: PathBuf,
     pub turns: PathBuf,

@@ -11,11 +11,11 @@ use crate::timing::keep;
 /// Answers turn files; the pool stays as it is from one to the next.
 pub trait Engine {
     /// Hands out the lines block by block.
-    fn serve(&mut self, input: &[u8], lines: &mut dyn FnMut(&[u8]));
+    fn run_batch(&mut self, input: &[u8], lines: &mut dyn FnMut(&[u8]));
 
     /// Answers, and drops the lines.
     fn run(&mut self, input: &[u8]) {
-        self.serve(input, &mut |block| {
+        self.run_batch(input, &mut |block| {
             keep(block.last().map_or(0, |&it| it.into()))
         });
     }
@@ -23,12 +23,12 @@ pub trait Engine {
     /// All lines of an input.
     fn lines(&mut self, input: &[u8]) -> Vec<u8> {
         let mut lines = Vec::new();
-        self.serve(input, &mut |block| lines.extend(block));
+        self.run_batch(input, &mut |block| lines.extend(block));
         lines
     }
 }
 
-pub struct Batch {
+pub struct BatchEntry {
     pool: Pool,
     block: Vec<u8>,
 }
@@ -36,40 +36,35 @@ pub struct Batch {
 /// Each block costs one look at the lent memory, so it is not small.
 const BLOCK: usize = 256 * 1024;
 
-impl Batch {
+impl BatchEntry {
     /// Lends so many words and records, with no pool open in them.
     pub fn lending(words: usize, records: usize) -> Self {
-        let none = Shape {
-            workers: 0,
-            nodes: 0,
-            buckets: 0,
-            width: 0,
-        };
+        let (store, table) = (vec![0; words], vec![Worker::default(); records]);
         Self {
-            pool: Pool::resume(none, vec![0; words], vec![Worker::default(); records]),
+            pool: Pool::resume(Shape::default(), store, table),
             block: vec![0; BLOCK],
         }
     }
 }
 
-impl Engine for Batch {
-    fn serve(&mut self, mut input: &[u8], lines: &mut dyn FnMut(&[u8])) {
+impl Engine for BatchEntry {
+    fn run_batch(&mut self, mut input: &[u8], lines: &mut dyn FnMut(&[u8])) {
         loop {
-            let served = self.pool.serve(input, &mut self.block);
-            lines(&self.block[..served.written]);
-            input = &input[served.read..];
-            match served.stop {
+            let end = self.pool.run_batch(input, &mut self.block);
+            lines(&self.block[..end.written]);
+            input = &input[end.read..];
+            match end.stop {
                 Stop::Drained => break,
                 Stop::Full => {}
-                Stop::Halted(refusal) => panic!("no turn file: {refusal}"),
+                other => panic!("no turn file: {other:?}"),
             }
         }
     }
 }
 
 impl Engine for Program {
-    fn serve(&mut self, input: &[u8], lines: &mut dyn FnMut(&[u8])) {
-        Program::serve(self, input, Blocks(lines)).expect("blocks are always taken");
+    fn run_batch(&mut self, input: &[u8], lines: &mut dyn FnMut(&[u8])) {
+        Program::run_batch(self, input, Blocks(lines)).expect("blocks are always taken");
     }
 }
 

@@ -4,11 +4,12 @@
 use std::fs;
 use std::io;
 
+use schedule::script::shape;
 use second::Shape;
 
 use crate::arguments::Arguments;
 use crate::hold;
-use crate::hold_model::{Model, Session};
+use crate::hold_model::{Model, Run};
 use crate::report::heading;
 use crate::single_calls;
 use crate::svg::{Curve, Panel, Picture};
@@ -74,13 +75,8 @@ pub fn run(arguments: &Arguments) -> io::Result<()> {
 const SPAN: u32 = 65_536;
 
 fn model(workers: u32, nodes: u32, buckets: u32, pending: usize) -> Model {
-    let shape = Shape {
-        workers,
-        nodes,
-        buckets,
-        width: (SPAN / buckets).min(65_535),
-    };
-    Model::new(shape, pending, SPAN / 4)
+    let width = (SPAN / buckets).min(Shape::MAX_WIDTH);
+    Model::new(shape(workers, nodes, buckets, width), pending, SPAN / 4)
 }
 
 fn all_series() -> [Series; 4] {
@@ -106,7 +102,7 @@ fn all_series() -> [Series; 4] {
         },
         Series {
             name: "arrivals in one bucket",
-            others: "1 worker, one node more than arrivals",
+            others: "1 worker, one node to spare",
             points: arrivals
                 .map(|it| (it, model(1, it + 1, 1, it as usize)))
                 .to_vec(),
@@ -119,16 +115,16 @@ fn measure(arguments: &Arguments, &(value, model): &(u32, Model)) -> Measured {
     let in_a_list = (model.pending as u32 / model.shape.buckets).max(10) as usize;
     let holds = (arguments.holds * 10 / in_a_list).max(200);
     let model = model.at_most(holds);
-    let runs = (holds / model.holds).max(1) as u64;
-    let sessions: Vec<Session> = (0..runs).map(|run| model.session(run)).collect();
-    let (mut batch, mut library) = hold::engines(model.shape);
-    hold::check_lines(&sessions, &mut batch, &mut library);
+    let count = (holds / model.holds).max(1);
+    let runs: Vec<Run> = (0..count as u64).map(|run| model.run(run)).collect();
+    let (mut entry, mut library) = hold::engines(model.shape);
+    hold::check_lines(&runs, &mut entry, &mut library);
     let [time] = best(
         arguments.rounds,
-        [&mut || hold::time_holding(&mut batch, &sessions)],
+        [&mut || hold::time_holding(&mut entry, &runs)],
     );
-    let pairs = runs as usize * model.holds;
-    let turns: usize = sessions.iter().map(|session| session.holding.turns).sum();
+    let pairs = count * model.holds;
+    let turns: usize = runs.iter().map(|run| run.holding.turns).sum();
     Measured {
         value,
         turns: turns as f64 / pairs as f64,

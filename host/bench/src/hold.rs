@@ -6,9 +6,9 @@ use std::time::Duration;
 use second::{Program, Shape};
 
 use crate::arguments::Arguments;
-use crate::engines::{assert_same_lines, Batch, Engine};
+use crate::engines::{assert_same_lines, BatchEntry, Engine};
 use crate::heap;
-use crate::hold_model::{fold, Draws, Model, Session};
+use crate::hold_model::{fold, Draws, Model, Run};
 use crate::report::heading;
 use crate::tbb;
 use crate::timing::{best, nanoseconds_each, time};
@@ -45,8 +45,8 @@ fn model(workers: u32, pending: usize) -> Model {
     const WIDTH: u32 = 1_000;
     let shape = Shape {
         workers,
-        nodes: (pending as u32 + 64).min(4_096),
-        buckets: 256,
+        nodes: (pending as u32 + 64).min(Shape::MAX_NODES),
+        buckets: Shape::MAX_BUCKETS,
         width: WIDTH,
     };
     let buckets = (pending as u32 / 4).min(shape.buckets / 2);
@@ -55,33 +55,33 @@ fn model(workers: u32, pending: usize) -> Model {
 
 /// Whether oneTBB was there.
 fn contest(arguments: &Arguments, model: &Model) -> bool {
-    let runs = (arguments.holds / model.holds).max(1);
-    let sessions: Vec<Session> = (0..runs as u64).map(|run| model.session(run)).collect();
-    let draws: Vec<Draws> = (0..runs as u64).map(|run| model.draws(run)).collect();
-    let (mut batch, mut library) = engines(model.shape);
+    let count = (arguments.holds / model.holds).max(1);
+    let runs: Vec<Run> = (0..count as u64).map(|run| model.run(run)).collect();
+    let draws: Vec<Draws> = (0..count as u64).map(|run| model.draws(run)).collect();
+    let (mut entry, mut library) = engines(model.shape);
     let cores = thread::available_parallelism().map_or(1, usize::from);
     let threads = cores.min(model.shape.workers as usize);
-    let tbb = || tbb::hold(&arguments.tbb, model, runs, threads);
+    let tbb = || tbb::hold(&arguments.tbb, model, count, threads);
 
-    check_lines(&sessions, &mut batch, &mut library);
+    check_lines(&runs, &mut entry, &mut library);
     if model.shape.workers == 1 {
-        check_times(&sessions, heap::hold(model, &draws).1);
+        check_times(&runs, heap::hold(model, &draws).1);
         if let Some((_, fold)) = tbb() {
-            check_times(&sessions, fold);
+            check_times(&runs, fold);
         }
     }
     let [pool, second, heap, tbb] = best(
         arguments.rounds,
         [
-            &mut || time_holding(&mut batch, &sessions),
-            &mut || time_holding(&mut library, &sessions),
+            &mut || time_holding(&mut entry, &runs),
+            &mut || time_holding(&mut library, &runs),
             &mut || heap::hold(model, &draws).0,
             &mut || tbb().map_or(Vec::new(), |held| held.0),
         ],
     );
 
-    let holds = runs * model.holds;
-    let turns: usize = sessions.iter().map(|session| session.holding.turns).sum();
+    let holds = count * model.holds;
+    let turns: usize = runs.iter().map(|run| run.holding.turns).sum();
     let pool = nanoseconds_each(pool, holds);
     print!(
         "{:>8}{:>8}{:>7.1}{pool:>10.1}",
@@ -99,37 +99,37 @@ fn contest(arguments: &Arguments, model: &Model) -> bool {
 }
 
 /// The two that read turn files.
-pub fn engines(shape: Shape) -> (Batch, Program) {
+pub fn engines(shape: Shape) -> (BatchEntry, Program) {
     let (words, records) = (shape.store_words(), shape.workers as usize);
     (
-        Batch::lending(words, records),
+        BatchEntry::lending(words, records),
         Program::lending(words, records),
     )
 }
 
 /// Both print the same.
-pub fn check_lines(sessions: &[Session], batch: &mut Batch, library: &mut Program) {
-    for session in sessions {
-        for stretch in [&session.filling, &session.holding] {
-            let (ours, others) = (batch.lines(&stretch.bytes), library.lines(&stretch.bytes));
+pub fn check_lines(runs: &[Run], entry: &mut BatchEntry, library: &mut Program) {
+    for run in runs {
+        for batch in [&run.filling, &run.holding] {
+            let (ours, others) = (entry.lines(&batch.bytes), library.lines(&batch.bytes));
             assert_same_lines("the hold model", &ours, &others);
         }
     }
 }
 
 /// A heap takes the same times in the same order as one worker does.
-fn check_times(sessions: &[Session], others: u64) {
-    let times = sessions.iter().flat_map(|session| &session.taken);
+fn check_times(runs: &[Run], others: u64) {
+    let times = runs.iter().flat_map(|run| &run.taken);
     let ours = times.fold(0, |sum, &time| fold(sum, time));
     assert_eq!(ours, others, "another order of times");
 }
 
-/// How long the holds of each session take, without the filling.
-pub fn time_holding(engine: &mut impl Engine, sessions: &[Session]) -> Vec<Duration> {
+/// How long the holds of each run take, without the filling.
+pub fn time_holding(engine: &mut impl Engine, runs: &[Run]) -> Vec<Duration> {
     let mut times = Vec::new();
-    for session in sessions {
-        engine.run(&session.filling.bytes);
-        times.push(time(|| engine.run(&session.holding.bytes)));
+    for run in runs {
+        engine.run(&run.filling.bytes);
+        times.push(time(|| engine.run(&run.holding.bytes)));
     }
     times
 }

@@ -1,10 +1,11 @@
 //! The hold model: again and again the earliest arrival is taken, and put back
 //! later by a random increment, so that the number of arrivals stays the same.
 
+use schedule::script::{put, take, turn};
 use schedule::Random;
 use second::{Refusal, Response, Shape};
 
-use crate::recorder::{put, take, turn, Recorder, Stretch};
+use crate::recorder::{Batch, Recorder};
 
 /// A pool with so many arrivals. Times do not go round, so a run ends where the
 /// calendar does, and another one begins.
@@ -25,9 +26,9 @@ pub struct Draws {
 }
 
 /// A run as turn files: filling the pool, and holding.
-pub struct Session {
-    pub filling: Stretch,
-    pub holding: Stretch,
+pub struct Run {
+    pub filling: Batch,
+    pub holding: Batch,
     /// Times in the order they were taken.
     pub taken: Vec<u32>,
 }
@@ -69,7 +70,7 @@ impl Model {
         (time + increment).min(self.shape.time_limit() - 1)
     }
 
-    pub fn session(&self, seed: u64) -> Session {
+    pub fn run(&self, seed: u64) -> Run {
         let Draws {
             mut times,
             increments,
@@ -94,7 +95,7 @@ impl Model {
             let worker = dealer.below(self.shape.workers) as usize;
             holding.act(worker, &increments);
         }
-        Session {
+        Run {
             filling,
             holding: holding.recorder.cut(),
             taken: holding.taken,

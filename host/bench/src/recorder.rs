@@ -1,16 +1,17 @@
 //! Turn files written along a run of the pool.
 
-use second::{Answer, Arrival, Program, Record, Response, Shape};
+use schedule::script::turn;
+use second::{Answer, Program, Record, Response, Shape};
 
 /// Writes records and follows the pool they lead to.
 pub struct Recorder {
     program: Program,
-    stretch: Stretch,
+    batch: Batch,
 }
 
 /// A part of a turn file.
 #[derive(Clone, Default)]
-pub struct Stretch {
+pub struct Batch {
     pub bytes: Vec<u8>,
     pub records: usize,
     /// Records that are turns.
@@ -22,7 +23,7 @@ impl Recorder {
     pub fn open(shape: Shape) -> Self {
         let mut recorder = Self {
             program: Program::lending(shape.store_words(), shape.workers as usize),
-            stretch: Stretch::default(),
+            batch: Batch::default(),
         };
         let opened = recorder.record(Record::Open(shape));
         assert_eq!(opened, Ok(Response::Open));
@@ -30,9 +31,9 @@ impl Recorder {
     }
 
     pub fn record(&mut self, record: Record) -> Answer {
-        record.encode(&mut self.stretch.bytes);
-        self.stretch.records += 1;
-        self.stretch.turns += usize::from(matches!(record, Record::Step { .. }));
+        record.encode(&mut self.batch.bytes);
+        self.batch.records += 1;
+        self.batch.turns += usize::from(matches!(record, Record::Step { .. }));
         self.program.apply(record)
     }
 
@@ -48,13 +49,13 @@ impl Recorder {
     }
 
     /// What was written since the last time.
-    pub fn cut(&mut self) -> Stretch {
-        std::mem::take(&mut self.stretch)
+    pub fn cut(&mut self) -> Batch {
+        std::mem::take(&mut self.batch)
     }
 }
 
-impl Stretch {
-    /// The same stretch again and again, up to about so many records.
+impl Batch {
+    /// The same batch again and again, up to about so many records.
     pub fn repeated(&self, records: usize) -> Self {
         let times = (records / self.records).max(1);
         Self {
@@ -63,22 +64,4 @@ impl Stretch {
             turns: self.turns * times,
         }
     }
-}
-
-pub fn put(worker: u8, time: u32) -> Record {
-    let arrival = Arrival {
-        time,
-        path: 7,
-        order: 1,
-        distance: 3,
-    };
-    Record::EnqueueStart { worker, arrival }
-}
-
-pub fn take(worker: u8) -> Record {
-    Record::DequeueStart { worker }
-}
-
-pub fn turn(worker: u8) -> Record {
-    Record::Step { worker }
 }

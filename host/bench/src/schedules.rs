@@ -3,11 +3,12 @@
 use std::io;
 use std::time::Duration;
 
+use schedule::script::shape;
 use schedule::{Generator, Options};
-use second::{Program, Shape, LENT_RECORDS, LENT_WORDS};
+use second::{Program, LENT_RECORDS, LENT_WORDS};
 
 use crate::arguments::Arguments;
-use crate::engines::{assert_same_lines, Batch, Engine};
+use crate::engines::{assert_same_lines, BatchEntry, Engine};
 use crate::programs::{Pair, Unmeasured};
 use crate::report::{heading, row, skipped, Target};
 use crate::timing::{best, nanoseconds_each, time};
@@ -31,12 +32,7 @@ fn schedules() -> [(&'static str, Options); 3] {
     let one_pool = |workers, nodes, buckets| Options {
         one_opening: true,
         no_refusals: true,
-        shape: Some(Shape {
-            workers,
-            nodes,
-            buckets,
-            width: 100,
-        }),
+        shape: Some(shape(workers, nodes, buckets, 100)),
     };
     [
         ("4 workers, 500 nodes, 256 buckets", one_pool(4, 500, 256)),
@@ -64,18 +60,18 @@ fn pieces(records: u64, options: Options) -> Vec<Vec<u8>> {
 
 /// Every round begins with no pool open, as a program does.
 fn in_memory(arguments: &Arguments, name: &str, pieces: &[Vec<u8>]) {
-    let ours = || Batch::lending(LENT_WORDS, LENT_RECORDS);
-    let (mut batch, mut library) = (ours(), Program::new());
+    let ours = || BatchEntry::lending(LENT_WORDS, LENT_RECORDS);
+    let (mut entry, mut library) = (ours(), Program::new());
     for piece in pieces {
-        assert_same_lines(name, &batch.lines(piece), &library.lines(piece));
+        assert_same_lines(name, &entry.lines(piece), &library.lines(piece));
     }
-    let [batch, library] = best(
+    let [entry, library] = best(
         arguments.rounds,
         [&mut || time_pieces(&mut ours(), pieces), &mut || {
             time_pieces(&mut Program::new(), pieces)
         }],
     );
-    show("batch entry", arguments.records, batch, library);
+    show("batch entry", arguments.records, entry, library);
 }
 
 fn time_pieces(engine: &mut impl Engine, pieces: &[Vec<u8>]) -> Vec<Duration> {

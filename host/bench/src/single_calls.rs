@@ -54,10 +54,10 @@ const SMALLEST: Shape = Shape {
 };
 
 const LARGEST: Shape = Shape {
-    workers: 64,
-    nodes: 4_096,
-    buckets: 256,
-    width: 65_535,
+    workers: Shape::MAX_WORKERS,
+    nodes: Shape::MAX_NODES,
+    buckets: Shape::MAX_BUCKETS,
+    width: Shape::MAX_WIDTH,
 };
 
 /// Nanoseconds of one single call on a fresh pool.

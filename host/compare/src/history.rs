@@ -1,52 +1,21 @@
 //! The calls of a run, as they look from outside: from the records that went in
 //! and the lines that came out.
 
-use std::collections::BTreeMap;
 use std::fmt;
 
-use second::{Arrival, Record, Records, Refusal};
+use order::{Answer, History, Kind};
+use second::{Record, Records, Refusal};
 
-use crate::line::Line;
+use crate::line::{Line, Taken};
 use crate::record::show;
 
-/// One call. Its moments are places of records in the run, from 0.
-#[derive(Clone, Copy, Debug, PartialEq, Eq)]
-pub struct Call {
-    pub ticket: u64,
-    pub worker: u8,
-    pub kind: Kind,
-    pub start: usize,
-    /// None while the call is unfinished.
-    pub end: Option<End>,
-}
-
-#[derive(Clone, Copy, Debug, PartialEq, Eq)]
-pub enum Kind {
-    Put(Arrival),
-    Take,
-}
-
-/// How a call ended.
-#[derive(Clone, Copy, Debug, PartialEq, Eq)]
-pub struct End {
-    pub at: usize,
-    pub answer: Line,
-}
-
-impl Call {
-    /// The call as it was known after the record at this place, if it had begun.
-    pub fn known_after(mut self, place: usize) -> Option<Self> {
-        self.end = self.end.filter(|end| end.at <= place);
-        (self.start <= place).then_some(self)
-    }
-}
-
-/// The calls from one opening to the next, by their start.
+/// The calls from one opening to the next; their moments are places of records in
+/// the run, from 0.
 #[derive(Clone, Debug)]
-pub struct History {
+pub struct Opened {
     /// The place of the opening.
     pub opening: usize,
-    pub calls: Vec<Call>,
+    pub history: History<Taken>,
 }
 
 /// A line that cannot be, whatever the order of the calls.
@@ -97,38 +66,39 @@ impl<'a> Run<'a> {
     }
 
     /// The calls of every history.
-    pub fn histories(&self) -> Result<Vec<History>, Fault> {
-        let mut calls = Calls::default();
+    pub fn histories(&self) -> Result<Vec<Opened>, Fault> {
+        let mut histories = Histories::default();
         for place in 0..self.records.len().max(self.lines.len()) {
-            self.follow(&mut calls, place).map_err(|why| Fault {
+            self.follow(&mut histories, place).map_err(|why| Fault {
                 at: place,
                 record: self.record(place),
                 line: self.line(place).to_string(),
                 why,
             })?;
         }
-        Ok(calls.histories)
+        Ok(histories.0)
     }
 
-    fn follow(&self, calls: &mut Calls, place: usize) -> Result<(), &'static str> {
+    fn follow(&self, histories: &mut Histories, place: usize) -> Result<(), &'static str> {
         let record = self.records.get(place).ok_or("a line too many")?;
         let text = self.lines.get(place).ok_or("a line is missing")?;
         let line = Line::parse(text).ok_or("no such line")?;
         match (*record, line) {
             (_, Line::No(_)) => Ok(()),
             (Ok(Record::Open(_)), Line::Open) => {
-                calls.open(place);
+                histories.open(place);
                 Ok(())
             }
             (Ok(Record::EnqueueStart { worker, arrival }), Line::Begun(ticket)) => {
-                calls.begin(place, worker, Kind::Put(arrival), ticket)
+                let kind = Kind::Put(arrival.time, Taken::of(arrival));
+                histories.begin(worker.into(), ticket, kind, place)
             }
             (Ok(Record::DequeueStart { worker }), Line::Begun(ticket)) => {
-                calls.begin(place, worker, Kind::Take, ticket)
+                histories.begin(worker.into(), ticket, Kind::Take, place)
             }
-            (Ok(Record::Step { worker }), Line::On) => calls.go_on(worker),
-            (Ok(Record::Step { worker }), Line::Stored(_) | Line::Took(_) | Line::Empty) => {
-                calls.end(place, worker, line)
+            (Ok(Record::Step { worker }), Line::On) => histories.busy(worker.into()).map(drop),
+            (Ok(Record::Step { worker }), Line::Ended(answer)) => {
+                histories.end(worker.into(), place, answer)
             }
             _ => Err("this line is not for this record"),
         }
@@ -137,59 +107,41 @@ impl<'a> Run<'a> {
 
 /// The histories so far.
 #[derive(Default)]
-struct Calls {
-    histories: Vec<History>,
-    /// By worker: its call in progress, in the last history.
-    busy: BTreeMap<u8, usize>,
-}
+struct Histories(Vec<Opened>);
 
-impl Calls {
+impl Histories {
     fn open(&mut self, opening: usize) {
-        self.busy.clear();
-        self.histories.push(History {
-            opening,
-            calls: Vec::new(),
-        });
+        let history = History::default();
+        self.0.push(Opened { opening, history });
     }
 
     fn begin(
         &mut self,
-        start: usize,
-        worker: u8,
-        kind: Kind,
+        worker: usize,
         ticket: u64,
+        kind: Kind<Taken>,
+        start: usize,
     ) -> Result<(), &'static str> {
-        let history = self.histories.last_mut().ok_or("nothing is open")?;
-        let place = history.calls.len();
-        if ticket != place as u64 + 1 {
+        let Opened { history, .. } = self.0.last_mut().ok_or("nothing is open")?;
+        if ticket != history.calls().len() as u64 + 1 {
             return Err("not the next ticket");
         }
-        if self.busy.insert(worker, place).is_some() {
+        if history.is_busy(worker) {
             return Err("the worker has a call in progress");
         }
-        history.calls.push(Call {
-            ticket,
-            worker,
-            kind,
-            start,
-            end: None,
-        });
+        history.begin(worker, ticket, kind, start);
         Ok(())
     }
 
-    fn go_on(&self, worker: u8) -> Result<(), &'static str> {
-        match self.busy.get(&worker) {
-            Some(_) => Ok(()),
-            None => Err("the worker has no call in progress"),
-        }
+    /// The last history, in which the worker has a call in progress.
+    fn busy(&mut self, worker: usize) -> Result<&mut History<Taken>, &'static str> {
+        let last = self.0.last_mut().map(|opened| &mut opened.history);
+        last.filter(|history| history.is_busy(worker))
+            .ok_or("the worker has no call in progress")
     }
 
-    fn end(&mut self, at: usize, worker: u8, answer: Line) -> Result<(), &'static str> {
-        self.go_on(worker)?;
-        let call = self.busy.remove(&worker);
-        if let (Some(history), Some(call)) = (self.histories.last_mut(), call) {
-            history.calls[call].end = Some(End { at, answer });
-        }
+    fn end(&mut self, worker: usize, at: usize, answer: Answer<Taken>) -> Result<(), &'static str> {
+        self.busy(worker)?.end(worker, at, answer);
         Ok(())
     }
 }

@@ -1,8 +1,7 @@
 //! The turn files that are always run: those written by hand, and broken ones.
 
-use schedule::script::{put, take, turn};
+use schedule::script::{open, put, take, turn};
 use schedule::{by_hand, orders, Script};
-use second::{Record, Shape};
 
 /// One turn file.
 #[derive(Clone, Debug)]
@@ -67,22 +66,10 @@ pub fn orders() -> Vec<Input> {
 
 /// A file with every kind of record, answered and refused.
 fn every_kind() -> Script {
-    let bad_shape = Shape {
-        workers: 65,
-        nodes: 1,
-        buckets: 1,
-        width: 1,
-    };
     Script::default()
         .refused(turn(0), 1)
-        .refused(Record::Open(bad_shape), 1)
-        .and(
-            Record::Open(Shape {
-                workers: 2,
-                ..bad_shape
-            }),
-            "open",
-        )
+        .refused(open(65, 1, 1, 1), 1)
+        .opened(2, 1, 1, 1)
         .put(0, 0)
         .refused(put(1, 0), 12)
         .turns(0, 4)

@@ -5,9 +5,7 @@
 
 mod history;
 mod line;
-mod order;
 mod record;
-mod set;
 
 pub mod arguments;
 pub mod difference;
@@ -16,7 +14,3 @@ pub mod inputs;
 pub mod linearizability;
 pub mod seeded;
 pub mod suite;
-
-pub use history::{Call, End, Fault, History, Kind, Run};
-pub use line::{Line, Taken};
-pub use order::find_order;

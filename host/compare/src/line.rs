@@ -1,5 +1,6 @@
 //! The lines that an engine prints.
 
+use order::Answer;
 use second::Arrival;
 
 /// One printed line.
@@ -8,9 +9,7 @@ pub enum Line {
     Open,
     Begun(u64),
     On,
-    Stored(u64),
-    Took(Taken),
-    Empty,
+    Ended(Answer<Taken>),
     No(u64),
 }
 
@@ -45,16 +44,16 @@ impl Line {
         match (name, numbers.as_slice()) {
             ("open", []) => Some(Self::Open),
             ("on", []) => Some(Self::On),
-            ("empty", []) => Some(Self::Empty),
+            ("empty", []) => Some(Self::Ended(Answer::Empty)),
             ("begun", &[ticket]) => Some(Self::Begun(ticket)),
-            ("stored", &[ticket]) => Some(Self::Stored(ticket)),
+            ("stored", &[ticket]) => Some(Self::Ended(Answer::Stored(ticket))),
             ("no", &[refusal]) => Some(Self::No(refusal)),
-            ("took", &[time, path, order, energy]) => Some(Self::Took(Taken {
+            ("took", &[time, path, order, energy]) => Some(Self::Ended(Answer::Took(Taken {
                 time,
                 path,
                 order,
                 energy,
-            })),
+            }))),
             _ => None,
         }
     }

@@ -2,8 +2,12 @@
 
 use std::fmt::{self, Write};
 
-use crate::history::{Call, Fault, History, Kind, Run};
-use crate::order::find_order;
+use order::{find_order, Kind};
+
+use crate::history::{Fault, Opened, Run};
+use crate::line::Taken;
+
+type Call = order::Call<Taken>;
 
 /// What has been checked.
 #[derive(Clone, Copy, Debug, Default, PartialEq, Eq)]
@@ -38,22 +42,22 @@ impl fmt::Display for Violation {
 pub fn check(input: &[u8], output: &str) -> Result<Checked, Violation> {
     let run = Run::read(input, output);
     let mut checked = Checked::default();
-    for history in run.histories().map_err(Violation::Fault)? {
+    for opened in run.histories().map_err(Violation::Fault)? {
         checked.histories += 1;
-        checked.calls += history.calls.len();
-        if find_order(&history.calls).is_none() {
-            return Err(no_order(&run, &history));
+        checked.calls += opened.history.calls().len();
+        if !opened.history.has_order() {
+            return Err(no_order(&run, &opened));
         }
     }
     Ok(checked)
 }
 
-fn no_order(run: &Run<'_>, history: &History) -> Violation {
-    let last = first_without_order(&history.calls);
+fn no_order(run: &Run<'_>, opened: &Opened) -> Violation {
+    let last = first_without_order(opened.history.calls());
     Violation::NoOrder {
-        opening: history.opening,
+        opening: opened.opening,
         last,
-        text: describe(run, history, last),
+        text: describe(run, opened, last),
     }
 }
 
@@ -73,18 +77,18 @@ fn known_after(calls: &[Call], place: usize) -> Vec<Call> {
 }
 
 /// The calls and then the records of a history up to a place.
-fn describe(run: &Run<'_>, history: &History, last: usize) -> String {
+fn describe(run: &Run<'_>, opened: &Opened, last: usize) -> String {
     let mut text = format!(
         "no order of a plain queue gives the answers of records {} to {}\n\
          (without the last of them there is one)\ncalls:\n",
-        history.opening + 1,
+        opened.opening + 1,
         last + 1
     );
-    for call in known_after(&history.calls, last) {
+    for call in known_after(opened.history.calls(), last) {
         push_call(&mut text, run, &call);
     }
     text.push_str("records:\n");
-    let mut place = history.opening;
+    let mut place = opened.opening;
     while place <= last {
         let shown = (run.record(place), run.line(place));
         let same = (place..=last).take_while(|&at| (run.record(at), run.line(at)) == shown);
@@ -102,7 +106,7 @@ fn describe(run: &Run<'_>, history: &History, last: usize) -> String {
 fn push_call(text: &mut String, run: &Run<'_>, call: &Call) {
     let Call { ticket, worker, .. } = call;
     let kind = match call.kind {
-        Kind::Put(arrival) => format!("put at {}", arrival.time),
+        Kind::Put(time, _) => format!("put at {time}"),
         Kind::Take => "take".to_string(),
     };
     let (end, answer) = match call.end {

@@ -1,5 +1,6 @@
 //! The random turn files of a seed.
 
+use schedule::script::{put_arrival, take, turn};
 use schedule::{write, write_damaged, Generator, Options, Random};
 use second::{Answer, Arrival, Program, Record, Response, Shape};
 
@@ -137,15 +138,15 @@ fn pauses(random: &mut Random, records: usize) -> Followed {
 
 fn start(random: &mut Random, shape: Shape, worker: u8) -> Record {
     if random.one_in(2) {
-        return Record::DequeueStart { worker };
+        return take(worker);
     }
     let arrival = Arrival {
         time: random.below(shape.time_limit()),
-        path: random.below(65_536),
-        order: random.below(64),
-        distance: random.between(1, 1_024),
+        path: random.between(0, Arrival::MAX_PATH),
+        order: random.between(0, Arrival::MAX_ORDER),
+        distance: random.between(1, Arrival::MAX_DISTANCE),
     };
-    Record::EnqueueStart { worker, arrival }
+    put_arrival(worker, arrival)
 }
 
 /// A turn file, and the pool it leads to.
@@ -172,7 +173,7 @@ impl Followed {
             if !self.is_busy(worker) {
                 break;
             }
-            answer = Some(self.apply(Record::Step { worker }));
+            answer = Some(self.apply(turn(worker)));
         }
         answer
     }
@@ -182,7 +183,7 @@ impl Followed {
         for worker in 0..self.program.shape().workers as u8 {
             self.turns(worker, u32::MAX);
         }
-        while self.apply(Record::DequeueStart { worker: 0 }).is_ok() {
+        while self.apply(take(0)).is_ok() {
             if self.turns(0, u32::MAX) == Some(Ok(Response::Empty)) {
                 break;
             }

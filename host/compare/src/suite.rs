@@ -17,6 +17,9 @@ pub struct Group<'a> {
 /// All groups, quick ones first; the last ones for these seeds.
 pub fn groups(seeds: &[u64], records: u64) -> Vec<Group<'_>> {
     let seeds = || seeds.iter().copied();
+    let long = |name, file: fn(u64, u64) -> Input| {
+        group(name, seeds().map(move |seed| file(seed, records)))
+    };
     vec![
         group("worked example", inputs::worked_example()),
         group("by hand", inputs::by_hand()),
@@ -28,18 +31,9 @@ pub fn groups(seeds: &[u64], records: u64) -> Vec<Group<'_>> {
             "damaged",
             seeds().flat_map(move |seed| seeded::damaged(seed, records)),
         ),
-        group(
-            "every shape",
-            seeds().map(move |seed| seeded::every_shape(seed, records)),
-        ),
-        group(
-            "few nodes",
-            seeds().map(move |seed| seeded::narrow(seed, records)),
-        ),
-        group(
-            "no refusals",
-            seeds().map(move |seed| seeded::unrefused(seed, records)),
-        ),
+        long("every shape", seeded::every_shape),
+        long("few nodes", seeded::narrow),
+        long("no refusals", seeded::unrefused),
     ]
 }
 
@@ -112,7 +106,7 @@ fn run_input(engine: &Engine, input: &Input, checked: &mut Checked) -> Result<us
         .run(&input.bytes)
         .map_err(|error| format!("cannot run {}: {error}\n", engine.path().display()))?;
     let mut wrong = String::new();
-    if let Some(difference) = difference::first(&input.bytes, &expected, &output) {
+    if let Some(difference) = difference::first(&input.bytes, expected.as_bytes(), &output) {
         push_difference(&mut wrong, &difference, "second", "engine");
     }
     if input.is_small {
@@ -134,11 +128,11 @@ fn run_input(engine: &Engine, input: &Input, checked: &mut Checked) -> Result<us
 }
 
 /// What the second program prints; it must know what is known by hand.
-fn expected(input: &Input) -> Result<Vec<u8>, String> {
-    let mut output = Vec::new();
-    second::run(&input.bytes[..], &mut output).expect("a vector takes all");
+fn expected(input: &Input) -> Result<String, String> {
+    let output = schedule::lines(&input.bytes[..]);
     if let Some(known) = &input.output {
-        if let Some(difference) = difference::first(&input.bytes, known.as_bytes(), &output) {
+        let (known, printed) = (known.as_bytes(), output.as_bytes());
+        if let Some(difference) = difference::first(&input.bytes, known, printed) {
             let mut text = String::new();
             push_difference(&mut text, &difference, "by hand", "second");
             return Err(text);

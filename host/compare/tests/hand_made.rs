@@ -1,9 +1,9 @@
 //! Histories made by hand: which of them have an order of a plain queue.
 
 use compare::linearizability::{check, Checked, Violation};
-use schedule::script::{arrival, took};
+use schedule::script::{arrival, put_arrival, take, took, turn};
 use schedule::{by_hand, orders, Script};
-use second::{Arrival, Record};
+use second::Arrival;
 
 fn verdict(script: &Script) -> Result<Checked, Violation> {
     check(&script.bytes(), &script.output())
@@ -58,9 +58,7 @@ fn take_set_into_the_past() -> Script {
 #[test]
 fn a_take_set_into_the_past() {
     let script = take_set_into_the_past();
-    let mut output = Vec::new();
-    second::run(&script.bytes()[..], &mut output).unwrap();
-    assert_eq!(String::from_utf8(output).unwrap(), script.output());
+    assert_eq!(schedule::lines(&script.bytes()[..]), script.output());
     let checked = verdict(&script).unwrap();
     assert_eq!((checked.histories, checked.calls), (1, 5));
     // The same answers without the overlap.
@@ -140,31 +138,24 @@ fn taken_out_of_order() {
 /// Of equal times the lower ticket comes first.
 #[test]
 fn equal_times_by_ticket() {
-    let put = |path| Record::EnqueueStart {
-        worker: 0,
-        arrival: Arrival {
+    let put = |worker, path| {
+        let arrival = Arrival {
             path,
             ..arrival(10)
-        },
+        };
+        put_arrival(worker, arrival)
     };
     let both = fresh()
-        .begin(put(2))
+        .begin(put(0, 2))
         .end(0, 5, "stored 1")
-        .begin(put(1))
+        .begin(put(0, 1))
         .end(0, 6, "stored 2");
     accept(both.clone().taken(1, 8, "took 10 2 1 1864135"));
     refuse_at_the_end(both.taken(1, 8, "took 10 1 1 1864135"));
     // The ticket is of the start, even if the other put ended first.
-    let other = Record::EnqueueStart {
-        worker: 1,
-        arrival: Arrival {
-            path: 1,
-            ..arrival(10)
-        },
-    };
     let crossed = fresh()
-        .begin(put(2))
-        .begin(other)
+        .begin(put(0, 2))
+        .begin(put(1, 1))
         .end(1, 5, "stored 2")
         .end(0, 5, "stored 1");
     accept(crossed.clone().taken(1, 8, "took 10 2 1 1864135"));
@@ -314,8 +305,7 @@ fn histories_are_apart() {
 
 #[test]
 fn lines_that_cannot_be() {
-    let turn = Record::Step { worker: 0 };
-    let take = Record::DequeueStart { worker: 0 };
+    let (take, turn) = (take(0), turn(0));
     let not_for_it = "this line is not for this record";
     for (script, why) in [
         (fresh().and(take, "begun 2"), "not the next ticket"),

@@ -3,8 +3,8 @@
 
 use compare::linearizability::check;
 use compare::seeded;
+use schedule::script::shape;
 use schedule::{Options, Random};
-use second::Shape;
 
 struct Sample {
     bytes: Vec<u8>,
@@ -19,9 +19,7 @@ impl Sample {
     }
 
     fn of_file(bytes: Vec<u8>) -> Self {
-        let mut output = Vec::new();
-        second::run(&bytes[..], &mut output).unwrap();
-        let output = String::from_utf8(output).unwrap();
+        let output = schedule::lines(&bytes[..]);
         let lines = output.lines().map(str::to_string).collect();
         Self { bytes, lines }
     }
@@ -179,16 +177,10 @@ fn ends(line: &str) -> bool {
 /// there is no order.
 #[test]
 fn many_workers() {
-    let shape = Shape {
-        workers: 14,
-        nodes: 24,
-        buckets: 2,
-        width: 3,
-    };
     let options = Options {
         one_opening: true,
         no_refusals: true,
-        shape: Some(shape),
+        shape: Some(shape(14, 24, 2, 3)),
     };
     let (mut altered, mut noticed) = (0, 0);
     for seed in 0..30 {

@@ -3,7 +3,9 @@
 
 use compare::linearizability::check;
 use compare::seeded;
-use second::{field, stage, word, Answer, Lines, Record, Records, Response, Shape, Worker};
+use schedule::lent::Memory;
+use second::layout::{field, CURRENT};
+use second::{stage, word, Answer, Lines, Record, Records, Response, Worker};
 use second::{LENT_RECORDS, LENT_WORDS};
 
 #[derive(Clone, Copy, Debug, PartialEq, Eq)]
@@ -23,68 +25,50 @@ enum Mistake {
 
 struct Engine {
     mistake: Mistake,
-    shape: Shape,
-    store: Vec<u64>,
-    workers: Vec<Worker>,
+    memory: Memory,
 }
 
 impl Engine {
     fn new(mistake: Mistake) -> Self {
-        Self {
-            mistake,
-            shape: Shape::default(),
-            store: vec![0; LENT_WORDS],
-            workers: vec![Worker::default(); LENT_RECORDS],
-        }
+        let memory = Memory::zeros(LENT_WORDS, LENT_RECORDS);
+        Self { mistake, memory }
     }
 
     fn apply(&mut self, record: Record) -> Answer {
-        let Self { shape, .. } = *self;
-        let (store, workers) = (&mut self.store[..], &mut self.workers[..]);
         match record {
-            Record::Open(wanted) => {
-                let answer = second::open(wanted, store, workers)?;
-                self.shape = wanted;
-                Ok(answer)
-            }
-            Record::EnqueueStart { worker, arrival } => {
-                second::enqueue_start(shape, store, workers, worker.into(), arrival)
-            }
-            Record::DequeueStart { worker } => {
-                second::dequeue_start(shape, store, workers, worker.into())
-            }
             Record::Step { worker } => {
                 let worker = usize::from(worker);
-                let before = workers.get(worker).copied().unwrap_or_default();
-                let response = second::step(shape, store, workers, worker)?;
-                Ok(self.spoil(worker, before, response))
+                let before = self.memory.workers.get(worker).copied();
+                let response = self.memory.turn(worker)?;
+                Ok(self.spoil(worker, before.unwrap_or_default(), response))
             }
+            other => self.memory.apply(other),
         }
     }
 
     /// Makes the mistake after a turn, where there is room for it.
     fn spoil(&mut self, worker: usize, before: Worker, response: Response) -> Response {
-        let after = self.workers[worker];
-        let standing = self.node(after.own) + field::RECLAMATION;
+        let after = self.memory.workers[worker];
+        let own = after.own as usize;
         match (self.mistake, before.stage, after.stage) {
             (Mistake::PassOver, stage::DEQUEUE_LINK, stage::DEQUEUE_CURRENT) => {
                 self.pass_over(worker);
             }
             (Mistake::FreeWhenMarked, stage::DEQUEUE_MARK, stage::SEARCH_HEAD) => {
-                self.store[standing] = 0;
+                *self.memory.node_word(own, field::RECLAMATION) = 0;
             }
             (Mistake::FreeWhenTaken, _, stage::IDLE) => {
                 if matches!(response, Response::Took { .. }) {
-                    self.store[standing] = 0;
+                    *self.memory.node_word(own, field::RECLAMATION) = 0;
                 }
             }
             (Mistake::StoredAtLink, stage::ENQUEUE_INSERT, stage::ENQUEUE_COMPARE) => {
-                self.workers[worker].stage = stage::IDLE;
+                self.memory.workers[worker].stage = stage::IDLE;
                 return Response::Stored(after.ticket);
             }
             (Mistake::OldEpoch, stage::ENQUEUE_LOWER, stage::IDLE) => {
                 let epoch = word::current_epoch(before.current_seen);
-                self.store[0] = word::current(before.bucket, epoch);
+                self.memory.store[CURRENT] = word::current(before.bucket, epoch);
             }
             _ => {}
         }
@@ -92,18 +76,15 @@ impl Engine {
     }
 
     fn pass_over(&mut self, worker: usize) {
-        let (nodes, last) = (self.shape.nodes.into(), u64::from(self.shape.buckets) - 1);
-        let record = &mut self.workers[worker];
+        let shape = self.memory.shape;
+        let (nodes, last) = (shape.nodes.into(), u64::from(shape.buckets) - 1);
+        let record = &mut self.memory.workers[worker];
         record.right = word::successor(record.link_seen);
         record.stage = match record.bucket {
             _ if record.right != nodes => stage::DEQUEUE_LINK,
             bucket if bucket == last => stage::DEQUEUE_CONFIRM,
             _ => stage::DEQUEUE_ADVANCE,
         };
-    }
-
-    fn node(&self, node: u64) -> usize {
-        3 + self.shape.buckets as usize + 8 * node as usize
     }
 }
 

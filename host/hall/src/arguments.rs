@@ -5,7 +5,9 @@ use wubraken::Shape;
 use crate::geometry::{Hall, GREATEST_ORDER};
 use crate::tracer::Job;
 
-pub const HELP: &str = "\
+pub fn help() -> String {
+    format!(
+        "\
 usage: hall [options]
 
 Traces the echoes of a shoebox hall with several workers that share one pool of
@@ -15,12 +17,17 @@ distance in metres, energy) and an account. The same options print the same.
 
 options:
   --seed N       the order of the workers' turns (default 1)
-  --workers N    1 to 64 (default 3)
-  --nodes N      how many arrivals the pool has room for, 1 to 4,096 (default 12)
-  --order N      no reflections beyond this order, 0 to 15 (default 2)
-  --span MS      no arrivals after so many milliseconds, 1 to 21,845 (default 100)
+  --workers N    1 to {} (default 3)
+  --nodes N      how many arrivals the pool has room for, 1 to {} (default 12)
+  --order N      no reflections beyond this order, 0 to {GREATEST_ORDER} (default 2)
+  --span MS      no arrivals after so many milliseconds, 1 to {} (default 100)
   --help         prints this text
-";
+",
+        Shape::MAX_WORKERS,
+        Shape::MAX_NODES,
+        Shape::MAX_WIDTH / WIDTH_PER_MILLISECOND
+    )
+}
 
 #[derive(Clone, Copy, Debug, PartialEq, Eq)]
 pub struct Arguments {
@@ -44,7 +51,8 @@ impl Default for Arguments {
 }
 
 const BUCKETS: u64 = 16;
-const SAMPLES_PER_MILLISECOND: u64 = 48;
+/// A millisecond has 48 samples.
+const WIDTH_PER_MILLISECOND: u64 = 48 / BUCKETS;
 
 impl Arguments {
     /// None for words that make no sense.
@@ -74,7 +82,7 @@ impl Arguments {
                 workers: self.workers,
                 nodes: self.nodes,
                 buckets: BUCKETS,
-                width: self.span.saturating_mul(SAMPLES_PER_MILLISECOND / BUCKETS),
+                width: self.span.saturating_mul(WIDTH_PER_MILLISECOND),
             },
             seed: self.seed,
         }

@@ -20,7 +20,7 @@ mod report;
 mod trace;
 mod tracer;
 
-pub use arguments::{Arguments, HELP};
+pub use arguments::{help, Arguments};
 pub use geometry::{Hall, Image, GREATEST_ORDER, SAMPLES_PER_SECOND};
 pub use report::report;
 pub use trace::{Call, Event, Trace};

@@ -1,6 +1,6 @@
 //! The workers, and the host that deals their turns.
 
-use schedule::Random;
+use random::Random;
 use wubraken::{Arrival, Pool, Refusal, Shape, Step, Taken};
 
 use crate::geometry::{Hall, Image};
@@ -28,6 +28,7 @@ pub fn trace(job: &Job) -> Result<Trace, Refusal> {
         }
         host.act(random.choose(&movable))?;
     }
+    // The low half of word 0.
     host.trace.epochs = host.pool.store()[0] & u64::from(u32::MAX);
     Ok(host.trace)
 }
@@ -136,8 +137,8 @@ impl<'a> Host<'a> {
 
     fn reflect(&mut self, worker: usize, taken: Taken) {
         self.nothing_left = false;
-        if taken.order < u64::from(self.job.order) {
-            for image in Image::from_path(taken.path as u32).reflections() {
+        if taken.order < self.job.order {
+            for image in Image::from_path(taken.path).reflections() {
                 self.workers[worker]
                     .in_hand
                     .push(self.job.hall.arrival(image));

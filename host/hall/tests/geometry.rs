@@ -3,6 +3,7 @@
 use std::collections::HashSet;
 
 use hall::{Arguments, Image, GREATEST_ORDER};
+use wubraken::Arrival;
 
 /// Every image up to an order, in the order of its reflections.
 fn images(order: u32) -> Vec<Image> {
@@ -32,7 +33,7 @@ fn each_image_has_one_parent() {
 #[test]
 fn a_path_number_is_its_image() {
     for image in images(GREATEST_ORDER) {
-        assert!(image.path() <= 65_535);
+        assert!(image.path() <= Arrival::MAX_PATH);
         assert_eq!(Image::from_path(image.path()), image);
     }
 }

@@ -39,12 +39,16 @@ fn the_default_run_fits_a_screen() {
 }
 
 #[test]
-fn the_pool_refuses_what_it_cannot_have() {
-    for (option, number) in [("--workers", "65"), ("--nodes", "0"), ("--span", "21846")] {
+fn a_shape_outside_its_limits() {
+    for (option, number, outside) in [
+        ("--workers", "65", "workers is 65, and must be 1 to 64"),
+        ("--nodes", "0", "nodes is 0, and must be 1 to 4096"),
+        ("--span", "21846", "width is 65538, and must be 1 to 65535"),
+    ] {
         let output = hall(&[option, number]);
         assert_eq!(output.status.code(), Some(1));
         let error = String::from_utf8(output.stderr).unwrap();
-        assert!(error.contains("refuses by 1"), "{error}");
+        assert_eq!(error, format!("hall: {outside}\n"));
     }
 }
 

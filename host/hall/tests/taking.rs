@@ -1,8 +1,8 @@
 //! What the workers take, under many orders of turns.
 
-use compare::{find_order, End, Kind, Line};
 use hall::{trace, Arguments, Call, Event, Image, Trace};
-use wubraken::Arrival;
+use order::{find_order, Answer, End, Kind};
+use wubraken::{Arrival, Shape};
 
 fn run(arguments: Arguments) -> Trace {
     trace(&arguments.job()).unwrap()
@@ -27,8 +27,10 @@ fn runs() -> Vec<Trace> {
     runs
 }
 
-fn key(arrival: Arrival) -> [u64; 4] {
-    [arrival.time, arrival.path, arrival.order, arrival.distance].map(u64::from)
+fn sorted<A: Into<Arrival>>(arrivals: Vec<A>) -> Vec<Arrival> {
+    let mut arrivals: Vec<Arrival> = arrivals.into_iter().map(A::into).collect();
+    arrivals.sort_unstable_by_key(|arrival| arrival.path);
+    arrivals
 }
 
 /// Whatever the order of turns, it is the same hall.
@@ -40,20 +42,11 @@ fn each_arrival_put_is_taken_exactly_once() {
         order: 3,
         ..Arguments::default()
     });
-    let mut expected: Vec<_> = reference.put().into_iter().map(key).collect();
-    expected.sort_unstable();
+    let expected = sorted(reference.put());
     assert!(expected.len() > 25);
     for trace in runs() {
-        let mut put: Vec<_> = trace.put().into_iter().map(key).collect();
-        let taken = trace.taken();
-        let taken = taken
-            .iter()
-            .map(|it| [it.time, it.path, it.order, it.distance]);
-        let mut taken: Vec<_> = taken.collect();
-        put.sort_unstable();
-        taken.sort_unstable();
-        assert_eq!(put, expected);
-        assert_eq!(taken, expected);
+        assert_eq!(sorted(trace.put()), expected);
+        assert_eq!(sorted(trace.taken()), expected);
     }
 }
 
@@ -62,13 +55,13 @@ fn one_worker_takes_in_the_order_of_time() {
     for order in [0, 2, 6] {
         let trace = run(Arguments {
             workers: 1,
-            nodes: 4_096,
+            nodes: Shape::MAX_NODES,
             order,
             span: 1_000,
             ..Arguments::default()
         });
         assert_eq!(trace.no_node, 0);
-        let times: Vec<u64> = trace.taken().iter().map(|taken| taken.time).collect();
+        let times: Vec<u32> = trace.taken().iter().map(|taken| taken.time).collect();
         assert!(times.windows(2).all(|pair| pair[0] <= pair[1]));
     }
 }
@@ -76,8 +69,8 @@ fn one_worker_takes_in_the_order_of_time() {
 /// An order of turns in which a worker overtakes another's reflections, so that
 /// the tests of several workers are about something.
 #[test]
-fn several_workers_may_not() {
-    let times: Vec<u64> = run(Arguments::default())
+fn several_workers_may_take_out_of_order() {
+    let times: Vec<u32> = run(Arguments::default())
         .taken()
         .iter()
         .map(|taken| taken.time)
@@ -88,8 +81,7 @@ fn several_workers_may_not() {
 #[test]
 fn a_reflection_is_taken_after_its_parent() {
     for trace in runs() {
-        let paths = trace.taken().into_iter().map(|taken| taken.path as u32);
-        let paths: Vec<u32> = paths.collect();
+        let paths: Vec<u32> = trace.taken().iter().map(|taken| taken.path).collect();
         for (place, &path) in paths.iter().enumerate() {
             for reflection in Image::from_path(path).reflections() {
                 let before = &paths[..place];
@@ -126,36 +118,21 @@ fn there_is_a_sequential_order() {
     }
 }
 
-fn seen_from_outside(call: &Call) -> compare::Call {
+fn seen_from_outside(call: &Call) -> order::Call<Arrival> {
     let (kind, answer) = match call.event {
         Event::Put(arrival) => (
-            Kind::Put(second::Arrival {
-                time: arrival.time,
-                path: arrival.path,
-                order: arrival.order,
-                distance: arrival.distance,
-            }),
-            Line::Stored(call.ticket),
+            Kind::Put(arrival.time, arrival),
+            Answer::Stored(call.ticket),
         ),
-        Event::Took(taken) => (
-            Kind::Take,
-            Line::Took(compare::Taken {
-                time: taken.time,
-                path: taken.path,
-                order: taken.order,
-                energy: taken.energy,
-            }),
-        ),
-        Event::Empty => (Kind::Take, Line::Empty),
+        Event::Took(taken) => (Kind::Take, Answer::Took(taken.into())),
+        Event::Empty => (Kind::Take, Answer::Empty),
     };
-    compare::Call {
+    let at = call.end;
+    order::Call {
+        worker: call.worker as usize,
         ticket: call.ticket,
-        worker: call.worker as u8,
         kind,
         start: call.start,
-        end: Some(End {
-            at: call.end,
-            answer,
-        }),
+        end: Some(End { at, answer }),
     }
 }

@@ -2,7 +2,7 @@
 
 use second::{Arrival, Record};
 
-use crate::script::{arrival, put, take, took, Script};
+use crate::script::{arrival, put, put_arrival, take, took, Script};
 
 /// The worked example: the bytes of its turn file and what they print.
 pub const WORKED_EXAMPLE: (&[u8], &str) = (
@@ -102,13 +102,11 @@ pub fn distances_out_of_range() -> Script {
 }
 
 fn put_at_distance(distance: u32) -> Record {
-    Record::EnqueueStart {
-        worker: 0,
-        arrival: Arrival {
-            distance,
-            ..arrival(5)
-        },
-    }
+    let arrival = Arrival {
+        distance,
+        ..arrival(5)
+    };
+    put_arrival(0, arrival)
 }
 
 /// Two takers, each about to mark the node of 5; 7 is behind it.

@@ -1,9 +1,8 @@
 //! Damage to a turn file: fields flipped here and there, and one wound that
 //! usually ends the run.
 
+use random::Random;
 use second::{Record, Records};
-
-use crate::random::Random;
 
 /// The wound.
 #[derive(Clone, Copy)]

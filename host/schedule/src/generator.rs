@@ -1,9 +1,11 @@
 //! Records that make a schedule, following the pool they lead to.
 
-use second::{field, Answer, Arrival, Program, Reclamation, Record, Shape, Worker};
+use random::Random;
+use second::layout::{field, node_at, NODE_WORDS};
+use second::{Answer, Arrival, Program, Reclamation, Record, Shape, Worker};
 
 use crate::phase::Phase;
-use crate::random::Random;
+use crate::script::{put_arrival, shape, take, turn};
 use crate::shapes;
 
 /// What a schedule may hold.
@@ -31,7 +33,7 @@ pub struct Generator {
 impl Generator {
     pub fn new(seed: u64, options: Options) -> Self {
         let mut random = Random::new(seed);
-        let phase = Phase::new(&mut random, options.shape.unwrap_or(ONE));
+        let phase = Phase::new(&mut random, options.shape.unwrap_or(shape(1, 1, 1, 1)));
         Self {
             random,
             options,
@@ -74,9 +76,9 @@ impl Generator {
         let worker = self.awake_worker();
         if self.worker(worker).is_busy() {
             self.sometimes_freeze(worker);
-            return step(worker);
+            return turn(worker as u8);
         }
-        self.start(worker)
+        self.start(worker as u8)
     }
 
     /// Follows a record, whether it was proposed or not.
@@ -94,11 +96,11 @@ impl Generator {
         if self.options.no_refusals || self.random.one_in(2) {
             return self.opening();
         }
-        let worker = self.random.below(256) as usize;
+        let worker = self.random.below(256) as u8;
         match self.random.below(4) {
-            0 => enqueue(worker, self.arrival(0)),
-            1 => dequeue(worker),
-            2 => step(worker),
+            0 => put_arrival(worker, self.arrival(0)),
+            1 => take(worker),
+            2 => turn(worker),
             _ => Record::Open(shapes::outside_limits(&mut self.random)),
         }
     }
@@ -146,7 +148,7 @@ impl Generator {
         }
     }
 
-    fn start(&mut self, worker: usize) -> Record {
+    fn start(&mut self, worker: u8) -> Record {
         let has_free_node = self.has_free_node();
         if !has_free_node {
             self.sometimes_wake_all();
@@ -157,34 +159,34 @@ impl Generator {
             let shape = self.program.shape();
             let time = self.phase.time(&mut self.random, shape);
             let arrival = self.arrival(time);
-            return enqueue(worker, arrival);
+            return put_arrival(worker, arrival);
         }
-        dequeue(worker)
+        take(worker)
     }
 
     fn has_free_node(&self) -> bool {
         let shape = self.program.shape();
         let busy = self.workers().iter().filter(|worker| worker.is_busy());
         let oldest = busy.map(|worker| worker.ticket).min();
-        let first = 3 + shape.buckets as usize;
+        let first = node_at(shape.buckets as usize, 0);
         self.program.store()[first..shape.store_words()]
-            .chunks_exact(8)
+            .chunks_exact(NODE_WORDS)
             .any(|node| Reclamation::from_word(node[field::RECLAMATION]).is_free(oldest))
     }
 
     fn arrival(&mut self, time: u32) -> Arrival {
         Arrival {
             time,
-            path: self.random.choose(&[0, 1, 7, 65_535]),
-            order: self.random.below(64),
-            distance: self.random.between(1, 1_024),
+            path: self.random.choose(&[0, 1, 7, Arrival::MAX_PATH]),
+            order: self.random.between(0, Arrival::MAX_ORDER),
+            distance: self.random.between(1, Arrival::MAX_DISTANCE),
         }
     }
 
     /// A record for one of the refusals, if the pool allows it just now.
     fn refused_record(&mut self) -> Record {
         let shape = self.program.shape();
-        let some = self.random.below(shape.workers) as usize;
+        let some = self.random.below(shape.workers) as u8;
         let time = self.random.below(shape.time_limit());
         match self.random.below(10) {
             0 => Record::Open(shapes::outside_limits(&mut self.random)),
@@ -205,77 +207,53 @@ impl Generator {
                 let busy = self.one_worker(Worker::is_busy).unwrap_or(some);
                 self.start_on(busy, time)
             }
-            _ => step(self.one_worker(|worker| !worker.is_busy()).unwrap_or(some)),
+            _ => turn(self.one_worker(|worker| !worker.is_busy()).unwrap_or(some)),
         }
     }
 
     /// One of the workers of which this is so.
-    fn one_worker(&mut self, is_so: fn(&Worker) -> bool) -> Option<usize> {
+    fn one_worker(&mut self, is_so: fn(&Worker) -> bool) -> Option<u8> {
         let workers = self.workers();
         let found: Vec<_> = (0..workers.len()).filter(|&i| is_so(&workers[i])).collect();
-        (!found.is_empty()).then(|| self.random.choose(&found))
+        (!found.is_empty()).then(|| self.random.choose(&found) as u8)
     }
 
     fn no_such_worker(&mut self, time: u32) -> Record {
         let workers = self.program.shape().workers;
-        let beyond = self.random.choose(&[workers, workers + 1, 64, 128, 255]) as usize;
+        let beyond =
+            self.random
+                .choose(&[workers, workers + 1, Shape::MAX_WORKERS, 128, 255]) as u8;
         match self.random.below(4) {
             0 => self.start_on(beyond, time),
             1 => self.bad_arrival(beyond, time),
             2 => self.late_arrival(beyond),
-            _ => step(beyond),
+            _ => turn(beyond),
         }
     }
 
-    fn bad_arrival(&mut self, worker: usize, time: u32) -> Record {
+    fn bad_arrival(&mut self, worker: u8, time: u32) -> Record {
         let limit = self.program.shape().time_limit();
         let time = if self.random.one_in(4) { limit } else { time };
         let mut arrival = self.arrival(time);
         if self.random.one_in(3) {
-            arrival.order = self.random.between(64, 255);
+            arrival.order = self.random.between(Arrival::MAX_ORDER + 1, 255);
         } else {
-            arrival.distance = self.random.choose(&[0, 1_025, 65_535]);
+            arrival.distance = self.random.choose(&[0, Arrival::MAX_DISTANCE + 1, 65_535]);
         }
-        enqueue(worker, arrival)
+        put_arrival(worker, arrival)
     }
 
-    fn late_arrival(&mut self, worker: usize) -> Record {
+    fn late_arrival(&mut self, worker: u8) -> Record {
         let limit = self.program.shape().time_limit();
         let time = self.random.choose(&[limit, limit + 1, u32::MAX]);
-        enqueue(worker, self.arrival(time))
+        put_arrival(worker, self.arrival(time))
     }
 
-    fn start_on(&mut self, worker: usize, time: u32) -> Record {
+    fn start_on(&mut self, worker: u8, time: u32) -> Record {
         if self.random.one_in(2) {
-            enqueue(worker, self.arrival(time))
+            put_arrival(worker, self.arrival(time))
         } else {
-            dequeue(worker)
+            take(worker)
         }
-    }
-}
-
-const ONE: Shape = Shape {
-    workers: 1,
-    nodes: 1,
-    buckets: 1,
-    width: 1,
-};
-
-fn enqueue(worker: usize, arrival: Arrival) -> Record {
-    Record::EnqueueStart {
-        worker: worker as u8,
-        arrival,
-    }
-}
-
-fn dequeue(worker: usize) -> Record {
-    Record::DequeueStart {
-        worker: worker as u8,
-    }
-}
-
-fn step(worker: usize) -> Record {
-    Record::Step {
-        worker: worker as u8,
     }
 }

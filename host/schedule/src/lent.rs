@@ -1,8 +1,9 @@
-//! Lent memory at random: every field in its range, or one pushed out of it.
+//! Lent memory for the second program: calls on it, and random contents, every
+//! field in its range or one pushed out of it.
 
-use second::{field, stage, word, Shape, Worker};
-
-use crate::random::Random;
+use random::Random;
+use second::layout::{field, head_at, node_at, CURRENT, LAST_ALLOCATED, NODE_WORDS, STARTED};
+use second::{stage, word, Answer, Arrival, Record, Shape, Worker};
 
 /// A shape of few words.
 pub fn small_shape(random: &mut Random) -> Shape {
@@ -14,7 +15,22 @@ pub fn small_shape(random: &mut Random) -> Shape {
     }
 }
 
-/// The words and records of a shape, and no more.
+/// Out of range in every field.
+pub const GARBAGE: u64 = 0xDEAD_BEEF_DEAD_BEEF;
+
+pub const GARBAGE_RECORD: Worker = Worker {
+    stage: GARBAGE,
+    kind: GARBAGE,
+    own: GARBAGE,
+    bucket: GARBAGE,
+    left: GARBAGE,
+    right: GARBAGE,
+    link_seen: GARBAGE,
+    current_seen: GARBAGE,
+    ticket: GARBAGE,
+};
+
+/// A shape, and the words and records lent to its pool.
 #[derive(Clone, Debug, PartialEq, Eq)]
 pub struct Memory {
     pub shape: Shape,
@@ -29,38 +45,37 @@ pub enum Field {
     Started,
     LastAllocated,
     Head(usize),
-    /// A node and one of its eight words, by [`field`].
+    /// A node and one of its words, by [`field`].
     Node(usize, usize),
-    /// A worker and one of its record's nine fields.
+    /// A worker and one of its record's fields.
     Record(usize, RecordField),
 }
 
-#[derive(Clone, Copy, Debug, PartialEq, Eq)]
-pub enum RecordField {
-    Stage,
-    Kind,
-    Own,
-    Bucket,
-    Left,
-    Right,
-    LinkSeen,
-    CurrentSeen,
-    Ticket,
+/// The fields of a worker's record, by name.
+macro_rules! record_fields {
+    ($($name:ident $field:ident),+) => {
+        #[derive(Clone, Copy, Debug, PartialEq, Eq)]
+        pub enum RecordField {
+            $($name),+
+        }
+
+        const RECORD_FIELDS: [RecordField; 9] = [$($name),+];
+
+        impl RecordField {
+            fn of(self, record: &mut Worker) -> &mut u64 {
+                match self {
+                    $($name => &mut record.$field),+
+                }
+            }
+        }
+    };
 }
 
 use RecordField::*;
-
-const RECORD_FIELDS: [RecordField; 9] = [
-    Stage,
-    Kind,
-    Own,
-    Bucket,
-    Left,
-    Right,
-    LinkSeen,
-    CurrentSeen,
-    Ticket,
-];
+record_fields!(
+    Stage stage, Kind kind, Own own, Bucket bucket, Left left, Right right,
+    LinkSeen link_seen, CurrentSeen current_seen, Ticket ticket
+);
 
 /// Every field of a shape's words and records. A stage comes before the fields
 /// whose range it decides.
@@ -68,7 +83,7 @@ pub fn fields(shape: Shape) -> Vec<Field> {
     let mut fields = vec![Field::Current, Field::Started, Field::LastAllocated];
     fields.extend((0..shape.buckets as usize).map(Field::Head));
     for node in 0..shape.nodes as usize {
-        fields.extend((0..8).map(|word| Field::Node(node, word)));
+        fields.extend((0..NODE_WORDS).map(|word| Field::Node(node, word)));
     }
     for worker in 0..shape.workers as usize {
         fields.extend(RECORD_FIELDS.map(|field| Field::Record(worker, field)));
@@ -76,14 +91,58 @@ pub fn fields(shape: Shape) -> Vec<Field> {
     fields
 }
 
+/// The calls, each of which checks everything.
 impl Memory {
-    /// Every field somewhere in its range.
+    /// The shape changes if the opening is not refused.
+    pub fn open(&mut self, shape: Shape) -> Answer {
+        let answer = second::open(shape, &mut self.store, &mut self.workers)?;
+        self.shape = shape;
+        Ok(answer)
+    }
+
+    pub fn put(&mut self, worker: usize, arrival: Arrival) -> Answer {
+        let (store, workers) = (&mut self.store, &mut self.workers);
+        second::enqueue_start(self.shape, store, workers, worker, arrival)
+    }
+
+    pub fn take(&mut self, worker: usize) -> Answer {
+        second::dequeue_start(self.shape, &mut self.store, &mut self.workers, worker)
+    }
+
+    pub fn turn(&mut self, worker: usize) -> Answer {
+        second::step(self.shape, &mut self.store, &mut self.workers, worker)
+    }
+
+    pub fn apply(&mut self, record: Record) -> Answer {
+        match record {
+            Record::Open(shape) => self.open(shape),
+            Record::EnqueueStart { worker, arrival } => self.put(worker.into(), arrival),
+            Record::DequeueStart { worker } => self.take(worker.into()),
+            Record::Step { worker } => self.turn(worker.into()),
+        }
+    }
+
+    pub fn is_in_range(&self) -> bool {
+        second::in_range(self.shape, &self.store, &self.workers)
+    }
+}
+
+/// The contents.
+impl Memory {
+    /// Zeros, with no pool open.
+    pub fn zeros(words: usize, records: usize) -> Self {
+        Self {
+            shape: Shape::default(),
+            store: vec![0; words],
+            workers: vec![Worker::default(); records],
+        }
+    }
+
+    /// The words and records of a shape and no more, every field somewhere in its
+    /// range.
     pub fn in_range(random: &mut Random, shape: Shape) -> Self {
-        let mut memory = Self {
-            shape,
-            store: vec![0; shape.store_words()],
-            workers: vec![Worker::default(); shape.workers as usize],
-        };
+        let mut memory = Self::zeros(shape.store_words(), shape.workers as usize);
+        memory.shape = shape;
         for field in fields(shape) {
             *memory.at(field) = memory.draw(random, field);
         }
@@ -109,28 +168,23 @@ impl Memory {
         }
     }
 
+    pub fn head(&mut self, bucket: usize) -> &mut u64 {
+        &mut self.store[head_at(bucket)]
+    }
+
+    /// A word of a node, by [`field`].
+    pub fn node_word(&mut self, node: usize, word: usize) -> &mut u64 {
+        &mut self.store[node_at(self.shape.buckets as usize, node) + word]
+    }
+
     pub fn at(&mut self, field: Field) -> &mut u64 {
-        let buckets = self.shape.buckets as usize;
         match field {
-            Field::Current => &mut self.store[0],
-            Field::Started => &mut self.store[1],
-            Field::LastAllocated => &mut self.store[2],
-            Field::Head(bucket) => &mut self.store[3 + bucket],
-            Field::Node(node, word) => &mut self.store[3 + buckets + 8 * node + word],
-            Field::Record(worker, field) => {
-                let record = &mut self.workers[worker];
-                match field {
-                    Stage => &mut record.stage,
-                    Kind => &mut record.kind,
-                    Own => &mut record.own,
-                    Bucket => &mut record.bucket,
-                    Left => &mut record.left,
-                    Right => &mut record.right,
-                    LinkSeen => &mut record.link_seen,
-                    CurrentSeen => &mut record.current_seen,
-                    Ticket => &mut record.ticket,
-                }
-            }
+            Field::Current => &mut self.store[CURRENT],
+            Field::Started => &mut self.store[STARTED],
+            Field::LastAllocated => &mut self.store[LAST_ALLOCATED],
+            Field::Head(bucket) => self.head(bucket),
+            Field::Node(node, word) => self.node_word(node, word),
+            Field::Record(worker, field) => field.of(&mut self.workers[worker]),
         }
     }
 
@@ -141,27 +195,27 @@ impl Memory {
         let buckets = u64::from(self.shape.buckets);
         let current = word::current(buckets - 1, word::MAX_COUNT);
         let link = 2 * nodes + 1;
+        let distance = Arrival::MAX_DISTANCE.into();
         match field {
             Field::Current => Range::up_to(current),
             Field::Started => Range::up_to(word::MAX_COUNT),
             Field::LastAllocated => Range::up_to(nodes - 1),
             Field::Head(_) => Range::even(link - 1),
             Field::Node(node, word) => {
-                let first = 3 + self.shape.buckets as usize + 8 * node;
-                let node = &self.store[first..first + 8];
+                let node = &self.store[node_at(self.shape.buckets as usize, node)..];
                 match word {
                     field::LINK => Range::up_to(link),
-                    field::PATH => Range::up_to(65_535),
-                    field::ORDER => Range::up_to(63),
-                    field::DISTANCE if node[field::RECLAMATION] == 0 => Range::up_to(1_024),
-                    field::DISTANCE => Range::between(1, 1_024),
+                    field::PATH => Range::up_to(Arrival::MAX_PATH.into()),
+                    field::ORDER => Range::up_to(Arrival::MAX_ORDER.into()),
+                    field::DISTANCE if node[field::RECLAMATION] == 0 => Range::up_to(distance),
+                    field::DISTANCE => Range::between(1, distance),
                     field::RECLAMATION if node[field::DISTANCE] == 0 => Range::up_to(0),
                     field::RECLAMATION => Range::up_to(2 + word::MAX_COUNT),
                     _ => Range::up_to(word::MAX_COUNT),
                 }
             }
             Field::Record(worker, field) => match (field, self.workers[worker].stage) {
-                (Stage, _) => Range::up_to(13),
+                (Stage, _) => Range::up_to(stage::DEQUEUE_CONFIRM),
                 (Kind, 0..=3) => Range::up_to(1),
                 (Kind, 4..=7) => Range::up_to(0),
                 (Kind, _) => Range::between(1, 1),

@@ -11,15 +11,21 @@ pub mod stored;
 mod damage;
 mod generator;
 mod phase;
-mod random;
 mod shapes;
 
-use std::io::{self, Write};
+use std::io::{self, Read, Write};
 
 use damage::Damage;
 pub use generator::{Generator, Options};
 pub use random::Random;
 pub use script::Script;
+
+/// The lines that the second program prints for an input.
+pub fn lines(input: impl Read) -> String {
+    let mut output = Vec::new();
+    second::run(input, &mut output).expect("a vector takes all");
+    String::from_utf8(output).expect("lines are text")
+}
 
 /// Writes the turn file of a seed.
 pub fn write(seed: u64, records: u64, options: Options, mut output: impl Write) -> io::Result<()> {

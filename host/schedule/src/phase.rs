@@ -1,8 +1,7 @@
 //! A phase: for some records, who moves next and what is put.
 
+use random::Random;
 use second::{stage, Shape, Worker};
-
-use crate::random::Random;
 
 /// How the next worker is chosen.
 enum Pattern {

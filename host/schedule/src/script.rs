@@ -1,4 +1,4 @@
-//! A turn file written by hand, with the lines it must print.
+//! Records by hand, and turn files of them with the lines they must print.
 
 use second::{Arrival, Record, Shape};
 
@@ -19,14 +19,8 @@ impl Script {
 
     /// An opening, after which calls are counted anew.
     pub fn opened(mut self, workers: u32, nodes: u32, buckets: u32, width: u32) -> Self {
-        let shape = Shape {
-            workers,
-            nodes,
-            buckets,
-            width,
-        };
         self.started = 0;
-        self.and(Record::Open(shape), "open")
+        self.and(open(workers, nodes, buckets, width), "open")
     }
 
     pub fn records(&self) -> &[Record] {
@@ -40,11 +34,7 @@ impl Script {
 
     /// The turn file.
     pub fn bytes(&self) -> Vec<u8> {
-        let mut bytes = Vec::new();
-        for record in &self.records {
-            record.encode(&mut bytes);
-        }
-        bytes
+        bytes(&self.records)
     }
 
     /// What the turn file prints.
@@ -107,6 +97,28 @@ impl Script {
     }
 }
 
+/// The bytes of some records.
+pub fn bytes(records: &[Record]) -> Vec<u8> {
+    let mut bytes = Vec::new();
+    for record in records {
+        record.encode(&mut bytes);
+    }
+    bytes
+}
+
+pub fn shape(workers: u32, nodes: u32, buckets: u32, width: u32) -> Shape {
+    Shape {
+        workers,
+        nodes,
+        buckets,
+        width,
+    }
+}
+
+pub fn open(workers: u32, nodes: u32, buckets: u32, width: u32) -> Record {
+    Record::Open(shape(workers, nodes, buckets, width))
+}
+
 /// The arrival that scripts put at a time.
 pub fn arrival(time: u32) -> Arrival {
     Arrival {
@@ -123,7 +135,10 @@ pub fn took(time: u32) -> String {
 }
 
 pub fn put(worker: u8, time: u32) -> Record {
-    let arrival = arrival(time);
+    put_arrival(worker, arrival(time))
+}
+
+pub fn put_arrival(worker: u8, arrival: Arrival) -> Record {
     Record::EnqueueStart { worker, arrival }
 }
 

@@ -1,8 +1,8 @@
 //! Shapes to open with.
 
+use random::Random;
+use second::layout::{node_at, NODE_WORDS};
 use second::{Shape, LENT_WORDS};
-
-use crate::random::Random;
 
 /// A shape that the program opens: mostly few nodes, so that they are used again
 /// and again, and few buckets, so that their lists are contended.
@@ -20,13 +20,13 @@ pub fn accepted(random: &mut Random) -> Shape {
 }
 
 fn large(random: &mut Random) -> Shape {
-    let buckets = random.choose(&[1, 2, 16, 255, 256]);
-    let most = (LENT_WORDS as u32 - 3 - buckets) / 8;
+    let buckets = random.choose(&[1, 2, 16, Shape::MAX_BUCKETS - 1, Shape::MAX_BUCKETS]);
+    let most = most_nodes(buckets);
     Shape {
-        workers: random.choose(&[1, 3, 8, 63, 64]),
+        workers: random.choose(&[1, 3, 8, Shape::MAX_WORKERS - 1, Shape::MAX_WORKERS]),
         nodes: random.choose(&[8, 64, most - 1, most]),
         buckets,
-        width: random.choose(&[1, 10, 1_000, 65_534, 65_535]),
+        width: random.choose(&[1, 10, 1_000, Shape::MAX_WIDTH - 1, Shape::MAX_WIDTH]),
     }
 }
 
@@ -39,12 +39,12 @@ pub fn outside_limits(random: &mut Random) -> Shape {
             ..shape
         },
         1 => Shape {
-            workers: random.choose(&[65, 128, 255]),
+            workers: random.choose(&[Shape::MAX_WORKERS + 1, 128, 255]),
             ..shape
         },
         2 => Shape { nodes: 0, ..shape },
         3 => Shape {
-            nodes: random.choose(&[4_097, 65_535]),
+            nodes: random.choose(&[Shape::MAX_NODES + 1, 65_535]),
             ..shape
         },
         4 => Shape {
@@ -52,7 +52,7 @@ pub fn outside_limits(random: &mut Random) -> Shape {
             ..shape
         },
         5 => Shape {
-            buckets: random.choose(&[257, 65_535]),
+            buckets: random.choose(&[Shape::MAX_BUCKETS + 1, 65_535]),
             ..shape
         },
         _ => Shape { width: 0, ..shape },
@@ -62,9 +62,14 @@ pub fn outside_limits(random: &mut Random) -> Shape {
 /// A shape within its limits that the lent words cannot hold: refused by 2.
 pub fn too_large(random: &mut Random) -> Shape {
     let shape = accepted(random);
-    let fitting = (LENT_WORDS as u32 - 3 - shape.buckets) / 8;
+    let most = most_nodes(shape.buckets);
     Shape {
-        nodes: random.choose(&[fitting + 1, 1_000, 4_096]),
+        nodes: random.choose(&[most + 1, 1_000, Shape::MAX_NODES]),
         ..shape
     }
+}
+
+/// As many nodes as the lent words hold beside the buckets.
+fn most_nodes(buckets: u32) -> u32 {
+    ((LENT_WORDS - node_at(buckets as usize, 0)) / NODE_WORDS) as u32
 }

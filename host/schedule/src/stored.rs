@@ -4,9 +4,9 @@
 //! `cargo run --release --offline -p second < ../crates/turns/stdin > ../crates/turns/stdout` the second. Each line is also said here,
 //! by the rules; a test of `second` compares all four.
 
-use second::{Arrival, Record, Shape};
+use second::{Arrival, Record};
 
-use crate::script::{arrival, put, took, turn, Script};
+use crate::script::{arrival, open, put, put_arrival, took, turn, Script};
 
 /// The bytes that one read of `turns` can hand over.
 pub const PIECE: usize = 65_536;
@@ -45,7 +45,7 @@ pub fn script() -> Script {
 fn refused_before_an_opening(script: Script) -> Script {
     script
         .refused(turn(0), 1)
-        .refused(shape(65, 1, 1, 1), 1)
+        .refused(open(65, 1, 1, 1), 1)
         .refused(put(0, 0), 1)
 }
 
@@ -54,8 +54,8 @@ fn limits_of_the_store(script: Script) -> Script {
     script
         .opened(1, 543, 8, 1)
         .stored(0, 7, 4)
-        .refused(shape(1, 543, 9, 1), 2)
-        .refused(shape(1, 544, 1, 1), 2)
+        .refused(open(1, 543, 9, 1), 2)
+        .refused(open(1, 544, 1, 1), 2)
         .taken(0, 21, &took(7))
 }
 
@@ -88,10 +88,7 @@ fn across_the_cut(script: Script) -> Script {
         script = script.refused(turn(64), 4);
     }
     script
-        .begin(Record::EnqueueStart {
-            worker: 63,
-            arrival: late,
-        })
+        .begin(put_arrival(63, late))
         .end(63, 4, "stored 2")
         .end(0, 9, "took 109517 65535 63 16")
 }
@@ -111,14 +108,5 @@ fn refused_put(number: usize, late: Arrival) -> (Record, u8) {
         ),
         _ => (0, arrival(5), 9),
     };
-    (Record::EnqueueStart { worker, arrival }, refusal)
-}
-
-fn shape(workers: u32, nodes: u32, buckets: u32, width: u32) -> Record {
-    Record::Open(Shape {
-        workers,
-        nodes,
-        buckets,
-        width,
-    })
+    (put_arrival(worker, arrival), refusal)
 }

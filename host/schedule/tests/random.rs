@@ -2,15 +2,15 @@
 //! schedules are worth running.
 
 mod observer;
-#[path = "../../second/tests/common/sequential.rs"]
-mod sequential;
 
 use std::collections::{BTreeMap, BTreeSet};
 use std::process::Command;
 
 use observer::{Before, Observer};
+use schedule::lent::Memory;
+use schedule::script::shape;
 use schedule::{Generator, Options};
-use second::{Answer, Record, Records, Response, Shape, Worker, LENT_RECORDS, LENT_WORDS};
+use second::{Record, Records, Response, LENT_RECORDS, LENT_WORDS};
 
 /// Runs a schedule under the eyes of an observer, draining before each opening
 /// and at the end.
@@ -50,23 +50,16 @@ fn schedules_of_every_shape() {
 /// Few nodes and one bucket or two: everything is reused and contended.
 #[test]
 fn schedules_in_a_narrow_place() {
-    for (seed, fields) in [
-        (100, [2, 1, 1, 1]),
-        (101, [2, 2, 1, 2]),
-        (102, [3, 2, 2, 1]),
-        (103, [3, 3, 1, 4]),
-        (104, [4, 4, 2, 2]),
-        (105, [3, 6, 3, 2]),
-        (106, [5, 8, 2, 10]),
-        (107, [4, 20, 4, 3]),
+    for (seed, shape) in [
+        (100, shape(2, 1, 1, 1)),
+        (101, shape(2, 2, 1, 2)),
+        (102, shape(3, 2, 2, 1)),
+        (103, shape(3, 3, 1, 4)),
+        (104, shape(4, 4, 2, 2)),
+        (105, shape(3, 6, 3, 2)),
+        (106, shape(5, 8, 2, 10)),
+        (107, shape(4, 20, 4, 3)),
     ] {
-        let [workers, nodes, buckets, width] = fields;
-        let shape = Shape {
-            workers,
-            nodes,
-            buckets,
-            width,
-        };
         let options = Options {
             one_opening: true,
             shape: Some(shape),
@@ -76,42 +69,19 @@ fn schedules_in_a_narrow_place() {
     }
 }
 
-/// Applies a record through the checked entry points.
-fn checked(shape: &mut Shape, store: &mut [u64], workers: &mut [Worker], record: Record) -> Answer {
-    match record {
-        Record::Open(wanted) => {
-            let answer = second::open(wanted, store, workers);
-            if answer.is_ok() {
-                *shape = wanted;
-            }
-            answer
-        }
-        Record::EnqueueStart { worker, arrival } => {
-            second::enqueue_start(*shape, store, workers, worker.into(), arrival)
-        }
-        Record::DequeueStart { worker } => {
-            second::dequeue_start(*shape, store, workers, worker.into())
-        }
-        Record::Step { worker } => second::step(*shape, store, workers, worker.into()),
-    }
-}
-
 /// The program, which trusts its own memory, and the checked entry points give
 /// the same answers and the same memory.
 #[test]
 fn the_checked_entry_points_agree() {
     for seed in 200..220 {
         let mut generator = Generator::new(seed, Options::default());
-        let mut shape = Shape::default();
-        let mut store = vec![0; LENT_WORDS];
-        let mut workers = vec![Worker::default(); LENT_RECORDS];
+        let mut memory = Memory::zeros(LENT_WORDS, LENT_RECORDS);
         for index in 0..5_000 {
             let (record, answer) = generator.next_record();
-            let other = checked(&mut shape, &mut store, &mut workers, record);
-            assert_eq!(other, answer);
+            assert_eq!(memory.apply(record), answer);
             if index % 50 == 0 || answer.is_err() {
-                assert_eq!(store, generator.program().store());
-                assert_eq!(workers, generator.program().workers());
+                assert_eq!(memory.store, generator.program().store());
+                assert_eq!(memory.workers, generator.program().workers());
             }
         }
     }
@@ -119,10 +89,8 @@ fn the_checked_entry_points_agree() {
 
 /// How often each line occurs, by its first word or the refusal's number.
 fn kinds_of_lines(input: &[u8]) -> BTreeMap<String, usize> {
-    let mut output = Vec::new();
-    second::run(input, &mut output).unwrap();
     let mut kinds = BTreeMap::new();
-    for line in String::from_utf8(output).unwrap().lines() {
+    for line in schedule::lines(input).lines() {
         let mut words = line.split(' ');
         let mut kind = words.next().unwrap().to_string();
         if kind == "no" {
@@ -193,9 +161,7 @@ fn damaged_schedules_end_in_every_way() {
     for seed in 0..60 {
         let mut input = Vec::new();
         schedule::write_damaged(seed, 300, Options::default(), &mut input).unwrap();
-        let mut output = Vec::new();
-        second::run(&input[..], &mut output).unwrap();
-        let output = String::from_utf8(output).unwrap();
+        let output = schedule::lines(&input[..]);
         let last = output.lines().last().unwrap();
         let end = if last.starts_with("no") {
             last

@@ -1,8 +1,8 @@
 //! The spreading table.
 
-use crate::shape::MAX_DISTANCE;
+use crate::shape::Arrival;
 
-const ENTRIES: usize = MAX_DISTANCE as usize;
+const ENTRIES: usize = Arrival::MAX_DISTANCE as usize;
 
 /// Entry i is for distance i + 1.
 static ENERGY: [u32; ENTRIES] = energies();
@@ -18,10 +18,11 @@ const fn energies() -> [u32; ENTRIES] {
     table
 }
 
-/// The energy at a distance of 1 to 1,024 metres; 0 at any other.
+/// The energy at a distance within its limits; 0 at any other.
 pub fn energy(distance: u64) -> u32 {
+    const MOST: u64 = ENTRIES as u64;
     match distance {
-        1..=1_024 => ENERGY[distance as usize - 1],
+        1..=MOST => ENERGY[distance as usize - 1],
         _ => 0,
     }
 }

@@ -23,6 +23,7 @@ mod store;
 mod turn_file;
 mod worker;
 
+pub mod layout;
 pub mod word;
 
 pub use energy::energy;
@@ -32,6 +33,6 @@ pub use program::{run, run_standard, Program, LENT_RECORDS, LENT_WORDS};
 pub use ranges::in_range;
 pub use response::{Answer, Refusal, Response};
 pub use shape::{Arrival, Shape};
-pub use store::{field, Reclamation};
+pub use store::Reclamation;
 pub use turn_file::{Record, Records};
 pub use worker::{kind, stage, Worker};

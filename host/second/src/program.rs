@@ -21,7 +21,7 @@ pub fn run_standard() -> io::Result<()> {
 
 /// Answers every record of an input. Fails only if the output does.
 pub fn run(input: impl Read, output: impl Write) -> io::Result<()> {
-    Program::new().serve(input, output)
+    Program::new().run_batch(input, output)
 }
 
 /// The lent memory of the program and the shape it is open with.
@@ -72,7 +72,7 @@ impl Program {
     }
 
     /// Answers every record of an input, in the pool as it is.
-    pub fn serve(&mut self, input: impl Read, output: impl Write) -> io::Result<()> {
+    pub fn run_batch(&mut self, input: impl Read, output: impl Write) -> io::Result<()> {
         let mut lines = Lines::new(output);
         for record in Records::new(input) {
             let answer = record.and_then(|record| self.apply(record));

@@ -3,8 +3,8 @@
 //! Ranges only: lists are not walked, and fields are compared with one another
 //! only where the document ties them together.
 
-use crate::shape::{Shape, MAX_DISTANCE, MAX_ORDER, MAX_PATH};
-use crate::store::{field, CURRENT, HEADS, LAST_ALLOCATED, NODE_WORDS, STARTED};
+use crate::layout::{field, CURRENT, HEADS, LAST_ALLOCATED, NODE_WORDS, STARTED};
+use crate::shape::{Arrival, Shape};
 use crate::word::{current_bucket, is_marked, successor, MAX_COUNT};
 use crate::worker::{kind, stage, Worker};
 
@@ -60,8 +60,8 @@ impl Bounds {
         self.link(words[field::LINK])
             && words[field::TIME] <= MAX_COUNT
             && words[field::TICKET] <= MAX_COUNT
-            && words[field::PATH] <= MAX_PATH.into()
-            && words[field::ORDER] <= MAX_ORDER.into()
+            && words[field::PATH] <= Arrival::MAX_PATH.into()
+            && words[field::ORDER] <= Arrival::MAX_ORDER.into()
             && distance(words[field::DISTANCE], words[field::RECLAMATION])
             && words[field::EPOCH] <= MAX_COUNT
             && words[field::RECLAMATION] <= MAX_COUNT + 2
@@ -101,7 +101,7 @@ impl Bounds {
 
 /// Zero is allowed only in a node never used.
 fn distance(distance: u64, reclamation: u64) -> bool {
-    distance <= MAX_DISTANCE.into() && (distance > 0 || reclamation == 0)
+    distance <= Arrival::MAX_DISTANCE.into() && (distance > 0 || reclamation == 0)
 }
 
 /// Idle and searching records have either kind.

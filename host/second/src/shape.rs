@@ -1,5 +1,7 @@
 //! Shapes, arrivals and their limits.
 
+use crate::layout::node_at;
+
 /// What a pool is made for; handed to every call.
 #[derive(Clone, Copy, Debug, Default, PartialEq, Eq)]
 pub struct Shape {
@@ -10,23 +12,23 @@ pub struct Shape {
     pub width: u32,
 }
 
-const MAX_WORKERS: u32 = 64;
-const MAX_NODES: u32 = 4_096;
-const MAX_BUCKETS: u32 = 256;
-const MAX_WIDTH: u32 = 65_535;
-
 impl Shape {
+    pub const MAX_WORKERS: u32 = 64;
+    pub const MAX_NODES: u32 = 4_096;
+    pub const MAX_BUCKETS: u32 = 256;
+    pub const MAX_WIDTH: u32 = 65_535;
+
     /// Refusal 1 is the opposite of this.
     pub fn is_within_limits(self) -> bool {
-        (1..=MAX_WORKERS).contains(&self.workers)
-            && (1..=MAX_NODES).contains(&self.nodes)
-            && (1..=MAX_BUCKETS).contains(&self.buckets)
-            && (1..=MAX_WIDTH).contains(&self.width)
+        (1..=Self::MAX_WORKERS).contains(&self.workers)
+            && (1..=Self::MAX_NODES).contains(&self.nodes)
+            && (1..=Self::MAX_BUCKETS).contains(&self.buckets)
+            && (1..=Self::MAX_WIDTH).contains(&self.width)
     }
 
     /// Words of the layout, for a shape within its limits.
     pub fn store_words(self) -> usize {
-        3 + self.buckets as usize + 8 * self.nodes as usize
+        node_at(self.buckets as usize, self.nodes as usize)
     }
 
     /// Times below this have a bucket, for a shape within its limits.
@@ -50,15 +52,15 @@ pub struct Arrival {
     pub distance: u32,
 }
 
-pub(crate) const MAX_PATH: u32 = 65_535;
-pub(crate) const MAX_ORDER: u32 = 63;
-pub(crate) const MAX_DISTANCE: u32 = 1_024;
-
 impl Arrival {
+    pub const MAX_PATH: u32 = 65_535;
+    pub const MAX_ORDER: u32 = 63;
+    pub const MAX_DISTANCE: u32 = 1_024;
+
     /// Refusal 5 is the opposite of this; the time is refusal 6's matter.
     pub fn is_in_range(self) -> bool {
-        self.path <= MAX_PATH
-            && self.order <= MAX_ORDER
-            && (1..=MAX_DISTANCE).contains(&self.distance)
+        self.path <= Self::MAX_PATH
+            && self.order <= Self::MAX_ORDER
+            && (1..=Self::MAX_DISTANCE).contains(&self.distance)
     }
 }

@@ -1,9 +1,10 @@
 //! Starts of enqueues and dequeues.
 
+use crate::layout::field;
 use crate::pool::Pool;
 use crate::response::{Answer, Refusal, Response};
 use crate::shape::Arrival;
-use crate::store::{field, Reclamation};
+use crate::store::Reclamation;
 use crate::word::MAX_COUNT;
 use crate::worker::{kind, stage, Worker};
 

@@ -5,8 +5,9 @@
 //! values.
 
 use crate::energy::energy;
+use crate::layout::field;
 use crate::response::{Answer, Refusal, Response};
-use crate::store::{field, Reclamation, Store};
+use crate::store::{Reclamation, Store};
 use crate::word::{
     current, current_bucket, current_epoch, is_marked, link, marked, successor, MAX_COUNT,
 };

@@ -1,26 +1,8 @@
 //! The words of the lent store, by name.
 
+use crate::layout::{field, head_at, node_at, CURRENT, HEADS, LAST_ALLOCATED, STARTED};
 use crate::shape::Shape;
 use crate::word::link;
-
-/// Offsets inside the eight words of a node.
-pub mod field {
-    pub const LINK: usize = 0;
-    pub const TIME: usize = 1;
-    pub const TICKET: usize = 2;
-    pub const PATH: usize = 3;
-    pub const ORDER: usize = 4;
-    pub const DISTANCE: usize = 5;
-    pub const EPOCH: usize = 6;
-    /// The standing; see [`super::Reclamation`].
-    pub const RECLAMATION: usize = 7;
-}
-
-pub(crate) const CURRENT: usize = 0;
-pub(crate) const STARTED: usize = 1;
-pub(crate) const LAST_ALLOCATED: usize = 2;
-pub(crate) const HEADS: usize = 3;
-pub(crate) const NODE_WORDS: usize = 8;
 
 /// A node's standing.
 #[derive(Clone, Copy, Debug, PartialEq, Eq)]
@@ -82,7 +64,7 @@ impl<'a> Store<'a> {
     /// Writes the contents of a fresh pool.
     pub fn reset(&mut self) {
         let end = link(self.end());
-        let first_node = HEADS + self.buckets;
+        let first_node = node_at(self.buckets, 0);
         self.words[CURRENT] = 0;
         self.words[STARTED] = 0;
         self.words[LAST_ALLOCATED] = self.nodes as u64 - 1;
@@ -126,7 +108,7 @@ impl<'a> Store<'a> {
     }
 
     pub fn head(&self, bucket: u64) -> u64 {
-        self.words[HEADS + bucket as usize]
+        self.words[head_at(bucket as usize)]
     }
 
     /// The left word that is this node's link.
@@ -171,13 +153,13 @@ impl<'a> Store<'a> {
     }
 
     fn node_at(&self, node: u64) -> usize {
-        HEADS + self.buckets + NODE_WORDS * node as usize
+        node_at(self.buckets, node as usize)
     }
 
     /// Left words count the heads first, then the links of the nodes.
     fn left_at(&self, left: usize) -> usize {
         match left.checked_sub(self.buckets) {
-            None => HEADS + left,
+            None => head_at(left),
             Some(node) => self.node_at(node as u64) + field::LINK,
         }
     }

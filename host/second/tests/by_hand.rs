@@ -4,8 +4,10 @@ mod common;
 
 use common::*;
 use schedule::by_hand::{self, ENERGIES};
+use schedule::script::shape;
 use schedule::Script;
-use second::{energy, field, word, Arrival, Reclamation};
+use second::layout::{field, CURRENT};
+use second::{energy, word, Arrival, Reclamation};
 
 fn fresh() -> Lent {
     Lent::open(shape(2, 4, 2, 10))
@@ -16,9 +18,7 @@ fn every_case_prints_its_lines() {
     for (name, script) in by_hand::cases() {
         println!("{name}");
         Lent::play(&script);
-        let mut output = Vec::new();
-        second::run(&script.bytes()[..], &mut output).unwrap();
-        assert_eq!(String::from_utf8(output).unwrap(), script.output());
+        assert_eq!(schedule::lines(&script.bytes()[..]), script.output());
     }
 }
 
@@ -96,13 +96,13 @@ fn two_takers(script: &Script) -> Lent {
 #[test]
 fn the_losing_taker_walks_on() {
     let mut lent = two_takers(&by_hand::two_takers_before_7());
-    let seen = lent.store[0];
+    let seen = lent.store[CURRENT];
     assert_eq!(lent.turn(0), ON);
     assert_eq!(lent.stage(0), 1);
     assert_eq!(lent.workers[0].own, 0);
 
     // Another current word must not be noticed by the loser.
-    lent.store[0] = word::current(0, 9);
+    lent.store[CURRENT] = word::current(0, 9);
     assert_eq!(lent.turn(1), ON);
     assert_eq!((lent.stage(1), lent.workers[1].right), (10, 0));
     assert_eq!(lent.turn(1), ON);

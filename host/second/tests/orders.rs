@@ -5,28 +5,27 @@
 
 mod common;
 
-use common::sequential::{has_order, Call, Op};
 use common::*;
+use order::{History, Kind};
+use schedule::script::{put, take, turn};
 use schedule::{orders, Script};
-use second::{field, word, Answer, Record, Response};
+use second::layout::{field, CURRENT};
+use second::{word, Answer, Record, Response};
 
-/// A pool that writes down its finished calls.
+/// A pool that writes down its calls; of an arrival a take shows its ticket.
 struct Noted {
     lent: Lent,
     now: usize,
-    starts: Vec<(usize, Option<Op>)>,
-    calls: Vec<Call>,
+    history: History<u64>,
 }
 
 impl Noted {
     /// Opened and led by a script, which must print its lines.
     fn play(script: &Script) -> Self {
-        let shape = opening(script);
         let mut noted = Self {
-            lent: Lent::open(shape),
+            lent: Lent::open(opening(script)),
             now: 0,
-            starts: vec![(0, None); shape.workers as usize],
-            calls: Vec::new(),
+            history: History::default(),
         };
         for (record, line) in steps(script) {
             assert_eq!(printed(noted.apply(record)), line);
@@ -35,84 +34,61 @@ impl Noted {
     }
 
     fn apply(&mut self, record: Record) -> Answer {
-        match record {
-            Record::Open(_) => panic!("one opening only"),
-            Record::EnqueueStart { worker, arrival } => self.put(worker.into(), arrival.time),
-            Record::DequeueStart { worker } => self.take(worker.into()),
-            Record::Step { worker } => self.turn(worker.into()),
-        }
-    }
-
-    fn put(&mut self, worker: usize, time: u32) -> Answer {
-        let answer = self.lent.put(worker, time);
-        if let Ok(Response::Begun(ticket)) = answer {
-            let op = Op::Enqueue((time.into(), ticket));
-            self.starts[worker] = (self.tick(), Some(op));
-        }
-        answer
-    }
-
-    fn take(&mut self, worker: usize) -> Answer {
-        let answer = self.lent.take(worker);
-        if answer.is_ok() {
-            self.starts[worker] = (self.tick(), None);
+        self.now += 1;
+        let answer = self.lent.apply(record);
+        match (record, answer) {
+            (Record::EnqueueStart { worker, arrival }, Ok(Response::Begun(ticket))) => {
+                let kind = Kind::Put(arrival.time, ticket);
+                self.history.begin(worker.into(), ticket, kind, self.now);
+            }
+            (Record::DequeueStart { worker }, Ok(Response::Begun(ticket))) => {
+                let kind = Kind::Take;
+                self.history.begin(worker.into(), ticket, kind, self.now);
+            }
+            (Record::Step { worker }, Ok(response)) => self.note(worker.into(), response),
+            _ => {}
         }
         answer
     }
 
-    fn turn(&mut self, worker: usize) -> Answer {
-        let answer = self.lent.turn(worker);
-        if answer != ON {
-            self.note(worker, answer);
-        }
-        answer
+    /// Writes down the end of a worker's call.
+    fn note(&mut self, worker: usize, response: Response) {
+        let answer = match response {
+            Response::Stored(ticket) => order::Answer::Stored(ticket),
+            Response::Took { .. } => order::Answer::Took(self.ticket_in_own_node(worker)),
+            Response::Empty => order::Answer::Empty,
+            _ => return,
+        };
+        self.history.end(worker, self.now, answer);
     }
 
-    fn finish(&mut self, worker: usize) -> Answer {
+    fn ticket_in_own_node(&mut self, worker: usize) -> u64 {
+        let node = self.lent.workers[worker].own as usize;
+        *self.lent.node_word(node, field::TICKET)
+    }
+
+    /// Turns to the end of a call.
+    fn finish(&mut self, worker: u8) -> Answer {
         loop {
-            let answer = self.turn(worker);
+            let answer = self.apply(turn(worker));
             if answer != ON {
                 return answer;
             }
         }
     }
 
-    fn store(&mut self, worker: usize, time: u32) {
-        self.put(worker, time).unwrap();
-        assert!(matches!(self.finish(worker), Ok(Response::Stored(_))));
-    }
-
-    fn take_whole(&mut self, worker: usize) -> Answer {
-        self.take(worker).unwrap();
+    fn take_whole(&mut self, worker: u8) -> Answer {
+        self.apply(take(worker)).unwrap();
         self.finish(worker)
     }
 
-    /// Writes down the end of a worker's call.
-    fn note(&mut self, worker: usize, answer: Answer) {
-        let (start, enqueue) = self.starts[worker];
-        let op = match (answer, enqueue) {
-            (Ok(Response::Stored(_)), Some(op)) => op,
-            (Ok(Response::Empty), None) => Op::Dequeue(None),
-            (Ok(Response::Took { time, .. }), None) => Op::Dequeue(Some((time, self.own(worker)))),
-            other => panic!("{other:?}"),
-        };
-        let end = self.tick();
-        self.calls.push(Call { start, end, op });
-    }
-
-    /// The ticket in the worker's own node.
-    fn own(&mut self, worker: usize) -> u64 {
-        let node = self.lent.workers[worker].own as usize;
-        *self.lent.node_word(node, field::TICKET)
-    }
-
-    fn tick(&mut self) -> usize {
-        self.now += 1;
-        self.now
+    fn store_whole(&mut self, worker: u8, time: u32) {
+        self.apply(put(worker, time)).unwrap();
+        assert!(matches!(self.finish(worker), Ok(Response::Stored(_))));
     }
 
     fn is_a_queue(&self) -> bool {
-        has_order(&self.calls)
+        self.history.has_order()
     }
 }
 
@@ -127,9 +103,9 @@ fn paused_before_15() -> Noted {
 #[test]
 fn a_node_of_a_higher_epoch_sends_the_taker_back() {
     let mut pool = paused_before_15();
-    assert_eq!(pool.turn(0), ON);
+    assert_eq!(pool.apply(turn(0)), ON);
     assert_eq!(pool.lent.stage(0), 8);
-    assert_eq!(pool.turn(0), ON);
+    assert_eq!(pool.apply(turn(0)), ON);
     assert_eq!(pool.lent.workers[0].current_seen, word::current(0, 4));
     assert!(Noted::play(&orders::sent_back()).is_a_queue());
 }
@@ -139,7 +115,7 @@ fn a_node_of_a_higher_epoch_sends_the_taker_back() {
 #[test]
 fn passing_over_a_node_of_a_higher_epoch() {
     let mut pool = paused_before_15();
-    assert_eq!(pool.turn(0), ON);
+    assert_eq!(pool.apply(turn(0)), ON);
     let record = &mut pool.lent.workers[0];
     record.stage = 10;
     record.right = word::successor(record.link_seen);
@@ -158,8 +134,8 @@ fn stood_on_by_a_put() -> Noted {
 #[test]
 fn a_node_stood_on_rests() {
     let mut pool = stood_on_by_a_put();
-    assert_eq!(pool.put(2, 30), refused(12));
-    assert_eq!(pool.turn(1), ON);
+    assert_eq!(pool.apply(put(2, 30)), refused(12));
+    assert_eq!(pool.apply(turn(1)), ON);
     assert_eq!(pool.lent.stage(1), 1); // The link is marked: search again.
     let pool = Noted::play(&orders::stood_on_rests());
     assert_eq!(pool.lent.workers[2].own, 0);
@@ -172,8 +148,8 @@ fn a_node_stood_on_rests() {
 fn freeing_a_node_when_its_taker_ends() {
     let mut pool = stood_on_by_a_put();
     *pool.lent.node_word(0, field::RECLAMATION) = 0;
-    pool.store(2, 30);
-    assert_eq!(pool.turn(1), ON);
+    pool.store_whole(2, 30);
+    assert_eq!(pool.apply(turn(1)), ON);
     assert_eq!(pool.lent.stage(1), 6);
     assert_eq!(pool.finish(1), stored(2));
     assert_eq!(pool.lent.times(0), [30, 20]);
@@ -182,9 +158,9 @@ fn freeing_a_node_when_its_taker_ends() {
 }
 
 fn marked_and_paused() -> Noted {
-    let pool = Noted::play(&orders::marked_and_paused());
+    let mut pool = Noted::play(&orders::marked_and_paused());
     assert_eq!(pool.lent.stage(0), 1);
-    assert_eq!(pool.lent.store[4] % 2, 1);
+    assert!(word::is_marked(*pool.lent.node_word(0, field::LINK)));
     pool
 }
 
@@ -199,7 +175,7 @@ fn a_marked_node_stays_in_use() {
 fn freeing_a_node_when_it_is_marked() {
     let mut pool = marked_and_paused();
     *pool.lent.node_word(0, field::RECLAMATION) = 0;
-    pool.store(1, 30);
+    pool.store_whole(1, 30);
     assert_eq!(pool.finish(0), took(30));
     assert_eq!(pool.take_whole(1), took(30));
     assert!(!pool.is_a_queue());
@@ -225,7 +201,7 @@ fn stored_is_answered_after_current_is_lowered() {
 fn answering_stored_at_the_link() {
     let mut pool = linked_below_current();
     pool.lent.workers[1].stage = 0;
-    pool.note(1, stored(2));
+    pool.note(1, Response::Stored(2));
     assert_eq!(pool.take_whole(0), EMPTY);
     assert_eq!(pool.lent.times(0), [5]);
     assert!(!pool.is_a_queue());
@@ -241,7 +217,7 @@ fn stale_advance() -> Noted {
 #[test]
 fn a_stale_advance_fails() {
     let mut pool = stale_advance();
-    assert_eq!(pool.turn(0), ON);
+    assert_eq!(pool.apply(turn(0)), ON);
     assert_eq!(pool.lent.stage(0), 8);
     assert_eq!(pool.lent.current(), (0, 1));
     assert!(Noted::play(&orders::stale_advance_fails()).is_a_queue());
@@ -252,8 +228,8 @@ fn a_stale_advance_fails() {
 #[test]
 fn lowering_current_without_a_new_epoch() {
     let mut pool = stale_advance();
-    pool.lent.store[0] = word::current(0, 0);
-    assert_eq!(pool.turn(0), ON);
+    pool.lent.store[CURRENT] = word::current(0, 0);
+    assert_eq!(pool.apply(turn(0)), ON);
     assert_eq!(pool.lent.stage(0), 9);
     assert_eq!(pool.lent.current(), (1, 0));
     assert_eq!(pool.finish(0), EMPTY);

@@ -3,9 +3,11 @@
 mod common;
 
 use common::*;
-use schedule::lent::{fields, often_small, small_shape, Memory};
+use schedule::lent::{fields, often_small, small_shape};
+use schedule::script::shape;
 use schedule::Random;
-use second::{field, in_range, word, Response, Worker};
+use second::layout::{field, CURRENT, LAST_ALLOCATED, STARTED};
+use second::{word, Worker};
 
 const WORKERS: usize = 3;
 const NODES: u64 = 4;
@@ -33,7 +35,7 @@ fn passes(lent: &Lent) -> bool {
     ];
     let passed = calls.map(|answer| answer != refused(3));
     assert!(passed.iter().all(|&each| each == passed[0]), "{calls:?}");
-    assert_eq!(passed[0], in_range(lent.shape, &lent.store, &lent.workers));
+    assert_eq!(passed[0], lent.is_in_range());
     passed[0]
 }
 
@@ -64,14 +66,14 @@ fn fixed_words() {
     check(
         &[0, COUNT - 1, COUNT, last],
         &[last + 1, u64::MAX],
-        |lent, value| lent.store[0] = value,
+        |lent, value| lent.store[CURRENT] = value,
     );
     check(&[0, COUNT - 1], &[COUNT, u64::MAX], |lent, value| {
         // At the largest count every start is refused by 11, which 3 precedes.
-        lent.store[1] = value
+        lent.store[STARTED] = value
     });
     check(&[0, NODES - 1], &[NODES, u64::MAX], |lent, value| {
-        lent.store[2] = value
+        lent.store[LAST_ALLOCATED] = value
     });
 }
 
@@ -262,7 +264,7 @@ fn the_one_leak() {
     *lent.node_word(0, field::LINK) = 5;
     *lent.node_word(1, field::RECLAMATION) = 1;
     *lent.node_word(1, field::DISTANCE) = 1;
-    lent.store[1] = 8;
+    lent.store[STARTED] = 8;
     lent.workers[0] = Worker {
         own: 1,
         link_seen: 5,
@@ -274,72 +276,6 @@ fn the_one_leak() {
     assert_eq!(lent.turn(0), refused(3));
     assert_eq!(lent.take(0), refused(3));
     assert_eq!(lent.put(0, 5), refused(3));
-}
-
-/// Distance 0 in a store not grown from an opening has energy 0.
-#[test]
-fn a_taken_distance_of_0() {
-    let mut lent = Lent::open(shape(1, 2, 1, 10));
-    lent.workers[0] = Worker {
-        kind: 1,
-        ..record_at(1)
-    };
-    let expected = Response::Took {
-        time: 0,
-        path: 0,
-        order: 0,
-        distance: 0,
-        energy: 0,
-    };
-    assert_eq!(lent.turn(0), Ok(expected));
-}
-
-/// Stages 12 and 13 look at the record's bucket and the epoch seen, stage 7 at
-/// the whole word seen; they differ only on stores not grown from an opening.
-#[test]
-fn what_the_swaps_of_current_compare() {
-    let record = |stage| Worker {
-        current_seen: word::current(2, 7),
-        right: 4,
-        ..record_at(stage)
-    };
-    let open = || Lent::open(shape(1, 4, 3, 10));
-
-    let mut lent = open();
-    lent.store[0] = word::current(0, 7);
-    lent.workers[0] = record(12);
-    assert_eq!(lent.turn(0), ON);
-    assert_eq!((lent.stage(0), lent.current()), (9, (1, 7)));
-    assert_eq!(lent.workers[0].current_seen, word::current(1, 7));
-    assert_eq!(lent.workers[0].bucket, 1);
-
-    lent.workers[0] = record(13);
-    lent.workers[0].bucket = 1;
-    assert_eq!(lent.turn(0), EMPTY);
-    assert_eq!(lent.workers[0].current_seen, word::current(2, 7));
-
-    lent.workers[0] = record(7);
-    assert_eq!(lent.turn(0), ON);
-    assert_eq!((lent.stage(0), lent.current()), (6, (1, 7)));
-    lent.store[0] = word::current(2, 7);
-    lent.workers[0] = record(7);
-    assert_eq!(lent.turn(0), stored(0));
-    assert_eq!(lent.current(), (0, 8));
-}
-
-/// Stage 11 keeps a mark that the link word seen has already.
-#[test]
-fn marking_what_is_marked() {
-    let mut lent = Lent::open(shape(1, 2, 1, 10));
-    *lent.node_word(1, field::LINK) = 1;
-    lent.workers[0] = Worker {
-        right: 1,
-        link_seen: 1,
-        ..record_at(11)
-    };
-    assert_eq!(lent.turn(0), ON);
-    assert_eq!(*lent.node_word(1, field::LINK), 1);
-    assert_eq!((lent.stage(0), lent.workers[0].own), (1, 1));
 }
 
 /// The memory with garbage behind.
@@ -362,7 +298,7 @@ fn any_memory_in_range() {
     let mut random = Random::new(1);
     for _ in 0..60_000 {
         let lent = lend(&any_in_range(&mut random));
-        assert!(in_range(lent.shape, &lent.store, &lent.workers));
+        assert!(lent.is_in_range());
         for worker in 0..lent.shape.workers as usize {
             for call in 0..3 {
                 let mut after = lent.clone();
@@ -376,7 +312,7 @@ fn any_memory_in_range() {
                 let leak = lent.stage(worker) == 3
                     && *after.node_word(right, field::DISTANCE) == 0
                     && *after.node_word(right, field::RECLAMATION) >= 2;
-                assert_eq!(in_range(after.shape, &after.store, &after.workers), !leak);
+                assert_eq!(after.is_in_range(), !leak);
             }
         }
     }

@@ -4,7 +4,9 @@
 mod common;
 
 use common::*;
-use second::{field, word, Answer, Arrival, Response, Shape, Worker};
+use schedule::script::shape;
+use second::layout::{field, CURRENT, LAST_ALLOCATED, STARTED};
+use second::{word, Answer, Arrival, Response, Shape};
 
 const MAX: u64 = (1 << 32) - 1;
 
@@ -86,18 +88,6 @@ fn refusal_2_one_short_and_none_spare() {
 }
 
 #[test]
-fn opening_never_reads_the_old_contents() {
-    let mut lent = Lent::garbage(shape(2, 3, 2, 10));
-    assert_eq!(lent.reopen(), Ok(Response::Open));
-    let mut expected = vec![0, 0, 2, 6, 6];
-    expected.extend([0; 24]);
-    expected.extend([GARBAGE; SPARE_WORDS]);
-    assert_eq!(lent.store, expected);
-    assert_eq!(lent.workers[..2], [Worker::default(); 2]);
-    assert_eq!(lent.workers[2..], [garbage_record(); SPARE_RECORDS]);
-}
-
-#[test]
 fn refusal_4_for_records_beyond_the_workers() {
     for worker in [2, 3, 64, usize::MAX] {
         let mut lent = Lent::open(shape(2, 4, 2, 10));
@@ -174,9 +164,9 @@ fn refusals_9_and_10_at_every_stage() {
 #[test]
 fn refusal_11_at_a_start() {
     let mut lent = Lent::open(shape(2, 4, 2, 10));
-    lent.store[1] = MAX - 1;
+    lent.store[STARTED] = MAX - 1;
     assert_eq!(lent.put(0, 5), begun(MAX));
-    assert_eq!(lent.store[1], MAX);
+    assert_eq!(lent.store[STARTED], MAX);
     assert_eq!(lent.put(1, 5), refused(11));
     assert_eq!(lent.take(1), refused(11));
     assert_eq!(lent.finish(0), (5, stored(MAX)));
@@ -185,7 +175,7 @@ fn refusal_11_at_a_start() {
 /// A put at stage 7 that saw (1, 2^32 - 1), wanting bucket 0.
 fn lowering_at_the_largest_epoch() -> Lent {
     let mut lent = Lent::open(shape(2, 4, 2, 10));
-    lent.store[0] = word::current(1, MAX);
+    lent.store[CURRENT] = word::current(1, MAX);
     lent.put(0, 5).unwrap();
     lent.turns_to(0, 7);
     lent
@@ -200,14 +190,14 @@ fn refusal_11_at_stage_7_only_if_the_swap_would_succeed() {
     // Another bucket, another epoch: the swap fails and the put reads again.
     for other in [word::current(0, MAX), word::current(1, MAX - 1)] {
         let mut lent = lowering_at_the_largest_epoch();
-        lent.store[0] = other;
+        lent.store[CURRENT] = other;
         assert_eq!(lent.turn(0), ON);
         assert_eq!(lent.stage(0), 6);
-        assert_eq!(lent.store[0], other);
+        assert_eq!(lent.store[CURRENT], other);
     }
     // One epoch below the largest is still lowered.
     let mut lent = lowering_at_the_largest_epoch();
-    lent.store[0] = word::current(1, MAX - 1);
+    lent.store[CURRENT] = word::current(1, MAX - 1);
     assert_eq!(lent.finish(0), (3, stored(1)));
     assert_eq!(lent.current(), (0, MAX));
 }
@@ -215,7 +205,7 @@ fn refusal_11_at_stage_7_only_if_the_swap_would_succeed() {
 #[test]
 fn the_arrival_of_a_refused_put_can_be_taken() {
     let mut lent = Lent::open(shape(2, 4, 1, 10));
-    lent.store[0] = word::current(0, MAX);
+    lent.store[CURRENT] = word::current(0, MAX);
     lent.put(0, 5).unwrap();
     lent.turns_to(0, 7);
     assert_eq!(lent.turn(0), refused(11));
@@ -237,100 +227,20 @@ fn refusal_12_while_nodes_rest() {
     assert_eq!(lent.put(0, 5), begun(5));
 }
 
-#[test]
-fn a_ticket_equal_to_the_unlinking_keeps_the_node_resting() {
-    for (ticket, answer) in [(6, refused(12)), (7, refused(12)), (8, begun(10))] {
-        let mut lent = Lent::open(shape(2, 1, 2, 10));
-        lent.store[1] = 9;
-        *lent.node_word(0, field::DISTANCE) = 1;
-        *lent.node_word(0, field::RECLAMATION) = 2 + 7;
-        lent.workers[1] = Worker {
-            ticket,
-            ..record_at(8)
-        };
-        assert_eq!(lent.clone().put(0, 5), answer);
-        // An idle record's ticket does not count.
-        lent.workers[1].stage = 0;
-        assert_eq!(lent.put(0, 5), begun(10));
-    }
-}
-
-#[test]
-fn nodes_are_tried_after_the_last_one_and_round() {
-    for (last, live, expected) in [
-        (3, &[][..], 0),
-        (0, &[][..], 1),
-        (1, &[2, 3][..], 0),
-        (1, &[0, 2, 3][..], 1),
-        (3, &[0, 1][..], 2),
-    ] {
-        let mut lent = Lent::open(shape(2, 4, 2, 10));
-        lent.store[2] = last;
-        for &node in live {
-            *lent.node_word(node, field::RECLAMATION) = 1;
-            *lent.node_word(node, field::DISTANCE) = 1;
-        }
-        assert_eq!(lent.put(0, 5), begun(1));
-        assert_eq!((lent.store[2], lent.workers[0].own), (expected, expected));
-    }
-}
-
-#[test]
-fn starts_touch_only_what_they_name() {
-    let mut lent = Lent::open(shape(2, 4, 2, 10));
-    let seen = Worker {
-        stage: 0,
-        kind: 1,
-        own: 3,
-        bucket: 1,
-        left: 5,
-        right: 4,
-        link_seen: 9,
-        current_seen: word::current(1, 77),
-        ticket: 66,
-    };
-    lent.workers[0] = seen;
-    lent.workers[1] = Worker { kind: 0, ..seen };
-    *lent.node_word(0, field::LINK) = 9;
-    *lent.node_word(0, field::EPOCH) = 55;
-
-    assert_eq!(lent.put(0, 5), begun(1));
-    let put = Worker {
-        stage: 1,
-        kind: 0,
-        own: 0,
-        bucket: 0,
-        ticket: 1,
-        ..seen
-    };
-    assert_eq!(lent.workers[0], put);
-    assert_eq!(lent.store[5..13], [9, 5, 1, 7, 1, 3, 55, 1]);
-
-    assert_eq!(lent.take(1), begun(2));
-    let take = Worker {
-        stage: 8,
-        kind: 1,
-        ticket: 2,
-        ..seen
-    };
-    assert_eq!(lent.workers[1], take);
-    assert_eq!(lent.store[1], 2);
-}
-
 /// Makes the condition of a refusal true, for the start or turn of worker 0.
 fn provoke(number: u8, lent: &mut Lent, call: &mut (usize, Arrival)) {
     match number {
         1 => lent.shape.width = 0,
         2 => lent.workers.truncate(1),
-        3 => lent.store[2] = 4,
+        3 => lent.store[LAST_ALLOCATED] = 4,
         4 => call.0 = 2,
         5 => call.1.distance = 0,
         6 => call.1.time = 20,
         9 => lent.workers[0].stage = 7,
         10 => lent.workers[0].stage = 0,
         11 => {
-            lent.store[0] = word::current(1, MAX);
-            lent.store[1] = MAX;
+            lent.store[CURRENT] = word::current(1, MAX);
+            lent.store[STARTED] = MAX;
             lent.workers[0].current_seen = word::current(1, MAX);
         }
         12 => {
@@ -382,9 +292,9 @@ fn the_lowest_number_wins() {
 #[test]
 fn each_applies_on_its_condition_only() {
     let mut lent = Lent::with_stored(shape(2, 1, 2, 10), &[5]);
-    lent.store[1] = MAX;
+    lent.store[STARTED] = MAX;
     lent.workers[0] = record_at(8);
     assert_eq!(lent.turn(0), ON); // 11 and 12 would hold for a put.
-    lent.store[1] = 1;
+    lent.store[STARTED] = 1;
     assert_eq!(lent.take(1), begun(2)); // 12 would hold for a put.
 }

@@ -16,9 +16,7 @@ fn the_stored_files() {
 
 #[test]
 fn through_the_library() {
-    let mut lines = Vec::new();
-    second::run(INPUT, &mut lines).unwrap();
-    assert!(OUTPUT.as_bytes() == lines, "other lines than stored");
+    assert!(OUTPUT == schedule::lines(INPUT), "other lines than stored");
 }
 
 /// A record stands across the end of the first piece, within its time.

@@ -1,50 +1,13 @@
 //! Reading in pieces, cut and unknown records, and the built program.
 
+mod common;
+
 use std::io::{self, ErrorKind, Read, Write};
-use std::process::{Command, Stdio};
 
-use second::{run, Arrival, Record, Shape, LENT_WORDS};
-
-fn bytes(records: &[Record]) -> Vec<u8> {
-    let mut bytes = Vec::new();
-    for record in records {
-        record.encode(&mut bytes);
-    }
-    bytes
-}
-
-fn open(workers: u32, nodes: u32, buckets: u32, width: u32) -> Record {
-    Record::Open(Shape {
-        workers,
-        nodes,
-        buckets,
-        width,
-    })
-}
-
-fn put(worker: u8, time: u32) -> Record {
-    let arrival = Arrival {
-        time,
-        path: 7,
-        order: 1,
-        distance: 3,
-    };
-    Record::EnqueueStart { worker, arrival }
-}
-
-fn take(worker: u8) -> Record {
-    Record::DequeueStart { worker }
-}
-
-fn turn(worker: u8) -> Record {
-    Record::Step { worker }
-}
-
-fn lines(input: impl Read) -> String {
-    let mut output = Vec::new();
-    run(input, &mut output).unwrap();
-    String::from_utf8(output).unwrap()
-}
+use common::program;
+use schedule::lines;
+use schedule::script::{bytes, open, put, take, turn};
+use second::{Record, LENT_WORDS};
 
 fn lines_of(records: &[Record]) -> String {
     lines(&bytes(records)[..])
@@ -239,44 +202,24 @@ fn the_fields_are_little_endian_and_whole() {
     assert_eq!(lines(&input[..]), expected);
 }
 
-fn program(input: &[u8]) -> std::process::Output {
-    let mut child = Command::new(env!("CARGO_BIN_EXE_second"))
-        .stdin(Stdio::piped())
-        .stdout(Stdio::piped())
-        .stderr(Stdio::piped())
-        .spawn()
-        .unwrap();
-    let mut stdin = child.stdin.take().unwrap();
-    let input = input.to_vec();
-    let writer = std::thread::spawn(move || stdin.write_all(&input));
-    let output = child.wait_with_output().unwrap();
-    writer.join().unwrap().unwrap();
-    output
-}
-
 #[test]
 fn the_program_prints_the_same() {
     let input = long_file();
-    let output = program(&input);
+    let output = program::run(&input);
     assert!(output.status.success() && output.stderr.is_empty());
     assert_eq!(output.stdout, lines(&input[..]).into_bytes());
-    let output = program(b"");
+    let output = program::run(b"");
     assert!(output.status.success() && output.stdout.is_empty());
 }
 
 #[test]
 fn a_closed_output_stops_the_program_quietly() {
-    let mut child = Command::new(env!("CARGO_BIN_EXE_second"))
-        .stdin(Stdio::piped())
-        .stdout(Stdio::piped())
-        .stderr(Stdio::piped())
-        .spawn()
-        .unwrap();
-    drop(child.stdout.take());
-    let mut stdin = child.stdin.take().unwrap();
+    let mut program = program::start();
+    drop(program.stdout.take());
+    let mut stdin = program.stdin.take().unwrap();
     let block = b"TU\x00".repeat(100_000);
     // The program leaves, and then nobody reads what is written here either.
     while stdin.write_all(&block).is_ok() {}
-    let output = child.wait_with_output().unwrap();
+    let output = program.wait_with_output().unwrap();
     assert!(output.status.success() && output.stderr.is_empty());
 }

@@ -1,8 +1,8 @@
 //! The worked example of the section on the turn file, byte for byte.
 
-use std::io::Write;
-use std::process::{Command, Stdio};
+mod common;
 
+use common::program;
 use schedule::by_hand::WORKED_EXAMPLE;
 
 const INPUT: &[u8] = WORKED_EXAMPLE.0;
@@ -23,20 +23,12 @@ fn the_stored_files() {
 
 #[test]
 fn through_the_library() {
-    let mut output = Vec::new();
-    second::run(INPUT, &mut output).unwrap();
-    assert_eq!(String::from_utf8(output).unwrap(), OUTPUT);
+    assert_eq!(schedule::lines(INPUT), OUTPUT);
 }
 
 #[test]
 fn through_the_program() {
-    let mut program = Command::new(env!("CARGO_BIN_EXE_second"))
-        .stdin(Stdio::piped())
-        .stdout(Stdio::piped())
-        .spawn()
-        .unwrap();
-    program.stdin.take().unwrap().write_all(INPUT).unwrap();
-    let output = program.wait_with_output().unwrap();
+    let output = program::run(INPUT);
     assert!(output.status.success());
     assert_eq!(String::from_utf8(output.stdout).unwrap(), OUTPUT);
 }

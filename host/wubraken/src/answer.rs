@@ -1,22 +1,39 @@
 //! What the pool answers.
 
 use crate::raw::{self, kind, stop};
-use crate::Refusal;
+use crate::{Arrival, Refusal};
 
 /// The arrival that a dequeue took out.
 #[derive(Clone, Copy, Debug, PartialEq, Eq, Hash)]
 pub struct Taken {
-    pub time: u64,
-    pub path: u64,
-    pub order: u64,
-    pub distance: u64,
+    /// In samples.
+    pub time: u32,
+    /// As it was put in.
+    pub path: u32,
+    /// Reflections.
+    pub order: u32,
+    /// In metres.
+    pub distance: u32,
     /// 2^24 / distance², rounded down; 0 at distance 0.
-    pub energy: u64,
+    pub energy: u32,
+}
+
+/// As it was put in, to be put in again.
+impl From<Taken> for Arrival {
+    fn from(taken: Taken) -> Self {
+        Self {
+            time: taken.time,
+            path: taken.path,
+            order: taken.order,
+            distance: taken.distance,
+        }
+    }
 }
 
 /// What a step led to.
 #[derive(Clone, Copy, Debug, PartialEq, Eq, Hash)]
 #[must_use]
+#[non_exhaustive]
 pub enum Step {
     /// The call goes on.
     On,
@@ -28,8 +45,9 @@ pub enum Step {
     Empty,
 }
 
-/// Why a stretch of a turn file was left.
+/// Why a batch was left.
 #[derive(Clone, Copy, Debug, PartialEq, Eq, Hash)]
+#[non_exhaustive]
 pub enum Stop {
     /// All of the input is worked through.
     Drained,
@@ -41,14 +59,15 @@ pub enum Stop {
     Halted(Refusal),
 }
 
-/// How far a stretch of a turn file was worked through.
+/// How far a batch was worked through.
 #[derive(Clone, Copy, Debug, PartialEq, Eq, Hash)]
 #[must_use]
-pub struct Served {
+pub struct BatchEnd {
     /// Bytes of input worked through.
     pub read: usize,
     /// Bytes of lines written.
     pub written: usize,
+    /// Why it was left.
     pub stop: Stop,
 }
 
@@ -74,27 +93,33 @@ pub(crate) fn stepped(answer: raw::Answer) -> Result<Step, Refusal> {
         kind::ON => Ok(Step::On),
         kind::STORED => Ok(Step::Stored(answer.ticket)),
         kind::TOOK => Ok(Step::Took(Taken {
-            time: answer.time,
-            path: answer.path,
-            order: answer.order,
-            distance: answer.distance,
-            energy: answer.energy,
+            time: narrow(answer.time),
+            path: narrow(answer.path),
+            order: narrow(answer.order),
+            distance: narrow(answer.distance),
+            energy: narrow(answer.energy),
         })),
         kind::EMPTY => Ok(Step::Empty),
         _ => Err(refused(answer)),
     }
 }
 
-pub(crate) fn served(served: raw::Served) -> Served {
-    Served {
-        read: served.read as usize,
-        written: served.written as usize,
-        stop: match served.stop {
+/// The answer to a batch.
+pub(crate) fn ended(end: raw::BatchEnd) -> BatchEnd {
+    BatchEnd {
+        read: end.read as usize,
+        written: end.written as usize,
+        stop: match end.stop {
             stop::DRAINED => Stop::Drained,
             stop::FULL => Stop::Full,
             number => Stop::Halted(refusal(number)),
         },
     }
+}
+
+/// A field of an arrival, which has 32 bits.
+fn narrow(field: u64) -> u32 {
+    field.try_into().unwrap_or_else(|_| another_library())
 }
 
 fn refused(answer: raw::Answer) -> Refusal {

@@ -29,25 +29,29 @@
 //! }
 //! ```
 //!
-//! [`Pool::serve`] works through a whole stretch of a turn file at once.
+//! [`Pool::run_batch`] works through a batch, a piece of a turn file, in one call.
+//! Threads that share a pool lock it for a step (`examples/threads.rs`).
 //!
 //! The library is linked from the repository's `target/staticlib`, where
 //! `rt staticlib wubraken` writes it, or from the directory `WUBRAKEN_LIB_DIR`.
+#![warn(missing_docs)]
 
 #[cfg(not(all(target_arch = "x86_64", target_pointer_width = "64")))]
 compile_error!("the proved library is compiled for 64-bit x86-64");
 
 mod answer;
+mod limits;
 mod pool;
 mod refusal;
 mod types;
 
 pub mod raw;
 
-pub use answer::{Served, Step, Stop, Taken};
+pub use answer::{BatchEnd, Step, Stop, Taken};
+pub use limits::OutsideLimits;
 pub use pool::Pool;
 pub use refusal::Refusal;
 pub use types::{Arrival, Shape, Worker};
 
-/// No line that [`Pool::serve`] writes is longer.
+/// No line that [`Pool::run_batch`] writes is longer.
 pub const LINE: usize = 89;

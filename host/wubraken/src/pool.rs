@@ -1,7 +1,7 @@
 //! The pool over its memory.
 
 use crate::raw;
-use crate::{answer, Arrival, Refusal, Served, Shape, Step, Worker};
+use crate::{answer, Arrival, BatchEnd, Refusal, Shape, Step, Worker};
 
 /// A pool: its shape, a store of words and a table of workers' records.
 ///
@@ -18,7 +18,8 @@ pub struct Pool<S = Vec<u64>, T = Vec<Worker>> {
 }
 
 impl Pool {
-    /// An open pool with memory of its own.
+    /// An open pool with memory of its own; or refusal 1, and [`Shape::check`] says
+    /// of which field.
     ///
     /// ```
     /// use wubraken::{Pool, Refusal, Shape};
@@ -30,15 +31,9 @@ impl Pool {
     /// assert_eq!(Pool::new(none).unwrap_err(), Refusal::BadShape);
     /// ```
     pub fn new(shape: Shape) -> Result<Self, Refusal> {
-        let words = shape.words();
-        // Outside its limits a shape needs no words, and may ask for any number
-        // of records.
-        let records = if words == 0 {
-            0
-        } else {
-            shape.workers as usize
-        };
-        Self::open(shape, vec![0; words], vec![Worker::default(); records])
+        let words = shape.words().ok_or(Refusal::BadShape)?;
+        let table = vec![Worker::default(); shape.workers as usize];
+        Self::open(shape, vec![0; words], table)
     }
 }
 
@@ -60,6 +55,7 @@ impl<S, T> Pool<S, T> {
         }
     }
 
+    /// The shape it was opened with last.
     pub fn shape(&self) -> Shape {
         self.shape
     }
@@ -78,9 +74,21 @@ impl<S: AsRef<[u64]>, T> Pool<S, T> {
 }
 
 impl<S, T: AsRef<[Worker]>> Pool<S, T> {
+    /// The workers' records.
     pub fn table(&self) -> &[Worker] {
         self.table.as_ref()
     }
+}
+
+/// Calls the library on the memory of a pool.
+macro_rules! call {
+    ($pool:ident, $function:ident($($argument:expr),+)) => {{
+        let (store, table) = ($pool.store.as_mut(), $pool.table.as_mut());
+        let (words, records) = (store.len(), table.len());
+        let (store, table) = (store.as_mut_ptr(), table.as_mut_ptr());
+        // SAFETY: pointers and lengths of slices, borrowed for the call.
+        unsafe { raw::$function($($argument,)+ store, words, table, records) }
+    }};
 }
 
 impl<S: AsMut<[u64]>, T: AsMut<[Worker]>> Pool<S, T> {
@@ -111,17 +119,7 @@ impl<S: AsMut<[u64]>, T: AsMut<[Worker]>> Pool<S, T> {
     /// Empties the pool and gives it a shape, in the memory it has. A refusal
     /// (1 or 2) leaves everything as it was.
     pub fn reopen(&mut self, shape: Shape) -> Result<(), Refusal> {
-        let (store, table) = (self.store.as_mut(), self.table.as_mut());
-        // SAFETY: two slices, borrowed for the call.
-        answer::opened(unsafe {
-            raw::wubraken_open(
-                shape,
-                store.as_mut_ptr(),
-                store.len(),
-                table.as_mut_ptr(),
-                table.len(),
-            )
-        })?;
+        answer::opened(call!(self, wubraken_open(shape)))?;
         self.shape = shape;
         Ok(())
     }
@@ -129,86 +127,46 @@ impl<S: AsMut<[u64]>, T: AsMut<[Worker]>> Pool<S, T> {
     /// A worker begins to put an arrival in: the call's ticket, or refusal 1 to
     /// 6, 9, 11 or 12.
     pub fn enqueue(&mut self, worker: u64, arrival: Arrival) -> Result<u64, Refusal> {
-        let (store, table) = (self.store.as_mut(), self.table.as_mut());
-        // SAFETY: two slices, borrowed for the call.
-        answer::begun(unsafe {
-            raw::wubraken_enqueue(
-                self.shape,
-                worker,
-                arrival,
-                store.as_mut_ptr(),
-                store.len(),
-                table.as_mut_ptr(),
-                table.len(),
-            )
-        })
+        answer::begun(call!(self, wubraken_enqueue(self.shape, worker, arrival)))
     }
 
     /// A worker begins to take the earliest arrival out: the call's ticket, or
     /// refusal 1 to 4, 9 or 11.
     pub fn dequeue(&mut self, worker: u64) -> Result<u64, Refusal> {
-        let (store, table) = (self.store.as_mut(), self.table.as_mut());
-        // SAFETY: two slices, borrowed for the call.
-        answer::begun(unsafe {
-            raw::wubraken_dequeue(
-                self.shape,
-                worker,
-                store.as_mut_ptr(),
-                store.len(),
-                table.as_mut_ptr(),
-                table.len(),
-            )
-        })
+        answer::begun(call!(self, wubraken_dequeue(self.shape, worker)))
     }
 
     /// A worker's call goes on by one shared word: what that led to, or refusal 1
     /// to 4, 10 or 11.
     pub fn step(&mut self, worker: u64) -> Result<Step, Refusal> {
-        let (store, table) = (self.store.as_mut(), self.table.as_mut());
-        // SAFETY: two slices, borrowed for the call.
-        answer::stepped(unsafe {
-            raw::wubraken_step(
-                self.shape,
-                worker,
-                store.as_mut_ptr(),
-                store.len(),
-                table.as_mut_ptr(),
-                table.len(),
-            )
-        })
+        answer::stepped(call!(self, wubraken_step(self.shape, worker)))
     }
 
     /// Works through the records of a turn file and writes one line a record, as
     /// the single calls would answer them. The memory is looked through once, not
     /// once a record. An opening among the records changes the pool's shape.
     ///
+    /// A batch may end before its input does, or inside a record; `examples/batches.rs`
+    /// has the loop around that.
+    ///
     /// ```
     /// use wubraken::{Pool, Refusal, Shape, Stop, Worker};
     ///
     /// let mut pool = Pool::resume(Shape::default(), [0; 37], [Worker::default()]);
     /// let mut out = [0; 1024];
-    /// let served = pool.serve(b"OP\x01\x04\x00\x02\x00\x0A\x00TA\x00TU\x00TU", &mut out);
-    /// assert_eq!(&out[..served.written], b"open\nbegun 1\non\n");
-    /// assert_eq!((served.read, served.stop), (15, Stop::Halted(Refusal::CutRecord)));
+    /// let end = pool.run_batch(b"OP\x01\x04\x00\x02\x00\x0A\x00TA\x00TU\x00TU", &mut out);
+    /// assert_eq!(&out[..end.written], b"open\nbegun 1\non\n");
+    /// assert_eq!((end.read, end.stop), (15, Stop::Halted(Refusal::CutRecord)));
     /// assert_eq!(pool.shape().nodes, 4);
     /// ```
-    pub fn serve(&mut self, input: &[u8], out: &mut [u8]) -> Served {
-        let (store, table) = (self.store.as_mut(), self.table.as_mut());
-        // SAFETY: four slices, borrowed for the call.
-        let served = unsafe {
-            raw::wubraken_serve(
-                self.shape,
-                input.as_ptr(),
-                input.len(),
-                out.as_mut_ptr(),
-                out.len(),
-                store.as_mut_ptr(),
-                store.len(),
-                table.as_mut_ptr(),
-                table.len(),
-            )
-        };
-        self.shape = served.shape;
-        answer::served(served)
+    pub fn run_batch(&mut self, input: &[u8], out: &mut [u8]) -> BatchEnd {
+        let (bytes, room) = (input.len(), out.len());
+        let (input, out) = (input.as_ptr(), out.as_mut_ptr());
+        let end = call!(
+            self,
+            wubraken_run_batch(self.shape, input, bytes, out, room)
+        );
+        self.shape = end.shape;
+        answer::ended(end)
     }
 }

@@ -13,44 +13,65 @@ pub struct Answer {
     pub kind: u64,
     /// The refusal's number.
     pub number: u64,
+    /// The call's place among all calls begun.
     pub ticket: u64,
+    /// In samples.
     pub time: u64,
+    /// As it was put in.
     pub path: u64,
+    /// Reflections.
     pub order: u64,
+    /// In metres.
     pub distance: u64,
+    /// 2^24 / distance², rounded down; 0 at distance 0.
     pub energy: u64,
 }
 
 /// The kinds of answers.
 pub mod kind {
+    /// The pool is open and empty.
     pub const OPEN: u64 = 0;
+    /// A call has begun: ticket.
     pub const BEGUN: u64 = 1;
+    /// The call goes on.
     pub const ON: u64 = 2;
+    /// An enqueue has ended: ticket.
     pub const STORED: u64 = 3;
+    /// A dequeue has ended: time, path, order, distance, energy.
     pub const TOOK: u64 = 4;
+    /// A dequeue has ended, and found the pool empty.
     pub const EMPTY: u64 = 5;
+    /// Nothing was done: number.
     pub const REFUSED: u64 = 6;
 }
 
+/// How far a batch was worked through.
 #[repr(C)]
-#[derive(Clone, Copy, Debug, PartialEq, Eq)]
-pub struct Served {
+#[derive(Clone, Copy, Debug, Default, PartialEq, Eq)]
+pub struct BatchEnd {
+    /// That of the last opening not refused; else as handed in.
     pub shape: Shape,
+    /// Bytes of input worked through.
     pub read: u64,
+    /// Bytes of lines written.
     pub written: u64,
     /// One of [`stop`], or the number of the refusal that stopped it.
     pub stop: u64,
 }
 
-/// Why a stretch was left, if not by a refusal.
+/// Why a batch was left, if not by a refusal.
 pub mod stop {
+    /// All of the input is worked through.
     pub const DRAINED: u64 = 0;
+    /// Fewer than [`LINE`](crate::LINE) bytes of room are left.
     pub const FULL: u64 = 1;
 }
 
 extern "C" {
+    /// Words to lend; 0 outside the limits.
     pub fn wubraken_words(shape: Shape) -> u64;
 
+    /// Opens a pool.
     pub fn wubraken_open(
         shape: Shape,
         store: *mut u64,
@@ -59,6 +80,7 @@ extern "C" {
         records: usize,
     ) -> Answer;
 
+    /// A worker begins to put an arrival in.
     pub fn wubraken_enqueue(
         shape: Shape,
         worker: u64,
@@ -69,6 +91,7 @@ extern "C" {
         records: usize,
     ) -> Answer;
 
+    /// A worker begins to take the earliest arrival out.
     pub fn wubraken_dequeue(
         shape: Shape,
         worker: u64,
@@ -78,6 +101,7 @@ extern "C" {
         records: usize,
     ) -> Answer;
 
+    /// A worker's call goes on by one shared word.
     pub fn wubraken_step(
         shape: Shape,
         worker: u64,
@@ -87,7 +111,8 @@ extern "C" {
         records: usize,
     ) -> Answer;
 
-    pub fn wubraken_serve(
+    /// Works through the records of a turn file.
+    pub fn wubraken_run_batch(
         shape: Shape,
         input: *const u8,
         bytes: usize,
@@ -97,5 +122,5 @@ extern "C" {
         words: usize,
         table: *mut Worker,
         records: usize,
-    ) -> Served;
+    ) -> BatchEnd;
 }

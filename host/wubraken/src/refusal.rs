@@ -3,12 +3,20 @@
 use std::error::Error;
 use std::fmt;
 
+use crate::{Arrival, Shape};
+
 /// The reasons, by their numbers. Of several the lowest is answered, and a
-/// refused call changes nothing.
+/// refused call changes nothing. As text, a refusal says what to do.
+///
+/// ```
+/// let text = wubraken::Refusal::Busy.to_string();
+/// assert_eq!(text, "refused by 9: the worker has a call in progress; step it to its end first");
+/// ```
 #[derive(Clone, Copy, Debug, PartialEq, Eq, PartialOrd, Ord, Hash)]
+#[non_exhaustive]
 #[repr(u8)]
 pub enum Refusal {
-    /// A field of the shape is outside its limits.
+    /// A field of the shape is outside its limits: [`Shape::check`] says which.
     BadShape = 1,
     /// The store or the table is too short for the shape.
     TooShort = 2,
@@ -16,7 +24,7 @@ pub enum Refusal {
     OutOfRange = 3,
     /// The shape has no such worker.
     NoWorker = 4,
-    /// Path, order or distance is outside its limits.
+    /// Path, order or distance is outside its limits: [`Arrival::check`] says which.
     BadArrival = 5,
     /// The time is past the last bucket.
     TooLate = 6,
@@ -36,7 +44,7 @@ pub enum Refusal {
 
 impl Refusal {
     /// All, in the order of their numbers.
-    pub const ALL: [Refusal; 12] = [
+    pub const ALL: &'static [Refusal] = &[
         Refusal::BadShape,
         Refusal::TooShort,
         Refusal::OutOfRange,
@@ -51,36 +59,57 @@ impl Refusal {
         Refusal::NoNode,
     ];
 
-    /// The number, 1 to 12, that a `no` line prints.
+    /// The number that a `no` line prints.
     pub fn number(self) -> u64 {
         self as u64
     }
 
     /// The refusal of a number.
     pub fn from_number(number: u64) -> Option<Self> {
-        Self::ALL
-            .into_iter()
-            .find(|refusal| refusal.number() == number)
+        let mut all = Self::ALL.iter().copied();
+        all.find(|refusal| refusal.number() == number)
     }
 }
 
 impl fmt::Display for Refusal {
     fn fmt(&self, f: &mut fmt::Formatter<'_>) -> fmt::Result {
+        write!(f, "refused by {}: ", self.number())?;
         f.write_str(match self {
-            Self::BadShape => "the shape is outside its limits",
-            Self::TooShort => "the store or the table is too short for the shape",
-            Self::OutOfRange => "a word of the store or a field of the table is out of its range",
-            Self::NoWorker => "there is no such worker",
-            Self::BadArrival => "path, order or distance is outside its limits",
-            Self::TooLate => "the time is past the last bucket",
-            Self::UnknownMark => "the turn file has an unknown mark",
-            Self::CutRecord => "the turn file ends inside a record",
-            Self::Busy => "the worker has a call in progress",
-            Self::Idle => "the worker has no call in progress",
-            Self::Exhausted => "no ticket or no epoch is left",
-            Self::NoNode => "no node is free",
+            Self::BadShape => return limits_of_a_shape(f),
+            Self::TooShort => "the memory is too short; lend the words that the shape needs, and a record for each worker",
+            Self::OutOfRange => "the memory is out of range; lend it as the pool left it, or open the pool again",
+            Self::NoWorker => "there is no such worker; the first is 0, and the shape says how many there are",
+            Self::BadArrival => return limits_of_an_arrival(f),
+            Self::TooLate => "the time is past the last bucket; it must be below buckets times width",
+            Self::UnknownMark => "the turn file has an unknown mark; records begin with OP, PU, TA or TU",
+            Self::CutRecord => "the turn file ends inside a record; hand in the rest of it, too",
+            Self::Busy => "the worker has a call in progress; step it to its end first",
+            Self::Idle => "the worker has no call in progress; begin one first",
+            Self::Exhausted => "the tickets or the epochs are used up; open the pool again",
+            Self::NoNode => "no node is free; end calls in progress, take arrivals, or open the pool with more nodes",
         })
     }
+}
+
+fn limits_of_a_shape(f: &mut fmt::Formatter<'_>) -> fmt::Result {
+    write!(
+        f,
+        "the shape is outside its limits; workers 1 to {}, nodes 1 to {}, buckets 1 to {}, width 1 to {}",
+        Shape::MAX_WORKERS,
+        Shape::MAX_NODES,
+        Shape::MAX_BUCKETS,
+        Shape::MAX_WIDTH
+    )
+}
+
+fn limits_of_an_arrival(f: &mut fmt::Formatter<'_>) -> fmt::Result {
+    write!(
+        f,
+        "the arrival is outside its limits; path 0 to {}, order 0 to {}, distance 1 to {}",
+        Arrival::MAX_PATH,
+        Arrival::MAX_ORDER,
+        Arrival::MAX_DISTANCE
+    )
 }
 
 impl Error for Refusal {}

@@ -2,46 +2,70 @@
 
 use crate::raw;
 
-/// What a pool is made for.
+/// What a pool is made for. [`Shape::check`] says what is outside its limits.
 #[repr(C)]
 #[derive(Clone, Copy, Debug, Default, PartialEq, Eq, Hash)]
 pub struct Shape {
-    /// 1 to 64.
+    /// 1 to [`Shape::MAX_WORKERS`].
     pub workers: u64,
-    /// 1 to 4,096: the arrivals that it can hold.
+    /// 1 to [`Shape::MAX_NODES`]: the arrivals that it can hold.
     pub nodes: u64,
-    /// 1 to 256.
+    /// 1 to [`Shape::MAX_BUCKETS`].
     pub buckets: u64,
-    /// 1 to 65,535: samples of time in one bucket.
+    /// 1 to [`Shape::MAX_WIDTH`]: samples of time in one bucket.
     pub width: u64,
 }
 
 impl Shape {
-    /// Words to lend; 0 if the shape is outside its limits. The records to lend
-    /// are as many as the workers.
+    /// The most workers.
+    pub const MAX_WORKERS: u64 = 64;
+    /// The most nodes.
+    pub const MAX_NODES: u64 = 4_096;
+    /// The most buckets.
+    pub const MAX_BUCKETS: u64 = 256;
+    /// The most samples in a bucket.
+    pub const MAX_WIDTH: u64 = 65_535;
+
+    /// Words to lend; none if the shape is outside its limits. The records to
+    /// lend are as many as the workers.
     ///
     /// ```
-    /// let shape = wubraken::Shape { workers: 1, nodes: 4, buckets: 2, width: 10 };
-    /// assert_eq!(shape.words(), 3 + 2 + 8 * 4);
+    /// use wubraken::Shape;
+    ///
+    /// let shape = Shape { workers: 1, nodes: 4, buckets: 2, width: 10 };
+    /// assert_eq!(shape.words(), Some(3 + 2 + 8 * 4));
+    /// assert_eq!(Shape { width: 0, ..shape }.words(), None);
     /// ```
-    pub fn words(self) -> usize {
+    pub fn words(self) -> Option<usize> {
         // SAFETY: numbers only.
-        unsafe { raw::wubraken_words(self) as usize }
+        match unsafe { raw::wubraken_words(self) } {
+            0 => None,
+            words => Some(words as usize),
+        }
     }
 }
 
-/// An arrival to put in.
+/// An arrival to put in. [`Arrival::check`] says what is outside its limits.
 #[repr(C)]
 #[derive(Clone, Copy, Debug, Default, PartialEq, Eq, Hash)]
 pub struct Arrival {
     /// In samples, below buckets × width.
     pub time: u32,
-    /// 0 to 65,535.
+    /// 0 to [`Arrival::MAX_PATH`].
     pub path: u32,
-    /// Reflections, 0 to 63.
+    /// Reflections, 0 to [`Arrival::MAX_ORDER`].
     pub order: u32,
-    /// In metres, 1 to 1,024.
+    /// In metres, 1 to [`Arrival::MAX_DISTANCE`].
     pub distance: u32,
+}
+
+impl Arrival {
+    /// The greatest path.
+    pub const MAX_PATH: u32 = 65_535;
+    /// The most reflections.
+    pub const MAX_ORDER: u32 = 63;
+    /// The most metres.
+    pub const MAX_DISTANCE: u32 = 1_024;
 }
 
 /// A worker's record: where its call stands. A host lends it and need not look

@@ -4,8 +4,9 @@ mod common;
 
 use std::collections::BTreeSet;
 
-use common::both::{calls_made, Both, Call};
+use common::both::{calls_made, Both};
 use common::draw::any_arrival;
+use common::lent::Call;
 use common::seeds::on_seeds;
 use common::translate;
 use schedule::lent::{often_small, small_shape, Memory};
@@ -101,10 +102,7 @@ fn every_call_on_any_memory_in_range() {
 
             let mut calls = vec![Call::Open];
             for worker in 0..=shape.workers {
-                let arrival = any_arrival(random, shape);
-                calls.push(Call::Enqueue(worker, arrival));
-                calls.push(Call::Dequeue(worker));
-                calls.push(Call::Step(worker));
+                calls.extend(Call::of_worker(worker, any_arrival(random, shape)));
             }
             for call in calls {
                 let answer = note(&mut lent.clone(), shape, call, &mut turns);

@@ -2,35 +2,23 @@
 
 mod common;
 
-use common::both::{Both, Call};
+use common::both::Both;
+use common::lent::Call;
 use common::seeds::on_seeds;
-use common::translate;
+use common::{translate, ARRIVAL};
 use schedule::lent::{fields, small_shape, Field, Memory, RecordField};
 use schedule::Random;
 use wubraken::raw::kind;
-use wubraken::{Arrival, Shape};
+use wubraken::Shape;
 
 const MEMORIES: usize = 400;
-
-const ARRIVAL: Arrival = Arrival {
-    time: 5,
-    path: 7,
-    order: 1,
-    distance: 3,
-};
 
 /// Makes each call of each worker, and of none; whether 3 refuses all of them.
 /// None does, or all do.
 fn is_out_of_range(memory: &Memory) -> bool {
     let shape = translate::shape_back(memory.shape);
     let lent = Both::with_spare(memory, 2, 1);
-    let calls = (0..=shape.workers).flat_map(|worker| {
-        [
-            Call::Enqueue(worker, ARRIVAL),
-            Call::Dequeue(worker),
-            Call::Step(worker),
-        ]
-    });
+    let calls = (0..=shape.workers).flat_map(|worker| Call::of_worker(worker, ARRIVAL));
     let refused: Vec<bool> = calls
         .map(|call| lent.clone().call(shape, call).number == 3)
         .collect();

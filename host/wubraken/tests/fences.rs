@@ -4,13 +4,13 @@
 
 mod common;
 
-use common::draw::{any_arrival, any_memory, Lent};
+use common::draw::{any_arrival, any_memory, Drawn};
 use common::fenced::Fenced;
 use common::seeds::on_seeds;
-use common::translate;
+use common::{shape, translate};
 use schedule::lent::small_shape;
 use schedule::{write_damaged, Options, Random};
-use wubraken::{Pool, Shape, Worker};
+use wubraken::{Pool, Worker};
 
 /// Every call, one after the other; all that they answer.
 fn all_calls<S: AsMut<[u64]>, T: AsMut<[Worker]>>(
@@ -29,20 +29,13 @@ fn all_calls<S: AsMut<[u64]>, T: AsMut<[Worker]>>(
             _ => format!("{:?}", pool.step(worker)),
         };
     }
-    said += &format!("{:?}", pool.serve(file, out));
-    said += &format!("{:?}", pool.reopen(SMALL));
+    said += &format!("{:?}", pool.run_batch(file, out));
+    said += &format!("{:?}", pool.reopen(shape(1, 1, 1, 1)));
     said
 }
 
-const SMALL: Shape = Shape {
-    workers: 1,
-    nodes: 1,
-    buckets: 1,
-    width: 1,
-};
-
 #[test]
-fn between_fences() {
+fn no_call_leaves_its_slices() {
     on_seeds("fences", |random| {
         let mut pages = [(); 4].map(|()| Fenced::new());
         for _ in 0..4_000 {
@@ -59,7 +52,7 @@ fn one_round(
     let at_the_end = random.one_in(2);
     let small = small_shape(random);
     let shape = translate::shape_back(small);
-    let Lent { store, table, .. } = any_memory(random, small);
+    let Drawn { store, table, .. } = any_memory(random, small);
     let mut file = Vec::new();
     let records = random.below(40).into();
     write_damaged(random.draw(), records, Options::default(), &mut file).unwrap();

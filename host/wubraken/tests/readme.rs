@@ -1,24 +1,37 @@
-//! The README's Rust program is the one that the crate's documentation runs.
+//! The README's Rust code is run: its first block by the crate's documentation,
+//! the others, or what they show a part of, as examples.
 
-/// The lines between a mark and the end of its block.
-fn block(text: &str, mark: &str) -> String {
-    let mut lines = text.lines().skip_while(|&line| line != mark).skip(1);
-    let block: Vec<&str> = lines
-        .by_ref()
-        .take_while(|line| !line.ends_with("```"))
-        .collect();
-    assert!(!block.is_empty(), "no block {mark}");
-    block.join("\n")
+const README: &str = include_str!("../../../README.md");
+const EXAMPLES: [&str; 2] = [
+    include_str!("../examples/threads.rs"),
+    include_str!("../examples/batches.rs"),
+];
+
+/// The blocks of a text that begin with this mark.
+fn blocks(text: &str, mark: &str) -> Vec<String> {
+    let mut blocks = Vec::new();
+    let mut lines = text.lines();
+    while lines.any(|line| line == mark) {
+        let block = lines.by_ref().take_while(|line| !line.ends_with("```"));
+        blocks.push(block.collect::<Vec<_>>().join("\n"));
+    }
+    blocks
+}
+
+/// The program in the crate's documentation.
+fn documented() -> String {
+    let block = &blocks(include_str!("../src/lib.rs"), "//! ```")[0];
+    let lines = block.lines().map(|line| line.strip_prefix("//!").unwrap());
+    let lines = lines.map(|line| line.strip_prefix(' ').unwrap_or(line));
+    lines.collect::<Vec<_>>().join("\n")
 }
 
 #[test]
-fn the_rust_program() {
-    let readme = block(include_str!("../../../README.md"), "```rust");
-    let documented = block(include_str!("../src/lib.rs"), "//! ```");
-    let documented: Vec<&str> = documented
-        .lines()
-        .map(|line| line.strip_prefix("//!").unwrap())
-        .map(|line| line.strip_prefix(' ').unwrap_or(line))
-        .collect();
-    assert_eq!(readme, documented.join("\n"));
+fn every_rust_block_is_run() {
+    let blocks = blocks(README, "```rust");
+    assert_eq!(blocks[0], documented());
+    for block in &blocks[1..] {
+        let is_run = EXAMPLES.iter().any(|example| example.contains(block));
+        assert!(is_run, "no example has this block:\n{block}");
+    }
 }

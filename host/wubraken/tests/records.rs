@@ -33,14 +33,15 @@ fn stepped(step: Step) -> raw::Answer {
             ..answer(kind::STORED)
         },
         Step::Took(taken) => raw::Answer {
-            time: taken.time,
-            path: taken.path,
-            order: taken.order,
-            distance: taken.distance,
-            energy: taken.energy,
+            time: taken.time.into(),
+            path: taken.path.into(),
+            order: taken.order.into(),
+            distance: taken.distance.into(),
+            energy: taken.energy.into(),
             ..answer(kind::TOOK)
         },
         Step::Empty => answer(kind::EMPTY),
+        other => panic!("{other:?} is new"),
     }
 }
 
@@ -90,11 +91,7 @@ impl Beside {
         assert_eq!(answer, translate::answer(expected), "{record:?}");
         assert_eq!(self.shape, translate::shape_back(program.shape()));
         assert!(self.store.contents() == program.store(), "{record:?}");
-        let table = self.table.contents().iter();
-        assert!(table
-            .copied()
-            .map(translate::worker)
-            .eq(program.workers().iter().copied()));
+        assert!(translate::table(self.table.contents()) == program.workers());
     }
 }
 
@@ -128,12 +125,12 @@ fn cases_by_hand_one_by_one() {
 }
 
 #[test]
-fn cases_by_hand_as_a_stretch() {
+fn cases_by_hand_as_a_batch() {
     for script in scripts() {
         let mut pool = Pool::resume(Shape::default(), [0; 1_000], [Worker::default(); 64]);
         let mut out = [0; 8_192];
-        let served = pool.serve(&script.bytes(), &mut out);
-        assert_eq!(served.stop, Stop::Drained);
-        assert_eq!(&out[..served.written], script.output().as_bytes());
+        let end = pool.run_batch(&script.bytes(), &mut out);
+        assert_eq!(end.stop, Stop::Drained);
+        assert_eq!(&out[..end.written], script.output().as_bytes());
     }
 }

@@ -1,22 +1,14 @@
 //! What the wrapper itself promises.
 
+mod common;
+
 use std::collections::HashSet;
 
-use wubraken::{Arrival, Pool, Refusal, Served, Shape, Step, Stop, Taken, Worker};
+use common::{shape, ARRIVAL};
+use second::layout::STARTED;
+use wubraken::{Arrival, BatchEnd, Pool, Refusal, Shape, Step, Stop, Taken, Worker};
 
-const SHAPE: Shape = Shape {
-    workers: 2,
-    nodes: 2,
-    buckets: 2,
-    width: 10,
-};
-
-const ARRIVAL: Arrival = Arrival {
-    time: 5,
-    path: 7,
-    order: 1,
-    distance: 3,
-};
+const SHAPE: Shape = shape(2, 2, 2, 10);
 
 fn open() -> Pool {
     Pool::new(SHAPE).unwrap()
@@ -35,7 +27,7 @@ fn finish(pool: &mut Pool, worker: u64) -> Step {
 fn a_new_pool_has_exactly_what_its_shape_needs() {
     let pool = open();
     assert_eq!(pool.shape(), SHAPE);
-    assert_eq!(pool.store().len(), SHAPE.words());
+    assert_eq!(Some(pool.store().len()), SHAPE.words());
     assert_eq!(pool.table(), [Worker::default(); 2]);
 }
 
@@ -43,22 +35,10 @@ fn a_new_pool_has_exactly_what_its_shape_needs() {
 fn a_new_pool_of_absurd_size_lends_nothing() {
     for absurd in [u64::MAX, 1 << 63, 1 << 40, 0] {
         let shapes = [
-            Shape {
-                workers: absurd,
-                ..SHAPE
-            },
-            Shape {
-                nodes: absurd,
-                ..SHAPE
-            },
-            Shape {
-                buckets: absurd,
-                ..SHAPE
-            },
-            Shape {
-                width: absurd,
-                ..SHAPE
-            },
+            shape(absurd, 2, 2, 10),
+            shape(2, absurd, 2, 10),
+            shape(2, 2, absurd, 10),
+            shape(2, 2, 2, absurd),
         ];
         for shape in shapes {
             assert_eq!(Pool::new(shape).unwrap_err(), Refusal::BadShape);
@@ -77,7 +57,7 @@ fn every_refusal_by_name() {
     assert_eq!(pool.shape(), SHAPE);
     assert_eq!(pool.enqueue(2, ARRIVAL), Err(Refusal::NoWorker));
     let far = Arrival {
-        distance: 1_025,
+        distance: Arrival::MAX_DISTANCE + 1,
         ..ARRIVAL
     };
     assert_eq!(pool.enqueue(0, far), Err(Refusal::BadArrival));
@@ -93,21 +73,27 @@ fn every_refusal_by_name() {
     assert_eq!(pool.enqueue(0, ARRIVAL), Ok(2));
     assert_eq!(pool.enqueue(1, ARRIVAL), Err(Refusal::NoNode));
 
-    let halted = |read, refusal| Served {
+    let halted = |read, refusal| BatchEnd {
         read,
         written: 0,
         stop: Stop::Halted(refusal),
     };
     let mut out = [0; 100];
-    assert_eq!(pool.serve(b"XX", &mut out), halted(0, Refusal::UnknownMark));
-    assert_eq!(pool.serve(b"TU", &mut out), halted(0, Refusal::CutRecord));
+    assert_eq!(
+        pool.run_batch(b"XX", &mut out),
+        halted(0, Refusal::UnknownMark)
+    );
+    assert_eq!(
+        pool.run_batch(b"TU", &mut out),
+        halted(0, Refusal::CutRecord)
+    );
 
     let (mut store, table) = pool.into_parts();
-    store[1] = (1 << 32) - 1;
+    store[STARTED] = (1 << 32) - 1;
     let mut pool = Pool::resume(SHAPE, store, table);
     assert_eq!(pool.dequeue(1), Err(Refusal::Exhausted));
     let (mut store, table) = pool.into_parts();
-    store[1] = 1 << 32;
+    store[STARTED] = 1 << 32;
     let mut pool = Pool::resume(SHAPE, store, table);
     assert_eq!(pool.dequeue(1), Err(Refusal::OutOfRange));
     assert_eq!(pool.reopen(SHAPE), Ok(()));
@@ -117,11 +103,12 @@ fn every_refusal_by_name() {
 #[test]
 fn numbers_and_sentences_of_refusals() {
     let mut sentences = HashSet::new();
-    for (place, refusal) in Refusal::ALL.into_iter().enumerate() {
-        let number = place as u64 + 1;
+    for (number, &refusal) in (1..).zip(Refusal::ALL) {
         assert_eq!(refusal.number(), number);
         assert_eq!(Refusal::from_number(number), Some(refusal));
-        assert!(sentences.insert(refusal.to_string()));
+        let text = refusal.to_string();
+        let sentence = text.strip_prefix(&format!("refused by {number}: "));
+        assert!(sentences.insert(sentence.unwrap().to_string()));
     }
     for number in [0, 13, u64::MAX, 1 << 32 | 1] {
         assert_eq!(Refusal::from_number(number), None);
@@ -146,6 +133,7 @@ fn put_and_take<S: AsMut<[u64]>, T: AsMut<[Worker]>>(mut pool: Pool<S, T>) -> (S
         energy: 1_864_135,
     };
     assert_eq!(pool.step(0), Ok(Step::Took(taken)));
+    assert_eq!(Arrival::from(taken), ARRIVAL);
     pool.into_parts()
 }
 
@@ -180,7 +168,7 @@ impl AsMut<[u64]> for Fickle {
 /// Each call speaks of the slice it got, and stays inside it.
 #[test]
 fn memory_of_another_length_at_every_call() {
-    let words = SHAPE.words();
+    let words = SHAPE.words().unwrap();
     let store = Fickle {
         words: vec![0; words],
         asked: 0,

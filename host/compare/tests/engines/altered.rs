@@ -15,9 +15,7 @@ fn main() -> ExitCode {
     };
     let mut input = Vec::new();
     io::stdin().lock().read_to_end(&mut input).expect("input");
-    let mut output = Vec::new();
-    second::run(&input[..], &mut output).expect("a vector takes all");
-    let text = String::from_utf8(output).expect("lines");
+    let text = schedule::lines(&input[..]);
     io::stdout()
         .lock()
         .write_all(alter(text, &how).as_bytes())

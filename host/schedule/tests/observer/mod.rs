@@ -3,25 +3,23 @@
 
 use std::collections::{BTreeMap, BTreeSet};
 
+use order::{End, History, Kind};
+use second::layout::{field, head_at, node_at, NODE_WORDS, STARTED};
 use second::{
-    field, in_range, kind, stage, word, Answer, Arrival, Program, Reclamation, Record, Response,
-    Worker,
+    in_range, kind, stage, word, Answer, Arrival, Program, Reclamation, Record, Response, Worker,
 };
-
-use crate::sequential::{has_order, Call, Op};
 
 /// The calls since the opening.
 #[derive(Clone, Default)]
 pub struct Observer {
     now: usize,
-    /// By worker: when its call started.
-    starts: BTreeMap<usize, usize>,
     /// Every put that began, by ticket.
     puts: BTreeMap<u64, Arrival>,
     stored: BTreeSet<u64>,
     marked: BTreeSet<u64>,
     taken: BTreeSet<u64>,
-    calls: Vec<Call>,
+    /// Of an arrival a take shows its ticket.
+    history: History<u64>,
 }
 
 impl Observer {
@@ -30,13 +28,14 @@ impl Observer {
         self.now += 1;
         match (record, answer) {
             (Record::EnqueueStart { worker, arrival }, Ok(Response::Begun(ticket))) => {
-                self.begin(worker.into(), program, ticket);
+                let kind = Kind::Put(arrival.time, ticket);
+                self.begin(worker.into(), program, ticket, kind);
                 self.puts.insert(ticket, arrival);
                 let own = program.workers()[usize::from(worker)].own;
                 assert!(!before.stood_on.contains(&own), "node {own} is stood on");
             }
             (Record::DequeueStart { worker }, Ok(Response::Begun(ticket))) => {
-                self.begin(worker.into(), program, ticket);
+                self.begin(worker.into(), program, ticket, Kind::Take);
             }
             (Record::Step { worker }, Ok(response)) => {
                 self.step(before, program, worker.into(), response);
@@ -47,10 +46,10 @@ impl Observer {
         self.check(program);
     }
 
-    fn begin(&mut self, worker: usize, program: &Program, ticket: u64) {
-        assert_eq!(program.store()[1], ticket);
+    fn begin(&mut self, worker: usize, program: &Program, ticket: u64, kind: Kind<u64>) {
+        assert_eq!(program.store()[STARTED], ticket);
         assert_eq!(program.workers()[worker].ticket, ticket);
-        self.starts.insert(worker, self.now);
+        self.history.begin(worker, ticket, kind, self.now);
     }
 
     fn step(&mut self, before: &Before, program: &Program, worker: usize, response: Response) {
@@ -65,7 +64,7 @@ impl Observer {
             Response::Stored(stored) => {
                 assert_eq!((stored, stored), (record.ticket, ticket));
                 assert!(self.stored.insert(stored));
-                self.end(worker, Op::Enqueue(self.key(ticket)));
+                self.end(worker, order::Answer::Stored(stored));
             }
             Response::Took {
                 time,
@@ -81,21 +80,15 @@ impl Observer {
                 let (time, path) = (time as u32, path as u32);
                 assert_eq!((time, path, order as u32, distance as u32), fields);
                 assert_eq!(u64::from(energy), (1 << 24) / (distance * distance));
-                self.end(worker, Op::Dequeue(Some(self.key(ticket))));
+                self.end(worker, order::Answer::Took(ticket));
             }
-            Response::Empty => self.end(worker, Op::Dequeue(None)),
+            Response::Empty => self.end(worker, order::Answer::Empty),
             other => panic!("{other:?}"),
         }
     }
 
-    fn key(&self, ticket: u64) -> (u64, u64) {
-        (self.puts[&ticket].time.into(), ticket)
-    }
-
-    fn end(&mut self, worker: usize, op: Op) {
-        let start = self.starts.remove(&worker).unwrap();
-        let end = self.now;
-        self.calls.push(Call { start, end, op });
+    fn end(&mut self, worker: usize, answer: order::Answer<u64>) {
+        self.history.end(worker, self.now, answer);
     }
 
     /// What holds of store and table at any moment.
@@ -144,18 +137,21 @@ impl Observer {
         loop {
             self.apply(&mut program, Record::DequeueStart { worker: 0 });
             self.finish(&mut program, 0);
-            let key = match self.calls.last().unwrap().op {
-                Op::Dequeue(Some(key)) => key,
-                Op::Dequeue(None) => break,
-                _ => panic!("a take ended as a put"),
+            let ticket = match self.history.calls().last().unwrap().end {
+                Some(End {
+                    answer: order::Answer::Took(ticket),
+                    ..
+                }) => ticket,
+                _ => break,
             };
-            assert!(last < Some(key), "drained out of order");
-            last = Some(key);
+            let key = Some((self.puts[&ticket].time, ticket));
+            assert!(last < key, "drained out of order");
+            last = key;
         }
         assert_eq!(self.stored, self.taken);
         assert_eq!(self.stored, self.puts.keys().copied().collect());
         if workers <= 6 {
-            assert!(has_order(&self.calls), "no order of a plain queue");
+            assert!(self.history.has_order(), "no order of a plain queue");
         }
     }
 
@@ -201,8 +197,8 @@ fn busy(program: &Program) -> impl Iterator<Item = &Worker> {
 }
 
 fn node(program: &Program, node: u64) -> &[u64] {
-    let first = 3 + program.shape().buckets as usize + 8 * node as usize;
-    &program.store()[first..first + 8]
+    let first = node_at(program.shape().buckets as usize, node as usize);
+    &program.store()[first..first + NODE_WORDS]
 }
 
 /// The nodes that calls in progress stand on.
@@ -264,7 +260,7 @@ impl Lists {
             unmarked: Vec::new(),
         };
         for bucket in 0..shape.buckets {
-            let mut next = word::successor(program.store()[3 + bucket as usize]);
+            let mut next = word::successor(program.store()[head_at(bucket as usize)]);
             let mut last = None;
             while next != u64::from(shape.nodes) {
                 let words = node(program, next);

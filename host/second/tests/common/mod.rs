@@ -2,43 +2,18 @@
 //! nothing and that the spare words and records are never changed.
 #![allow(dead_code)]
 
-pub mod sequential;
+pub mod program;
 
+use std::ops::{Deref, DerefMut};
+
+pub use schedule::lent::{Memory, GARBAGE, GARBAGE_RECORD};
 pub use schedule::script::arrival;
-
 use schedule::Script;
-use second::{
-    field, stage, word, Answer, Arrival, Lines, Record, Refusal, Response, Shape, Worker,
-};
+use second::layout::{field, CURRENT};
+use second::{push_line, stage, word, Answer, Arrival, Record, Refusal, Response, Shape, Worker};
 
 pub const SPARE_WORDS: usize = 5;
 pub const SPARE_RECORDS: usize = 3;
-
-/// Garbage that would be out of range in any field.
-pub const GARBAGE: u64 = 0xDEAD_BEEF_DEAD_BEEF;
-
-pub fn garbage_record() -> Worker {
-    Worker {
-        stage: GARBAGE,
-        kind: GARBAGE,
-        own: GARBAGE,
-        bucket: GARBAGE,
-        left: GARBAGE,
-        right: GARBAGE,
-        link_seen: GARBAGE,
-        current_seen: GARBAGE,
-        ticket: GARBAGE,
-    }
-}
-
-pub fn shape(workers: u32, nodes: u32, buckets: u32, width: u32) -> Shape {
-    Shape {
-        workers,
-        nodes,
-        buckets,
-        width,
-    }
-}
 
 /// The response to a dequeue of [`arrival`].
 pub fn took(time: u64) -> Answer {
@@ -83,21 +58,32 @@ pub fn refused(number: u8) -> Answer {
     Err(refusal)
 }
 
+/// Memory with something spare behind it.
 #[derive(Clone, Debug, PartialEq)]
-pub struct Lent {
-    pub shape: Shape,
-    pub store: Vec<u64>,
-    pub workers: Vec<Worker>,
+pub struct Lent(Memory);
+
+impl Deref for Lent {
+    type Target = Memory;
+
+    fn deref(&self) -> &Memory {
+        &self.0
+    }
+}
+
+impl DerefMut for Lent {
+    fn deref_mut(&mut self) -> &mut Memory {
+        &mut self.0
+    }
 }
 
 impl Lent {
     /// Garbage everywhere, just long enough and a spare behind.
     pub fn garbage(shape: Shape) -> Self {
-        Self {
+        Self(Memory {
             shape,
             store: vec![GARBAGE; shape.store_words() + SPARE_WORDS],
-            workers: vec![garbage_record(); shape.workers as usize + SPARE_RECORDS],
-        }
+            workers: vec![GARBAGE_RECORD; shape.workers as usize + SPARE_RECORDS],
+        })
     }
 
     pub fn open(shape: Shape) -> Self {
@@ -124,18 +110,12 @@ impl Lent {
         lent
     }
 
-    /// One record but an opening.
-    fn apply(&mut self, record: Record) -> Answer {
-        match record {
-            Record::Open(_) => panic!("one opening only"),
-            Record::EnqueueStart { worker, arrival } => self.put_arrival(worker.into(), arrival),
-            Record::DequeueStart { worker } => self.take(worker.into()),
-            Record::Step { worker } => self.turn(worker.into()),
-        }
+    pub fn apply(&mut self, record: Record) -> Answer {
+        self.checked(|memory| memory.apply(record))
     }
 
     pub fn reopen(&mut self) -> Answer {
-        self.call(second::open)
+        self.checked(|memory| memory.open(memory.shape))
     }
 
     pub fn put(&mut self, worker: usize, time: u32) -> Answer {
@@ -143,17 +123,15 @@ impl Lent {
     }
 
     pub fn put_arrival(&mut self, worker: usize, arrival: Arrival) -> Answer {
-        self.call(|shape, store, workers| {
-            second::enqueue_start(shape, store, workers, worker, arrival)
-        })
+        self.checked(|memory| memory.put(worker, arrival))
     }
 
     pub fn take(&mut self, worker: usize) -> Answer {
-        self.call(|shape, store, workers| second::dequeue_start(shape, store, workers, worker))
+        self.checked(|memory| memory.take(worker))
     }
 
     pub fn turn(&mut self, worker: usize) -> Answer {
-        self.call(|shape, store, workers| second::step(shape, store, workers, worker))
+        self.checked(|memory| memory.turn(worker))
     }
 
     /// That many turns, all answered `on`.
@@ -199,22 +177,13 @@ impl Lent {
     /// Bucket and epoch of the current word.
     pub fn current(&self) -> (u64, u64) {
         (
-            word::current_bucket(self.store[0]),
-            word::current_epoch(self.store[0]),
+            word::current_bucket(self.store[CURRENT]),
+            word::current_epoch(self.store[CURRENT]),
         )
     }
 
     pub fn stage(&self, worker: usize) -> u64 {
         self.workers[worker].stage
-    }
-
-    pub fn node_word(&mut self, node: usize, field: usize) -> &mut u64 {
-        let at = 3 + self.shape.buckets as usize + 8 * node + field;
-        &mut self.store[at]
-    }
-
-    pub fn head(&mut self, bucket: usize) -> &mut u64 {
-        &mut self.store[3 + bucket]
     }
 
     /// Times met from a bucket's head to the end.
@@ -230,12 +199,9 @@ impl Lent {
     }
 
     /// Makes a call and checks what every call must keep.
-    pub fn call(
-        &mut self,
-        entry: impl FnOnce(Shape, &mut [u64], &mut [Worker]) -> Answer,
-    ) -> Answer {
+    fn checked(&mut self, call: impl FnOnce(&mut Memory) -> Answer) -> Answer {
         let before = self.clone();
-        let answer = entry(self.shape, &mut self.store, &mut self.workers);
+        let answer = call(self);
         if answer.is_err() {
             assert_eq!(*self, before, "a refusal changed lent memory");
         } else {
@@ -273,10 +239,7 @@ pub fn steps(script: &Script) -> impl Iterator<Item = (Record, &str)> {
 
 /// The line of an answer.
 pub fn printed(answer: Answer) -> String {
-    let mut bytes = Vec::new();
-    let mut lines = Lines::new(&mut bytes);
-    lines.write(&answer).unwrap();
-    lines.finish().unwrap();
-    let line = String::from_utf8(bytes).unwrap();
-    line.trim_end_matches('\n').to_string()
+    let mut line = Vec::new();
+    push_line(&mut line, &answer);
+    String::from_utf8(line).unwrap().trim_end().to_string()
 }

@@ -20,13 +20,14 @@ pub fn any_arrival(random: &mut Random, shape: Shape) -> Arrival {
     };
     Arrival {
         time: field(0, limit - 1),
-        path: field(0, 65_535),
-        order: field(0, 63),
-        distance: field(1, 1_024),
+        path: field(0, Arrival::MAX_PATH),
+        order: field(0, Arrival::MAX_ORDER),
+        distance: field(1, Arrival::MAX_DISTANCE),
     }
 }
 
-pub struct Lent {
+/// Memory and what is known of it.
+pub struct Drawn {
     pub store: Vec<u64>,
     pub table: Vec<Worker>,
     /// Long enough for the shape, and in range.
@@ -35,7 +36,7 @@ pub struct Lent {
 
 /// Memory for a shape: mostly in range, sometimes with a field out of it; mostly
 /// with garbage behind, sometimes too short.
-pub fn any_memory(random: &mut Random, shape: second::Shape) -> Lent {
+pub fn any_memory(random: &mut Random, shape: second::Shape) -> Drawn {
     let mut memory = Memory::in_range(random, shape);
     let is_damaged = random.one_in(4);
     if is_damaged {
@@ -58,7 +59,7 @@ pub fn any_memory(random: &mut Random, shape: second::Shape) -> Lent {
     } else {
         table.truncate(random.below(table.len() as u32) as usize);
     }
-    Lent {
+    Drawn {
         store,
         table,
         is_sound: !is_damaged && !is_short,

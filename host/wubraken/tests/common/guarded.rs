@@ -2,10 +2,8 @@
 
 use std::fmt::Debug;
 
+pub use schedule::lent::GARBAGE;
 use wubraken::Worker;
-
-/// Out of range in every field.
-pub const GARBAGE: u64 = 0xDEAD_BEEF_DEAD_BEEF;
 
 pub const GARBAGE_RECORD: Worker = Worker {
     stage: GARBAGE,

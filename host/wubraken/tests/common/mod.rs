@@ -6,5 +6,25 @@ pub mod draw;
 #[cfg(target_os = "linux")]
 pub mod fenced;
 pub mod guarded;
+pub mod lent;
 pub mod seeds;
 pub mod translate;
+
+use wubraken::{Arrival, Shape};
+
+pub const fn shape(workers: u64, nodes: u64, buckets: u64, width: u64) -> Shape {
+    Shape {
+        workers,
+        nodes,
+        buckets,
+        width,
+    }
+}
+
+/// That of the worked example.
+pub const ARRIVAL: Arrival = Arrival {
+    time: 5,
+    path: 7,
+    order: 1,
+    distance: 3,
+};

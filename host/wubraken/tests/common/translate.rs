@@ -2,7 +2,7 @@
 
 use second::{Answer, Response};
 use wubraken::raw::{self, kind};
-use wubraken::{Arrival, Shape, Worker};
+use wubraken::{Arrival, Refusal, Shape, Worker};
 
 /// Fields of 2^32 or more are outside their limits, as is 2^32 − 1.
 pub fn shape(shape: Shape) -> second::Shape {
@@ -42,7 +42,7 @@ pub fn arrival_back(arrival: second::Arrival) -> Arrival {
     }
 }
 
-pub fn worker(worker: Worker) -> second::Worker {
+fn worker(worker: Worker) -> second::Worker {
     second::Worker {
         stage: worker.stage,
         kind: worker.kind,
@@ -56,7 +56,11 @@ pub fn worker(worker: Worker) -> second::Worker {
     }
 }
 
-pub fn worker_back(worker: second::Worker) -> Worker {
+pub fn table(table: &[Worker]) -> Vec<second::Worker> {
+    table.iter().copied().map(worker).collect()
+}
+
+fn worker_back(worker: second::Worker) -> Worker {
     Worker {
         stage: worker.stage,
         kind: worker.kind,
@@ -72,6 +76,10 @@ pub fn worker_back(worker: second::Worker) -> Worker {
 
 pub fn table_back(workers: &[second::Worker]) -> Vec<Worker> {
     workers.iter().copied().map(worker_back).collect()
+}
+
+pub fn refusal(refusal: second::Refusal) -> Refusal {
+    Refusal::from_number(refusal.number().into()).expect("both have the same numbers")
 }
 
 /// The answer, with 0 in every field that it does not carry.

@@ -1,19 +1,20 @@
 //! The search, against one that simply tries everything.
 
-use compare::{find_order, Call, End, Kind, Line, Taken};
-use schedule::script::arrival;
-use schedule::Random;
-use second::Arrival;
+use order::{find_order, Answer, End, Kind};
+use random::Random;
+
+/// Of an arrival a take shows one number, and several may show the same.
+type Call = order::Call<u32>;
 
 /// Calls of a few workers, with answers that may or may not be right.
 fn random_calls(random: &mut Random) -> Vec<Call> {
-    let workers = random.between(2, 4) as u8;
+    let workers = random.between(2, 4) as usize;
     let most = random.between(1, 6) as usize;
     let mut calls: Vec<Call> = Vec::new();
-    let mut busy: Vec<Option<usize>> = vec![None; workers.into()];
+    let mut busy: Vec<Option<usize>> = vec![None; workers];
     for now in 0..random.between(2, 20) as usize {
-        let worker = random.below(workers.into()) as u8;
-        let call = &mut busy[usize::from(worker)];
+        let worker = random.below(workers as u32) as usize;
+        let call = &mut busy[worker];
         match call.take() {
             Some(place) => {
                 let answer = random_answer(random, &calls, place);
@@ -35,22 +36,19 @@ fn random_calls(random: &mut Random) -> Vec<Call> {
     calls
 }
 
-fn random_kind(random: &mut Random) -> Kind {
-    let put = Kind::Put(Arrival {
-        distance: random.between(1, 2),
-        ..arrival(random.below(2))
-    });
-    random.choose(&[put, Kind::Take])
+fn random_kind(random: &mut Random) -> Kind<u32> {
+    let (time, other) = (random.below(2), random.below(2));
+    random.choose(&[Kind::Put(time, 2 * time + other), Kind::Take])
 }
 
-fn random_answer(random: &mut Random, calls: &[Call], place: usize) -> Line {
+fn random_answer(random: &mut Random, calls: &[Call], place: usize) -> Answer<u32> {
     match calls[place].kind {
-        Kind::Put(_) => Line::Stored(calls[place].ticket),
+        Kind::Put(..) => Answer::Stored(calls[place].ticket),
         Kind::Take => {
-            let mut answers = vec![Line::Empty];
+            let mut answers = vec![Answer::Empty];
             for call in calls {
-                if let Kind::Put(arrival) = call.kind {
-                    answers.push(Line::Took(Taken::of(arrival)));
+                if let Kind::Put(_, shown) = call.kind {
+                    answers.push(Answer::Took(shown));
                 }
             }
             random.choose(&answers)
@@ -75,19 +73,19 @@ fn is_order(calls: &[Call], order: &[usize]) -> bool {
 }
 
 fn answers_of_a_queue(calls: &[Call], order: &[usize]) -> bool {
-    let mut queue: Vec<(u32, u64, Arrival)> = Vec::new();
+    let mut queue: Vec<(u32, u64, u32)> = Vec::new();
     order.iter().all(|&place| {
         let call = calls[place];
         let answer = match call.kind {
-            Kind::Put(arrival) => {
-                queue.push((arrival.time, call.ticket, arrival));
-                Line::Stored(call.ticket)
+            Kind::Put(time, shown) => {
+                queue.push((time, call.ticket, shown));
+                Answer::Stored(call.ticket)
             }
             Kind::Take => {
                 queue.sort_by_key(|&(time, ticket, _)| (time, ticket));
                 match queue.is_empty() {
-                    true => Line::Empty,
-                    false => Line::Took(Taken::of(queue.remove(0).2)),
+                    true => Answer::Empty,
+                    false => Answer::Took(queue.remove(0).2),
                 }
             }
         };
@@ -132,32 +130,27 @@ fn finds_an_order_exactly_if_there_is_one() {
     assert!(with > 1_000 && without > 1_000, "{with} {without}");
 }
 
-/// Fourteen calls over one another: seven puts, and takes of what they put.
+/// Fourteen calls over one another: seven puts, and takes of what they put. If one
+/// is lost, another is taken twice, in the last round.
 fn all_at_once(rounds: usize, lost: bool) -> Vec<Call> {
     let mut calls = Vec::new();
     for round in 0..rounds {
-        let first = 100 * round;
+        let is_lost = |worker| lost && round + 1 == rounds && worker == 13;
         for worker in 0..14 {
-            let arrival = arrival(worker as u32 % 7);
-            let is_put = worker < 7;
-            let answer = match (is_put, lost && round + 1 == rounds && worker == 13) {
-                (true, _) => Line::Stored(calls.len() as u64 + 1),
-                (false, false) => Line::Took(Taken::of(arrival)),
-                (false, true) => Line::Took(Taken::of(schedule::script::arrival(0))),
+            let time = worker as u32 % 7;
+            let ticket = calls.len() as u64 + 1;
+            let (kind, answer) = match worker {
+                0..=6 => (Kind::Put(time, time), Answer::Stored(ticket)),
+                _ if is_lost(worker) => (Kind::Take, Answer::Took(0)),
+                _ => (Kind::Take, Answer::Took(time)),
             };
+            let at = 100 * round + 90 - worker;
             calls.push(Call {
-                ticket: calls.len() as u64 + 1,
                 worker,
-                kind: if is_put {
-                    Kind::Put(arrival)
-                } else {
-                    Kind::Take
-                },
-                start: first + usize::from(worker),
-                end: Some(End {
-                    at: first + 90 - usize::from(worker),
-                    answer,
-                }),
+                ticket,
+                kind,
+                start: 100 * round + worker,
+                end: Some(End { at, answer }),
             });
         }
     }
@@ -169,6 +162,5 @@ fn fourteen_calls_at_once() {
     let calls = all_at_once(20, false);
     let order = find_order(&calls).unwrap();
     assert!(is_order(&calls, &order));
-    // One arrival taken twice and another never, in the last round.
     assert_eq!(find_order(&all_at_once(20, true)), None);
 }

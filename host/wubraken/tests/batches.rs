@@ -1,4 +1,4 @@
-//! Stretches of turn files, in pieces of any length and into room of any size,
+//! Batches of turn files, in pieces of any length and into room of any size,
 //! against the second program.
 
 mod common;
@@ -11,6 +11,7 @@ use common::seeds::on_seeds;
 use common::translate;
 use schedule::by_hand::WORKED_EXAMPLE;
 use schedule::lent::small_shape;
+use schedule::script::{put_arrival, take, turn};
 use schedule::{write, write_damaged, Options, Random};
 use second::{Program, Record, Records, LENT_RECORDS, LENT_WORDS};
 use wubraken::{Refusal, Shape, Stop, Worker, LINE};
@@ -19,8 +20,8 @@ fn any_room(random: &mut Random) -> usize {
     let room = match random.below(8) {
         0 => random.below(LINE as u32),
         1 => LINE as u32 - 1 + random.below(3),
-        2..=4 => random.between(89, 400),
-        5 | 6 => random.between(89, 4_000),
+        2..=4 => random.between(LINE as u32, 400),
+        5 | 6 => random.between(LINE as u32, 4_000),
         _ => 16_384,
     };
     room as usize
@@ -33,11 +34,11 @@ fn run_in_pieces(random: &mut Random, lent: &mut Both, shape: &mut Shape, file: 
     let (mut at, mut have) = (0, 0);
     let bits = random.between(2, 14);
     loop {
-        let (served, lines) = lent.serve(shape, &file[at..have], any_room(random));
-        at += served.read;
+        let (end, lines) = lent.run_batch(shape, &file[at..have], any_room(random));
+        at += end.read;
         output.extend(lines);
         let is_all = have == file.len();
-        match served.stop {
+        match end.stop {
             Stop::Full => {}
             Stop::Drained if is_all => return output,
             Stop::Halted(refusal) if is_all || refusal != Refusal::CutRecord => {
@@ -85,8 +86,8 @@ fn every_mark() {
     let mut known = Vec::new();
     for mark in 0..=u16::MAX {
         let file = opened_and_then(&mark.to_le_bytes());
-        let (served, _) = fresh(37, 1).serve(&mut Shape::default(), &file, 200);
-        match served.stop {
+        let (end, _) = fresh(37, 1).run_batch(&mut Shape::default(), &file, 200);
+        match end.stop {
             Stop::Halted(Refusal::CutRecord) => known.push(mark.to_le_bytes()),
             stop => assert_eq!(stop, Stop::Halted(Refusal::UnknownMark)),
         }
@@ -100,20 +101,17 @@ fn cut_at_every_byte_into_every_room() {
     let (file, lines) = WORKED_EXAMPLE;
     for have in 0..=file.len() {
         for room in 0..=lines.len() + LINE {
-            let (served, _) = fresh(37, 1).serve(&mut Shape::default(), &file[..have], room);
-            assert_eq!((served.read, served.stop) == (0, Stop::Full), room < LINE);
+            let (end, _) = fresh(37, 1).run_batch(&mut Shape::default(), &file[..have], room);
+            assert_eq!((end.read, end.stop) == (0, Stop::Full), room < LINE);
         }
     }
     let mut lent = fresh(37, 1);
-    let (served, written) = lent.serve(&mut Shape::default(), file, lines.len() + LINE);
-    assert_eq!(
-        (served.stop, &written[..]),
-        (Stop::Drained, lines.as_bytes())
-    );
+    let (end, written) = lent.run_batch(&mut Shape::default(), file, lines.len() + LINE);
+    assert_eq!((end.stop, &written[..]), (Stop::Drained, lines.as_bytes()));
 }
 
 #[test]
-fn the_program_on_random_schedules() {
+fn random_schedules_in_pieces() {
     on_seeds("schedules", |random| {
         for nth in 0..40 {
             let file = any_file(random, 50 + nth * nth);
@@ -121,19 +119,12 @@ fn the_program_on_random_schedules() {
             let mut shape = Shape::default();
             let output = run_in_pieces(random, &mut lent, &mut shape, &file);
 
-            let mut expected = Vec::new();
-            second::run(&file[..], &mut expected).unwrap();
-            assert!(output == expected, "the lines differ");
+            let expected = schedule::lines(&file[..]);
+            assert!(output == expected.as_bytes(), "the lines differ");
             let program = program_after(&file);
             assert_eq!(shape, translate::shape_back(program.shape()));
             assert_eq!(lent.store(), program.store());
-            let table: Vec<_> = lent
-                .table()
-                .iter()
-                .copied()
-                .map(translate::worker)
-                .collect();
-            assert_eq!(table, program.workers());
+            assert_eq!(translate::table(lent.table()), program.workers());
         }
     });
 }
@@ -158,7 +149,7 @@ fn any_records(random: &mut Random, shape: Shape, records: usize) -> Vec<u8> {
     for _ in 0..records {
         let worker = match random.below(16) {
             0 => random.below(256) as u8,
-            _ => random.below(shape.workers.clamp(1, 64) as u32) as u8,
+            _ => random.below(shape.workers.clamp(1, Shape::MAX_WORKERS) as u32) as u8,
         };
         let record = match random.below(100) {
             0 => Record::Open(small_shape(random)),
@@ -168,12 +159,9 @@ fn any_records(random: &mut Random, shape: Shape, records: usize) -> Vec<u8> {
                 buckets: random.below(300),
                 width: random.below(65_536),
             }),
-            2..=17 => {
-                let arrival = translate::arrival(any_arrival(random, shape));
-                Record::EnqueueStart { worker, arrival }
-            }
-            18..=35 => Record::DequeueStart { worker },
-            _ => Record::Step { worker },
+            2..=17 => put_arrival(worker, translate::arrival(any_arrival(random, shape))),
+            18..=35 => take(worker),
+            _ => turn(worker),
         };
         record.encode(&mut file);
     }
@@ -190,7 +178,7 @@ fn any_shape(random: &mut Random, small: second::Shape) -> Shape {
             ..shape
         },
         2 => Shape {
-            width: random.choose(&[0, 65_536, u64::MAX]),
+            width: random.choose(&[0, Shape::MAX_WIDTH + 1, u64::MAX]),
             ..shape
         },
         _ => shape,
@@ -219,7 +207,7 @@ fn any_memory_at_all() {
                 None => line.to_string(),
             }));
         }
-        // By stage 3, in the midst of a stretch.
+        // By stage 3, in the midst of a batch.
         assert!(left_the_ranges > 0);
         let expected = "begun, empty, no 1, no 10, no 11, no 12, no 2, no 3, no 4, no 5, no 6, no 9, on, open, stored, took";
         let seen: Vec<String> = seen.into_iter().collect();

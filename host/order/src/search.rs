@@ -13,14 +13,13 @@
 use std::collections::HashSet;
 use std::vec::IntoIter;
 
-use crate::history::{Call, Kind};
-use crate::line::{Line, Taken};
+use crate::history::{Answer, Call, Kind};
 use crate::set::Set;
 
 /// An order, by places in the list: all finished calls and some of the others,
 /// calls that do not overlap in the order of time, and each finished call with
 /// the answer of a plain queue. The calls are listed by their start.
-pub fn find_order(calls: &[Call]) -> Option<Vec<usize>> {
+pub fn find_order<T: Copy + PartialEq>(calls: &[Call<T>]) -> Option<Vec<usize>> {
     if calls.iter().any(is_put_with_another_answer) {
         return None;
     }
@@ -28,9 +27,9 @@ pub fn find_order(calls: &[Call]) -> Option<Vec<usize>> {
 }
 
 /// Such a put stands in no order.
-fn is_put_with_another_answer(call: &Call) -> bool {
-    let stored = Line::Stored(call.ticket);
-    matches!(call.kind, Kind::Put(_)) && call.end.map_or(false, |end| end.answer != stored)
+fn is_put_with_another_answer<T: Copy + PartialEq>(call: &Call<T>) -> bool {
+    let stored = Answer::Stored(call.ticket);
+    matches!(call.kind, Kind::Put(..)) && call.end.map_or(false, |end| end.answer != stored)
 }
 
 #[derive(Clone, PartialEq, Eq, Hash)]
@@ -61,10 +60,10 @@ struct Visit {
     untried: IntoIter<Step>,
 }
 
-struct Search<'a> {
-    calls: &'a [Call],
+struct Search<'a, T> {
+    calls: &'a [Call<T>],
     /// The puts from the lowest key to the highest: place and what is taken.
-    puts: Vec<(usize, Taken)>,
+    puts: Vec<(usize, T)>,
     /// The rank of each call among the puts; of no use for a take.
     rank: Vec<usize>,
     /// By rank: whether not all arrivals that look like this one are answered.
@@ -72,12 +71,12 @@ struct Search<'a> {
     seen: HashSet<State>,
 }
 
-impl<'a> Search<'a> {
-    fn new(calls: &'a [Call]) -> Self {
+impl<'a, T: Copy + PartialEq> Search<'a, T> {
+    fn new(calls: &'a [Call<T>]) -> Self {
         let mut keys = Vec::new();
         for (place, call) in calls.iter().enumerate() {
-            if let Kind::Put(arrival) = call.kind {
-                keys.push((arrival.time, call.ticket, place, Taken::of(arrival)));
+            if let Kind::Put(time, shown) = call.kind {
+                keys.push((time, call.ticket, place, shown));
             }
         }
         keys.sort_unstable_by_key(|&(time, ticket, ..)| (time, ticket));
@@ -176,8 +175,8 @@ impl<'a> Search<'a> {
             let call = &self.calls[place];
             match (call.kind, call.end) {
                 // A put that can wait no longer; the others wait.
-                (Kind::Put(_), Some(_)) if nth == 0 => steps.push(alone),
-                (Kind::Put(_), _) => {}
+                (Kind::Put(..), Some(_)) if nth == 0 => steps.push(alone),
+                (Kind::Put(..), _) => {}
                 (Kind::Take, Some(end)) => {
                     if end.answer == self.answer(lowest) {
                         steps.push(alone);
@@ -200,23 +199,23 @@ impl<'a> Search<'a> {
     }
 
     /// What the queue answers to a take.
-    fn answer(&self, lowest: Option<usize>) -> Line {
+    fn answer(&self, lowest: Option<usize>) -> Answer<T> {
         match lowest {
-            None => Line::Empty,
-            Some(rank) => Line::Took(self.puts[rank].1),
+            None => Answer::Empty,
+            Some(rank) => Answer::Took(self.puts[rank].1),
         }
     }
 
     /// The open puts that would be the lowest in the queue and give this answer.
     fn puts_for<'b>(
         &'b self,
-        answer: Line,
+        answer: Answer<T>,
         lowest: Option<usize>,
         open: &'b [usize],
     ) -> impl Iterator<Item = usize> + 'b {
         open.iter().copied().filter(move |&place| {
             let rank = self.rank[place];
-            matches!(self.calls[place].kind, Kind::Put(_))
+            matches!(self.calls[place].kind, Kind::Put(..))
                 && lowest.map_or(true, |lowest| rank < lowest)
                 && self.answer(Some(rank)) == answer
         })
@@ -227,7 +226,7 @@ impl<'a> Search<'a> {
         for place in step.calls() {
             state.ordered.insert(place);
             match (self.calls[place].kind, state.queue.first()) {
-                (Kind::Put(_), _) => state.queue.insert(self.rank[place]),
+                (Kind::Put(..), _) => state.queue.insert(self.rank[place]),
                 (Kind::Take, Some(lowest)) => state.queue.remove(lowest),
                 (Kind::Take, None) => {}
             }
@@ -237,15 +236,15 @@ impl<'a> Search<'a> {
 }
 
 /// When a call ended; never, for an unfinished one.
-fn end(call: &Call) -> usize {
-    call.end.map_or(usize::MAX, |end| end.at)
+fn end<T>(call: &Call<T>) -> usize {
+    call.end.as_ref().map_or(usize::MAX, |end| end.at)
 }
 
 /// Whether there are more puts of such an arrival than finished takes. Only then
 /// an unfinished take can have one.
-fn is_spare(calls: &[Call], puts: &[(usize, Taken)], taken: Taken) -> bool {
+fn is_spare<T: Copy + PartialEq>(calls: &[Call<T>], puts: &[(usize, T)], taken: T) -> bool {
     let put = puts.iter().filter(|(_, other)| *other == taken).count();
     let ends = calls.iter().filter_map(|call| call.end);
-    let answered = ends.filter(|end| end.answer == Line::Took(taken)).count();
+    let answered = ends.filter(|end| end.answer == Answer::Took(taken)).count();
     put > answered
 }

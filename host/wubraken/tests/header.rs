@@ -1,8 +1,9 @@
-//! Sizes and offsets of what crosses the boundary, and the header that says them.
+//! The header `wubraken.h` beside the wrapper: structs, numbers, limits and texts.
 
 use std::mem::{align_of, size_of};
 
-use wubraken::raw::{kind, stop, Answer, Served};
+use second::layout::{HEADS, NODE_WORDS};
+use wubraken::raw::{kind, stop, Answer, BatchEnd};
 use wubraken::{Arrival, Refusal, Shape, Worker, LINE};
 
 const HEADER: &str = include_str!("../../include/wubraken.h");
@@ -49,7 +50,7 @@ macro_rules! check {
 }
 
 #[test]
-fn structs() {
+fn structs_are_declared_alike() {
     check!(Shape "wubraken_shape" 32 Shape::default(),
         workers: "uint64_t" at 0, nodes: "uint64_t" at 8,
         buckets: "uint64_t" at 16, width: "uint64_t" at 24);
@@ -64,13 +65,7 @@ fn structs() {
         kind: "uint64_t" at 0, number: "uint64_t" at 8, ticket: "uint64_t" at 16,
         time: "uint64_t" at 24, path: "uint64_t" at 32, order: "uint64_t" at 40,
         distance: "uint64_t" at 48, energy: "uint64_t" at 56);
-    let served = Served {
-        shape: Shape::default(),
-        read: 0,
-        written: 0,
-        stop: 0,
-    };
-    check!(Served "wubraken_served" 56 served,
+    check!(BatchEnd "wubraken_batch_end" 56 BatchEnd::default(),
         shape: "wubraken_shape" at 0, read: "uint64_t" at 32,
         written: "uint64_t" at 40, stop: "uint64_t" at 48);
     assert_eq!(
@@ -81,13 +76,13 @@ fn structs() {
         ],
         [8; 3]
     );
-    assert_eq!((align_of::<Arrival>(), align_of::<Served>()), (4, 8));
+    assert_eq!((align_of::<Arrival>(), align_of::<BatchEnd>()), (4, 8));
 }
 
 /// `BadShape` is `BAD_SHAPE` in C.
-fn in_c(name: &str) -> String {
+fn name_in_c(refusal: &Refusal) -> String {
     let mut c = String::new();
-    for letter in name.chars() {
+    for letter in format!("{refusal:?}").chars() {
         if letter.is_uppercase() && !c.is_empty() {
             c.push('_');
         }
@@ -97,9 +92,9 @@ fn in_c(name: &str) -> String {
 }
 
 #[test]
-fn numbers() {
+fn numbers_and_limits_are_the_same() {
     for refusal in Refusal::ALL {
-        assert_eq!(enumerator(&in_c(&format!("{refusal:?}"))), refusal.number());
+        assert_eq!(enumerator(&name_in_c(refusal)), refusal.number());
     }
     for (name, number) in [
         ("OPEN", kind::OPEN),
@@ -112,7 +107,33 @@ fn numbers() {
         ("DRAINED", stop::DRAINED),
         ("FULL", stop::FULL),
         ("LINE", LINE as u64),
+        ("MAX_WORKERS", Shape::MAX_WORKERS),
+        ("MAX_NODES", Shape::MAX_NODES),
+        ("MAX_BUCKETS", Shape::MAX_BUCKETS),
+        ("MAX_WIDTH", Shape::MAX_WIDTH),
+        ("MAX_PATH", Arrival::MAX_PATH.into()),
+        ("MAX_ORDER", Arrival::MAX_ORDER.into()),
+        ("MAX_DISTANCE", Arrival::MAX_DISTANCE.into()),
     ] {
         assert_eq!(enumerator(name), number, "{name}");
     }
+}
+
+/// The header says of a refusal what the wrapper says.
+#[test]
+fn texts_of_refusals_are_the_same() {
+    for refusal in Refusal::ALL {
+        let case = format!("case WUBRAKEN_{}:\n        return \"", name_in_c(refusal));
+        let (_, rest) = HEADER.split_once(&case).unwrap();
+        let (text, _) = rest.split_once("\";\n").unwrap();
+        let number = refusal.number();
+        assert_eq!(refusal.to_string(), format!("refused by {number}: {text}"));
+    }
+    assert!(HEADER.contains("default:\n        return \"no refusal has this number\";"));
+}
+
+#[test]
+fn words_to_lend_by_macro() {
+    let words = format!("({HEADS} + (buckets) + {NODE_WORDS} * (nodes))\n");
+    assert!(HEADER.contains(&format!("WUBRAKEN_WORDS(nodes, buckets) {words}")));
 }

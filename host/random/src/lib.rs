@@ -1,4 +1,5 @@
 //! A small generator of random numbers: splitmix64.
+#![forbid(unsafe_code)]
 
 #[derive(Clone)]
 pub struct Random(u64);

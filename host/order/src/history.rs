@@ -1,0 +1,91 @@
+//! Calls as they begin and end.
+
+use crate::find_order;
+
+/// One call. Its moments count whatever happens in the history.
+#[derive(Clone, Copy, Debug, PartialEq, Eq)]
+pub struct Call<T> {
+    pub worker: usize,
+    pub ticket: u64,
+    pub kind: Kind<T>,
+    pub start: usize,
+    /// None while the call is unfinished.
+    pub end: Option<End<T>>,
+}
+
+#[derive(Clone, Copy, Debug, PartialEq, Eq)]
+pub enum Kind<T> {
+    /// Of an arrival at a time, and what a take shows of it.
+    Put(u32, T),
+    Take,
+}
+
+/// How a call ended.
+#[derive(Clone, Copy, Debug, PartialEq, Eq)]
+pub struct End<T> {
+    pub at: usize,
+    pub answer: Answer<T>,
+}
+
+#[derive(Clone, Copy, Debug, PartialEq, Eq)]
+pub enum Answer<T> {
+    /// The put with this ticket has ended.
+    Stored(u64),
+    Took(T),
+    Empty,
+}
+
+impl<T> Call<T> {
+    /// The call as it was known after a moment, if it had begun.
+    pub fn known_after(mut self, moment: usize) -> Option<Self> {
+        self.end = self.end.filter(|end| end.at <= moment);
+        (self.start <= moment).then_some(self)
+    }
+}
+
+/// The calls of a pool since its opening, by their start.
+#[derive(Clone, Debug)]
+pub struct History<T> {
+    calls: Vec<Call<T>>,
+}
+
+impl<T> Default for History<T> {
+    fn default() -> Self {
+        Self { calls: Vec::new() }
+    }
+}
+
+impl<T: Copy + PartialEq> History<T> {
+    pub fn calls(&self) -> &[Call<T>] {
+        &self.calls
+    }
+
+    /// A worker begins a call.
+    pub fn begin(&mut self, worker: usize, ticket: u64, kind: Kind<T>, start: usize) {
+        self.calls.push(Call {
+            worker,
+            ticket,
+            kind,
+            start,
+            end: None,
+        });
+    }
+
+    /// A worker's call ends; it has one in progress.
+    pub fn end(&mut self, worker: usize, at: usize, answer: Answer<T>) {
+        let call = self.calls.iter_mut().rfind(|call| call.worker == worker);
+        let call = call.expect("the worker has begun a call");
+        assert!(call.end.is_none(), "the call has ended already");
+        call.end = Some(End { at, answer });
+    }
+
+    pub fn is_busy(&self, worker: usize) -> bool {
+        let last = self.calls.iter().rfind(|call| call.worker == worker);
+        last.map_or(false, |call| call.end.is_none())
+    }
+
+    /// Whether a plain queue gives the answers, in some order.
+    pub fn has_order(&self) -> bool {
+        find_order(&self.calls).is_some()
+    }
+}

@@ -1,0 +1,71 @@
+//! Memory as C hands it in, and the calls on it.
+
+use wubraken::raw::{self, wubraken_dequeue, wubraken_enqueue, wubraken_open, wubraken_step};
+use wubraken::{Arrival, Shape, Worker};
+
+#[derive(Clone, Copy, Debug)]
+pub enum Call {
+    Open,
+    Enqueue(u64, Arrival),
+    Dequeue(u64),
+    Step(u64),
+}
+
+impl Call {
+    /// What a worker may do.
+    pub fn of_worker(worker: u64, arrival: Arrival) -> [Self; 3] {
+        [
+            Self::Enqueue(worker, arrival),
+            Self::Dequeue(worker),
+            Self::Step(worker),
+        ]
+    }
+}
+
+/// Pointers and lengths. A test may claim more than is there, where that is not to
+/// be touched.
+#[derive(Clone, Copy)]
+pub struct Lent {
+    pub store: *mut u64,
+    pub words: usize,
+    pub table: *mut Worker,
+    pub records: usize,
+}
+
+impl Lent {
+    pub fn of(store: &mut [u64], table: &mut [Worker]) -> Self {
+        Self {
+            words: store.len(),
+            store: store.as_mut_ptr(),
+            records: table.len(),
+            table: table.as_mut_ptr(),
+        }
+    }
+
+    pub fn call(self, shape: Shape, call: Call) -> raw::Answer {
+        let (store, words, table, records) = (self.store, self.words, self.table, self.records);
+        // SAFETY: two slices, or as much of them as may be touched.
+        unsafe {
+            match call {
+                Call::Open => wubraken_open(shape, store, words, table, records),
+                Call::Enqueue(worker, arrival) => {
+                    wubraken_enqueue(shape, worker, arrival, store, words, table, records)
+                }
+                Call::Dequeue(worker) => {
+                    wubraken_dequeue(shape, worker, store, words, table, records)
+                }
+                Call::Step(worker) => wubraken_step(shape, worker, store, words, table, records),
+            }
+        }
+    }
+
+    pub fn run_batch(self, shape: Shape, input: &[u8], out: &mut [u8]) -> raw::BatchEnd {
+        let (bytes, room) = (input.len(), out.len());
+        let (input, out) = (input.as_ptr(), out.as_mut_ptr());
+        let (store, words, table, records) = (self.store, self.words, self.table, self.records);
+        // SAFETY: two slices, and as above.
+        unsafe {
+            raw::wubraken_run_batch(shape, input, bytes, out, room, store, words, table, records)
+        }
+    }
+}
