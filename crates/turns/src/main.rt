@@ -9,7 +9,6 @@ ghost use Rattle.laws.specs.MoveFront.{moved};
 ghost use Rattle.turns.specs.TurnsRun.{lent, follows, lastLine, roundOf, atFirst};
 ghost use Rattle.turns.specs.BetweenRounds.{inHand, holding, leaves, Placed};
 ghost use Rattle.turns.specs.RunFollows.{Outcome};
-use arrival::Response;
 use arrival::Shape;
 use arrival::Worker;
 use batch::HeldPool;
@@ -17,7 +16,7 @@ use batch::Stop;
 use batch::run_batch;
 use libc::STDIN_FILENO;
 use libc::STDOUT_FILENO;
-use turn_file::write_line;
+use turn_file::write_refusal;
 
 // What follows a batch: the rest of its bytes, more bytes behind that rest, or the run's end, without a last line or with the line of a refusal.
 enum Next {
@@ -111,7 +110,7 @@ fn close(next: Next, out: &mut [u8], to: usize) -> usize
     ensures { λ r. ⌜ (r ≡ after (now (out .entry)) to (lastLine next)) × (now (out .exit) ≡ written (now (out .entry)) to (lastLine next)) ⌝ }
 {
     match next {
-        Next::Last(k) => write_line(Response::Refused(k), out, to),
+        Next::Last(k) => write_refusal(k, out, to),
         Next::More => to,
         Next::Read => to,
         Next::End => to,

@@ -10,8 +10,8 @@ use Rattle.turns.proofs.close.Tie as tie
 enum-known-next : tie.Need-enum-known-next
 enum-known-next c = search needs
 
-write-line-requires : tie.Need-write-line-requires
-write-line-requires c κs = search needs
+write-refusal-requires : tie.Need-write-refusal-requires
+write-refusal-requires c κs = search needs
 
 enum-told : tie.Need-enum-told
 enum-told c = search needs
@@ -27,7 +27,7 @@ same-length c = search needs
 
 returns : tie.Need-returns
 returns c =
-    let e = c .before .before .write-line .ensures in
+    let e = c .before .before .write-refusal .ensures in
     let same = ap lastLine (sym (c .before .before .before .before .before .next .given .1)) in
     (e .0 ∙ ap (after _ _) same, e .1 ∙ ap (written _ _) same)
 
@@ -45,7 +45,7 @@ close-spec =
     tie.close
     (tie.spec
     enum-known-next
-    write-line-requires
+    write-refusal-requires
     enum-told
     enum-told-2
     enum-told-3
