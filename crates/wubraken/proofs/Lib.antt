@@ -1,4 +1,3 @@
-pub mod Elements
 pub mod Literal
 pub mod Shared
-pub mod Stored
+pub mod Passing

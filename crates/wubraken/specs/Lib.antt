@@ -2,5 +2,4 @@ pub mod Answers
 pub mod Survey
 pub mod LentGate
 pub mod Results
-pub mod LentBatch
 pub mod Cleared

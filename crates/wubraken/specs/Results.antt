@@ -1,12 +1,13 @@
 -- What the by-value functions leave, and that it is what the operations of the pool are defined to give. Assumes nothing.
-use mathlib.Core.Path.{_≡_, refl, ap, _∙_}
+use mathlib.Core.Path.{_≡_, refl, ap, _∙_, subst}
 use mathlib.Core.List.{List, _++_}
 use mathlib.Core.Bool.{Bool, true, false, cond}
+use mathlib.Core.Logic.{_≢_}
 use Prim.Native.Nat.{ℕ}
 use native.Mathlib.Omega.{arith}
 use lib.Dec.{eqb, ltb}
 use lib.ListN.{length, set, drop, replicate}
-use borrow.Author.Tests.{eqb-true, eqb-false, ltb-false, le-ltb}
+use borrow.Author.Tests.{eqb-true, eqb-false, ltb-false, le-ltb, eq-eqb, ne-eqb}
 use Rattle.arrival.specs.declared.Shape.{Shape}
 use Rattle.arrival.specs.declared.Arrival.{Arrival}
 use Rattle.arrival.specs.declared.Worker.{Worker}
@@ -19,11 +20,9 @@ use Rattle.calendar.specs.rules.Opening.{openStore, openTable}
 use Rattle.calendar.specs.rules.Refusals.{openRefusal}
 use Rattle.calendar.specs.rules.Operations.{Memory, Result, actor, act, open-pool}
 use Rattle.words.specs.Done.{Done, refused, unlessRefused}
-use Rattle.stages.specs.LocalStep.{localStep}
-use Rattle.starts.specs.LocalStart.{localEnqueue, localDequeue}
+use Rattle.operation.specs.LocalAct.{localAct, LowFor, back, set-same, act-is}
 use Rattle.admission.specs.Watched.{Watched}
-use Rattle.admission.specs.Gate as admission
-use Rattle.admission.specs.Gate.{soundOf, sound-watched, shape-tests, set-same, back, usable, refused-is, openGate}
+use Rattle.admission.specs.Gate.{soundOf, sound-watched, shape-tests, usable, refused-is, openGate}
 use Rattle.wubraken.specs.declared.table.Survey.{Survey}
 use Rattle.wubraken.specs.declared.records.Opening.{Opening}
 use Rattle.wubraken.specs.declared.records.Handled.{Handled}
@@ -48,33 +47,44 @@ leaves s t a = record { memory = lent s t; answer = a; said = saidBy a }
 abbrev pub told : Result → Told
 told r = record { memory = r .memory; answer = answerOf (r .response); said = said (r .response) }
 
--- the same of one record
-pub record Left : Type 0 where
-  pub store : List ℕ
-  pub worker : Worker
-  pub answer : Answer
+-- the same of one record: store, record and answer are what d has
+abbrev pub Handles : List ℕ → Handled → Done → Type 0
+Handles s r d = (s ≡ d .store) × (r .worker ≡ d .worker) × (r .answer ≡ answerOf (d .response))
 
-abbrev pub left : List ℕ → Handled → Left
-left s r = record { store = s; worker = r .worker; answer = r .answer }
+pub put-back-told : (t : List Worker) (i : ℕ) (s : List ℕ) (r : Handled) (d : Done) → Handles s r d → leaves s (set t i (r .worker)) (r .answer) ≡ told (back t i d)
+put-back-told t i s r d (store, worker, answer) =
+    (λ k. leaves (store k) (set t i (worker k)) (answer k))
+    ∙ (λ k. record { memory = lent (d .store) (set t i (d .worker)); answer = answerOf (d .response); said = answer-said (d .response) k })
 
-abbrev pub coded : Done → Left
-coded d = record { store = d .store; worker = d .worker; answer = answerOf (d .response) }
+-- ── the operation on a record ──
+-- by the kind that the code hands on: 0 a put, 1 a take, otherwise a turn, of worker i
+abbrev pub actionOf : ℕ → ℕ → Arrival → Action
+actionOf kind i x = cond (eqb kind 0) (Enqueue i x) (cond (eqb kind 1) (Dequeue i) (Step i))
 
-abbrev pub put-back : List Worker → ℕ → Left → Told
-put-back t i d = leaves (d .store) (set t i (d .worker)) (d .answer)
+abbrev pub noArrival : Arrival
+noArrival = record { time = 0; path = 0; order = 0; distance = 0 }
 
-pub put-back-told : (t : List Worker) (i : ℕ) (d : Done) → put-back t i (coded d) ≡ told (back t i d)
-put-back-told t i d = λ k. record { memory = lent (d .store) (set t i (d .worker)); answer = answerOf (d .response); said = answer-said (d .response) k }
+pub actor-of : (kind i : ℕ) (x : Arrival) → actor (actionOf kind i x) ≡ i
+actor-of kind i x = go (eqb kind 0) (eqb kind 1)
+  where
+    go : (a b : Bool) → actor (cond a (Enqueue i x) (cond b (Dequeue i) (Step i))) ≡ i
+    go true b = refl
+    go false true = refl
+    go false false = refl
 
--- ── the operations on a record ──
-unfoldable pub enqueueOn : Shape → ℕ → Arrival → ℕ → Survey → List ℕ → Worker → Done
-enqueueOn sh i x n a s w = unlessRefused (gateOn sh s i n (a .ok)) s w (localEnqueue sh (a .low) s x w)
+-- refused by 1 to 4, or done, with n records lent
+unfoldable pub actOn : Shape → Action → ℕ → Survey → List ℕ → Worker → Done
+actOn sh a n seen s w = unlessRefused (gateOn sh s (actor a) n (seen .ok)) s w (localAct sh (seen .low) s a w)
 
-unfoldable pub dequeueOn : Shape → ℕ → ℕ → Survey → List ℕ → Worker → Done
-dequeueOn sh i n a s w = unlessRefused (gateOn sh s i n (a .ok)) s w (localDequeue sh s w)
+-- by what the gate said of worker i
+module _ (sh : Shape) (kind i : ℕ) (x : Arrival) (n : ℕ) (seen : Survey) (s : List ℕ) (w : Worker) (k : ℕ) (is : k ≡ gateOn sh s i n (seen .ok)) where
+  pub refused-on : k ≢ 0 → refused s w k ≡ actOn sh (actionOf kind i x) n seen s w
+  unfolding actOn
+  refused-on h = rw (actor-of kind i x, ← is, ne-eqb k 0 h)
 
-unfoldable pub stepOn : Shape → ℕ → ℕ → Survey → List ℕ → Worker → Done
-stepOn sh i n a s w = unlessRefused (gateOn sh s i n (a .ok)) s w (localStep sh s w)
+  pub done-on : k ≡ 0 → localAct sh (seen .low) s (actionOf kind i x) w ≡ actOn sh (actionOf kind i x) n seen s w
+  unfolding actOn
+  done-on z = rw (actor-of kind i x, ← is, eq-eqb k 0 z)
 
 module _ (sh : Shape) (s : List ℕ) (t : List Worker) where
   abbrev found : Survey
@@ -92,32 +102,24 @@ module _ (sh : Shape) (s : List ℕ) (t : List Worker) where
   abbrev gate : ℕ → ℕ
   gate i = gateOn sh s i (length t) (survey sh t .ok)
 
-  -- an action is refused by the gate, or is what the record's own function gives
-  gated : (a : Action) (d : Done) → (gate (actor a) ≡ 0 → back t (actor a) d ≡ act sh (record { store = s; table = t }) a)
-      → back t (actor a) (unlessRefused (gate (actor a)) s (worker t (actor a)) d) ≡ act sh (record { store = s; table = t }) a
+  -- the look at the table gives the least ticket
+  low-for : (a : Action) → gate (actor a) ≡ 0 → LowFor sh t a (survey sh t .low)
   unfolding gateOn
-  gated a d h = go (eqb (gate (actor a)) 0) refl
+  low-for (Enqueue i x) z =
+      let l = usable sh m sound W i z .lent in
+      survey-low-is sh t (shape-tests sh (l .limits)) (le-ltb (length t) (sh .workers) (l .table))
+  low-for (Dequeue i) z = tt
+  low-for (Step i) z = tt
+
+  pub acted : (a : Action) → back t (actor a) (actOn sh a (length t) (survey sh t) s (worker t (actor a))) ≡ act sh (lent s t) a
+  unfolding actOn gateOn
+  acted a = go (eqb (gate (actor a)) 0) refl
     where
-      go : (b : Bool) → eqb (gate (actor a)) 0 ≡ b → back t (actor a) (cond b d (refused s (worker t (actor a)) (gate (actor a)))) ≡ act sh (record { store = s; table = t }) a
-      go true e = h (eqb-true _ 0 e)
+      go : (b : Bool) → eqb (gate (actor a)) 0 ≡ b → back t (actor a) (cond b (localAct sh (survey sh t .low) s a (worker t (actor a))) (refused s (worker t (actor a)) (gate (actor a)))) ≡ act sh (record { store = s; table = t }) a
+      go true e = act-is sh m sound W a (survey sh t .low) (low-for a (eqb-true _ 0 e)) (eqb-true _ 0 e)
       go false e =
           ap (λ (u : List Worker). record { memory = lent s u; response = Refused (gate (actor a)) }) (set-same t (actor a))
           ∙ refused-is sh m sound W a (eqb-false _ 0 e)
-
-  pub dequeue-is : (i : ℕ) → back t i (dequeueOn sh i (length t) (survey sh t) s (worker t i)) ≡ act sh (lent s t) (Dequeue i)
-  unfolding dequeueOn gateOn
-  dequeue-is i = gated (Dequeue i) (localDequeue sh s (worker t i)) (λ z. admission.dequeue-is sh m sound W i z)
-
-  pub step-is : (i : ℕ) → back t i (stepOn sh i (length t) (survey sh t) s (worker t i)) ≡ act sh (lent s t) (Step i)
-  unfolding stepOn gateOn
-  step-is i = gated (Step i) (localStep sh s (worker t i)) (λ z. admission.step-is sh m sound W i z)
-
-  pub enqueue-is : (i : ℕ) (x : Arrival) → back t i (enqueueOn sh i x (length t) (survey sh t) s (worker t i)) ≡ act sh (lent s t) (Enqueue i x)
-  unfolding enqueueOn gateOn
-  enqueue-is i x = gated (Enqueue i x) (localEnqueue sh (found .low) s x (worker t i)) (λ z.
-      let l = usable sh m sound W i z .lent in
-      ap (λ (n : ℕ). back t i (localEnqueue sh n s x (worker t i))) (survey-low-is sh t (shape-tests sh (l .limits)) (le-ltb (length t) (sh .workers) (l .table)))
-      ∙ admission.enqueue-is sh m sound W i x z)
 
   -- past the records that were looked at there is no worker, or the gate refuses anyway
   pub away-is : (a : Action) → ltb (actor a) (survey sh t .records) ≡ false → leaves s t (answerOf (Refused (gateOn sh s (actor a) (length t) (survey sh t .ok)))) ≡ told (act sh (lent s t) a)
@@ -126,6 +128,18 @@ module _ (sh : Shape) (s : List ℕ) (t : List Worker) where
       let p = usable sh m sound W (actor a) z in
       let all : surveyed sh (length t) ≡ sh .workers = rw (shape-tests sh (p .lent .limits), le-ltb (length t) (sh .workers) (p .lent .table)) in
       omega (arith, ltb-false (actor a) (survey sh t .records) beyond, survey-records sh t (surveyed sh (length t)) (surveyed sh (length t)), all, p .exists)))
+
+  -- both, of worker i
+  pub acted-of : (kind i : ℕ) (x : Arrival) → back t i (actOn sh (actionOf kind i x) (length t) (survey sh t) s (worker t i)) ≡ act sh (lent s t) (actionOf kind i x)
+  acted-of kind i x =
+      subst (λ (j : ℕ). back t j (actOn sh (actionOf kind i x) (length t) (survey sh t) s (worker t j)) ≡ act sh (lent s t) (actionOf kind i x)) (actor-of kind i x)
+      (acted (actionOf kind i x))
+
+  pub away-of : (kind i : ℕ) (x : Arrival) → ltb i (survey sh t .records) ≡ false
+      → leaves s t (answerOf (Refused (gateOn sh s i (length t) (survey sh t .ok)))) ≡ told (act sh (lent s t) (actionOf kind i x))
+  away-of kind i x =
+      subst (λ (j : ℕ). ltb j (survey sh t .records) ≡ false → leaves s t (answerOf (Refused (gateOn sh s j (length t) (survey sh t .ok)))) ≡ told (act sh (lent s t) (actionOf kind i x)))
+      (actor-of kind i x) (away-is (actionOf kind i x))
 
 -- ── opening ──
 -- what opening the store gives: how many records are to be cleared, the response, the store

@@ -1,36 +1,26 @@
-// The library for hosts: entry points over lent memory, whatever it holds, for C and Rust to call. A start or turn copies one record out, calls a function
-// by value, and stores the record back; a batch does so with those of the shape at hand and those that its openings clear.
+// The library for hosts, single calls: entry points over lent memory, whatever it holds, for C and Rust to call. A start or turn copies one record out,
+// calls a function by value, and stores the record back.
 ghost use mathlib.Core.Path.{_≡_};
 ghost use mathlib.Core.Bool.{cond};
 ghost use Rattle.arrival.specs.declared.Action.the-variants.{Enqueue, Dequeue, Step};
 ghost use Rattle.calendar.specs.rules.Layout.{layout};
 ghost use Rattle.calendar.specs.rules.Ranges.{shapeInRange};
 ghost use Rattle.calendar.specs.rules.Operations.{act, open-pool};
-ghost use Rattle.wubraken.specs.Results.{lent, leaves, told};
-ghost use Rattle.wubraken.specs.LentBatch.{account, batchOn};
+ghost use Rattle.wubraken.specs.Results.{lent, leaves, told, actionOf};
 use admission::ranges::shape_in_range;
 use answers::Answer;
 use arrival::Arrival;
 use arrival::Shape;
 use arrival::Worker;
-use batches::BatchEnd;
-use batches::records_counted;
-use batches::run_held;
-use copies::copy_back;
-use copies::copy_out;
-use records::dequeue_record;
-use records::enqueue_record;
+use records::NO_ARRIVAL;
+use records::act_on_record;
 use records::open_words;
-use records::step_record;
 use records::turn_away;
 use table::clear_table;
-use table::records_surveyed;
 use table::survey_table;
 use words::layout_words;
 
 pub mod answers;
-pub mod batches;
-pub mod copies;
 pub mod records;
 pub mod table;
 
@@ -56,6 +46,29 @@ pub extern "C" fn wubraken_open(shape: Shape, store: &mut [u64], table: &mut [Wo
     opened.answer
 }
 
+// What is asked of worker i, by its kind: its record is copied out, worked on by value, and stored back.
+pub fn act_lent(
+    shape: Shape,
+    kind: u64,
+    i: usize,
+    arrival: Arrival,
+    store: &mut [u64],
+    table: &mut [Worker],
+) -> Answer
+    ensures { λ r. ⌜ leaves (now (store .exit)) (now (table .exit)) r ≡ told (act shape (lent (now (store .entry)) (now (table .entry))) (actionOf kind i arrival)) ⌝ }
+{
+    let n = table.len();
+    let seen = survey_table(shape, table);
+    if i < seen.records {
+        let w = table[i];
+        let r = act_on_record(shape, kind, i, arrival, n, seen, w, store);
+        table[i] = r.worker;
+        return r.answer;
+    } else {
+        return turn_away(shape, i, n, seen, store);
+    }
+}
+
 // A put start of worker i.
 #[no_mangle]
 pub extern "C" fn wubraken_enqueue(
@@ -67,16 +80,7 @@ pub extern "C" fn wubraken_enqueue(
 ) -> Answer
     ensures { λ r. ⌜ leaves (now (store .exit)) (now (table .exit)) r ≡ told (act shape (lent (now (store .entry)) (now (table .entry))) (Enqueue i arrival)) ⌝ }
 {
-    let n = table.len();
-    let seen = survey_table(shape, table);
-    if i < seen.records {
-        let w = table[i];
-        let r = enqueue_record(shape, i, arrival, n, seen, w, store);
-        table[i] = r.worker;
-        return r.answer;
-    } else {
-        return turn_away(shape, i, n, seen, store);
-    }
+    act_lent(shape, 0, i, arrival, store, table)
 }
 
 // A take start of worker i.
@@ -89,16 +93,7 @@ pub extern "C" fn wubraken_dequeue(
 ) -> Answer
     ensures { λ r. ⌜ leaves (now (store .exit)) (now (table .exit)) r ≡ told (act shape (lent (now (store .entry)) (now (table .entry))) (Dequeue i)) ⌝ }
 {
-    let n = table.len();
-    let seen = survey_table(shape, table);
-    if i < seen.records {
-        let w = table[i];
-        let r = dequeue_record(shape, i, n, seen, w, store);
-        table[i] = r.worker;
-        return r.answer;
-    } else {
-        return turn_away(shape, i, n, seen, store);
-    }
+    act_lent(shape, 1, i, NO_ARRIVAL, store, table)
 }
 
 // A turn of worker i.
@@ -111,33 +106,5 @@ pub extern "C" fn wubraken_step(
 ) -> Answer
     ensures { λ r. ⌜ leaves (now (store .exit)) (now (table .exit)) r ≡ told (act shape (lent (now (store .entry)) (now (table .entry))) (Step i)) ⌝ }
 {
-    let n = table.len();
-    let seen = survey_table(shape, table);
-    if i < seen.records {
-        let w = table[i];
-        let r = step_record(shape, i, n, seen, w, store);
-        table[i] = r.worker;
-        return r.answer;
-    } else {
-        return turn_away(shape, i, n, seen, store);
-    }
-}
-
-// Works through a batch of turn-file bytes and writes the lines. The lent memory is looked at once, not for every record.
-#[no_mangle]
-pub extern "C" fn wubraken_run_batch(
-    shape: Shape,
-    input: &[u8],
-    out: &mut [u8],
-    store: &mut [u64],
-    table: &mut [Worker],
-) -> BatchEnd
-    ensures { λ r. ⌜ account (now (store .exit)) (now (table .exit)) (now (out .exit)) r ≡ batchOn shape (now (store .entry)) (now (table .entry)) (now (input .entry)) (now (out .entry)) ⌝ }
-{
-    let n = records_counted(table.len());
-    let k = records_surveyed(shape, n);
-    let held = copy_out(table, k);
-    let r = run_held(shape, n, held, input, out, store);
-    copy_back(table, r.table, r.held);
-    r.ending
+    act_lent(shape, 2, i, NO_ARRIVAL, store, table)
 }

@@ -1,24 +1,24 @@
-// The operations on one record: refusals 1 to 4, then the by-value core.
+// An operation on one record: refusals 1 to 4, by a look at every field, then `operation::perform`; and opening.
 ghost use mathlib.Core.Path.{_≡_};
 ghost use Prim.Native.Nat.{_≤_};
 ghost use Rattle.arrival.specs.declared.Response.the-variants.{Refused};
 ghost use Rattle.wubraken.specs.Answers.{answerOf};
 ghost use Rattle.wubraken.specs.Survey.{Surveyed};
 ghost use Rattle.wubraken.specs.LentGate.{gateOn};
-ghost use Rattle.wubraken.specs.Results.{left, coded, enqueueOn, dequeueOn, stepOn, opensWords};
+ghost use Rattle.wubraken.specs.Results.{Handles, actionOf, actOn, opensWords};
 use super::answers::Answer;
 use super::answers::answer_of;
 use super::table::Survey;
 use admission::gate;
 use admission::is_sound;
 use admission::open_gate;
+use arrival::Action;
 use arrival::Arrival;
 use arrival::Response;
 use arrival::Shape;
 use arrival::Worker;
+use operation::perform;
 use starts::opening::open_store;
-use starts::start_dequeue;
-use starts::start_enqueue;
 
 // What an operation leaves of a record, and its answer.
 pub struct Handled {
@@ -43,8 +43,31 @@ pub fn turn_away(shape: Shape, i: usize, n: usize, seen: Survey, store: &mut [u6
     answer_of(Response::Refused(k))
 }
 
-pub fn enqueue_record(
+// Stands in for the arrival where none is asked for.
+pub const NO_ARRIVAL: Arrival = Arrival {
+    time: 0,
+    path: 0,
+    order: 0,
+    distance: 0,
+};
+
+// What is asked of worker i, by its kind: 0 a put, 1 a take, otherwise a turn.
+fn action_of(kind: u64, i: usize, arrival: Arrival) -> Action
+    ensures { λ r. ⌜ r ≡ actionOf kind i arrival ⌝ }
+{
+    if kind == 0 {
+        return Action::Enqueue(i as u64, arrival);
+    }
+    if kind == 1 {
+        return Action::Dequeue(i as u64);
+    }
+    Action::Step(i as u64)
+}
+
+// The same of worker i's record w.
+pub fn act_on_record(
     shape: Shape,
+    kind: u64,
     i: usize,
     arrival: Arrival,
     n: usize,
@@ -53,62 +76,17 @@ pub fn enqueue_record(
     store: &mut [u64],
 ) -> Handled
     requires { ⌜ Surveyed shape i seen w ⌝ }
-    ensures { λ r. ⌜ left (now (store .exit)) r ≡ coded (enqueueOn shape i arrival n seen (now (store .entry)) w) ⌝ }
+    ensures { λ r. ⌜ Handles (now (store .exit)) r (actOn shape (actionOf kind i arrival) n seen (now (store .entry)) w) ⌝ }
 {
     let k = gate_on(shape, i, n, seen, store);
     if k != 0 {
         let answer = answer_of(Response::Refused(k));
         return Handled { worker: w, answer };
     }
-    let begun = start_enqueue(shape, seen.low, arrival, w, store);
-    let worker = begun.worker;
-    let response = begun.response;
-    let answer = answer_of(response);
-    Handled { worker, answer }
-}
-
-pub fn dequeue_record(
-    shape: Shape,
-    i: usize,
-    n: usize,
-    seen: Survey,
-    w: Worker,
-    store: &mut [u64],
-) -> Handled
-    requires { ⌜ Surveyed shape i seen w ⌝ }
-    ensures { λ r. ⌜ left (now (store .exit)) r ≡ coded (dequeueOn shape i n seen (now (store .entry)) w) ⌝ }
-{
-    let k = gate_on(shape, i, n, seen, store);
-    if k != 0 {
-        let answer = answer_of(Response::Refused(k));
-        return Handled { worker: w, answer };
-    }
-    let begun = start_dequeue(shape, w, store);
-    let worker = begun.worker;
-    let response = begun.response;
-    let answer = answer_of(response);
-    Handled { worker, answer }
-}
-
-pub fn step_record(
-    shape: Shape,
-    i: usize,
-    n: usize,
-    seen: Survey,
-    w: Worker,
-    store: &mut [u64],
-) -> Handled
-    requires { ⌜ Surveyed shape i seen w ⌝ }
-    ensures { λ r. ⌜ left (now (store .exit)) r ≡ coded (stepOn shape i n seen (now (store .entry)) w) ⌝ }
-{
-    let k = gate_on(shape, i, n, seen, store);
-    if k != 0 {
-        let answer = answer_of(Response::Refused(k));
-        return Handled { worker: w, answer };
-    }
-    let stepped = stages::step(shape, w, store);
-    let worker = stepped.worker;
-    let response = stepped.response;
+    let action = action_of(kind, i, arrival);
+    let reply = perform(shape, seen.low, action, w, store);
+    let worker = reply.worker;
+    let response = reply.response;
     let answer = answer_of(response);
     Handled { worker, answer }
 }

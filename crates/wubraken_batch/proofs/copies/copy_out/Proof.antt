@@ -54,18 +54,18 @@ use Rattle.arrival.specs.declared.Worker.{Worker}
 use Rattle.calendar.specs.rules.Ranges.{blank}
 use Rattle.arrival.proofs.Worker as T
 use Rattle.arrival.proofs.Worker.Laws as T′
-use Rattle.wubraken.proofs.Elements.{apart, joined}
-use Rattle.wubraken.proofs.Stored as stored
-use Rattle.wubraken.proofs.Stored.{storedOf}
-use Rattle.wubraken.proofs.copies.idle_records as idle
-use Rattle.wubraken.proofs.copies.idle_records.Symbol as idle-def
-use Rattle.wubraken.proofs.copies.idle_records.Symbol.{name as #idle}
-use Rattle.wubraken.proofs.copies.idle_records.Met as idle-thm
-use Rattle.wubraken.proofs.copies.copy_out.Key.{name as #key}
-use Rattle.wubraken.proofs.copies.copy_out as f
-use Rattle.wubraken.proofs.copies.copy_out.Statement as stated
-use Rattle.wubraken.proofs.copies.copy_out.Code as code
-use Rattle.wubraken.proofs.copies.copy_out.Code.Mir as mir
+use Rattle.wubraken_batch.proofs.Elements.{apart, joined}
+use Rattle.wubraken_batch.proofs.Stored as stored
+use Rattle.wubraken_batch.proofs.Stored.{storedOf}
+use Rattle.wubraken_batch.proofs.copies.idle_records as idle
+use Rattle.wubraken_batch.proofs.copies.idle_records.Symbol as idle-def
+use Rattle.wubraken_batch.proofs.copies.idle_records.Symbol.{name as #idle}
+use Rattle.wubraken_batch.proofs.copies.idle_records.Met as idle-thm
+use Rattle.wubraken_batch.proofs.copies.copy_out.Key.{name as #key}
+use Rattle.wubraken_batch.proofs.copies.copy_out as f
+use Rattle.wubraken_batch.proofs.copies.copy_out.Statement as stated
+use Rattle.wubraken_batch.proofs.copies.copy_out.Code as code
+use Rattle.wubraken_batch.proofs.copies.copy_out.Code.Mir as mir
 
 abbrev stayed : Stays (f.ended .signature .params) (f.ended .kept)
 stayed = (stay-none-slice (0 ∷ []) tt (plain (λ _. T.the-row)) yes, (stay-none (λ _. usize) yes, tt))
@@ -285,4 +285,4 @@ copy-out-spec 𝓤 H 𝓜 𝓖 𝓡 =
     entered 𝓤 H (tripleOf 𝓤 H (𝓖 .A) f.signature (f.spec 𝓤 H (𝓖 .A) (𝓜 .mem) (𝓡 .run)))
     (tables 𝓤 H 𝓜 𝓡 code.env .C) (tables 𝓤 H 𝓜 𝓡 code.env .Λ) #key code.function (code.unfolded 𝓤 H 𝓜 𝓡)
     (meets 𝓤 H (𝓖 .A) (givenOf 𝓤 H 𝓜 𝓖) (𝓜 .mem) (𝓡 .run) (tablesOf 𝓤 H 𝓜 (tables 𝓤 H 𝓜 𝓡 code.env))
-    (cited 𝓤 H (Idle 𝓤 H (𝓖 .A) (𝓜 .mem) (𝓡 .run)) 𝓜 𝓡 code.env #idle idle-def.routine code.calls-wubraken·copies·idle-records (idle-thm.met 𝓤 H 𝓜 𝓖 𝓡)))
+    (cited 𝓤 H (Idle 𝓤 H (𝓖 .A) (𝓜 .mem) (𝓡 .run)) 𝓜 𝓡 code.env #idle idle-def.routine code.calls-wubraken-batch·copies·idle-records (idle-thm.met 𝓤 H 𝓜 𝓖 𝓡)))

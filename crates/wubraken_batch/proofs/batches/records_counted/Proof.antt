@@ -1,7 +1,7 @@
 -- At most 64. Assumes nothing.
 use borrow.Author.Tests.{lt-ltb, le-ltb}
-use Rattle.wubraken.proofs.batches.records_counted.Statement.{statement}
-use Rattle.wubraken.proofs.batches.records_counted.Tie as tie
+use Rattle.wubraken_batch.proofs.batches.records_counted.Statement.{statement}
+use Rattle.wubraken_batch.proofs.batches.records_counted.Tie as tie
 
 returns : tie.Need-returns
 returns c = rw (lt-ltb (c .before .args .n) 64 (c .if1 .taken))

@@ -9,12 +9,12 @@ use Rattle.admission.specs.Watched.{Watched}
 use Rattle.admission.specs.Gate.{soundOf, sound-opens}
 use Rattle.batch.specs.Held.{heldAll}
 use Rattle.batch.specs.BatchLoop.{at-work}
 use Rattle.wubraken.specs.Survey.{surveyed, surveyed-bound, surveyed-shape}
-use Rattle.wubraken.specs.LentBatch.{Account, batchOn, heldOn, stopNumber, accountOf, heldInRange, held-watched}
+use Rattle.wubraken_batch.specs.LentBatch.{Account, batchOn, heldOn, stopNumber, accountOf, heldInRange, held-watched}
 use Rattle.wubraken.specs.Results.{lent}
 use borrow.Author.Needs.{needs}
-use Rattle.wubraken.proofs.batches.run_held.Statement.{statement}
-use Rattle.wubraken.proofs.batches.run_held.Tie as tie
+use Rattle.wubraken_batch.proofs.batches.run_held.Statement.{statement}
+use Rattle.wubraken_batch.proofs.batches.run_held.Tie as tie
 
 records-surveyed-requires : tie.Need-records-surveyed-requires
 records-surveyed-requires c κs = search needs

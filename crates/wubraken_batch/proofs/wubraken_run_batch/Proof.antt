@@ -46,43 +46,43 @@ use Rattle.arrival.specs.declared.Shape.{Shape}
 use Rattle.arrival.specs.declared.Worker.{Worker}
 use Rattle.batch.specs.RecordsCounted.{countedOf, counted-bound}
 use Rattle.calendar.specs.rules.Ranges.{blank}
 use Rattle.wubraken.specs.Survey.{surveyed}
-use Rattle.wubraken.specs.declared.batches.BatchEnd.{BatchEnd}
-use Rattle.wubraken.specs.declared.batches.HeldBatch.{HeldBatch}
-use Rattle.wubraken.specs.LentBatch.{account, batchOn, heldOn, copied-bound, back-bound, batch-is}
+use Rattle.wubraken_batch.specs.declared.batches.BatchEnd.{BatchEnd}
+use Rattle.wubraken_batch.specs.declared.batches.HeldBatch.{HeldBatch}
+use Rattle.wubraken_batch.specs.LentBatch.{account, batchOn, heldOn, copied-bound, back-bound, batch-is}
 use Rattle.arrival.proofs.Shape as Sh
 use Rattle.arrival.proofs.Shape.Laws as Sh′
 use Rattle.arrival.proofs.Worker as T
 use Rattle.arrival.proofs.Worker.Laws as T′
-use Rattle.wubraken.proofs.batches.BatchEnd as Sd
-use Rattle.wubraken.proofs.batches.BatchEnd.Laws as Sd′
-use Rattle.wubraken.proofs.batches.HeldBatch as St
-use Rattle.wubraken.proofs.batches.HeldBatch.Laws as St′
+use Rattle.wubraken_batch.proofs.batches.BatchEnd as Sd
+use Rattle.wubraken_batch.proofs.batches.BatchEnd.Laws as Sd′
+use Rattle.wubraken_batch.proofs.batches.HeldBatch as St
+use Rattle.wubraken_batch.proofs.batches.HeldBatch.Laws as St′
 use Rattle.wubraken.proofs.Shared.{LentShared, lends-shared, comes-back-shared}
-use Rattle.wubraken.proofs.batches.records_counted as count
-use Rattle.wubraken.proofs.batches.records_counted.Symbol as count-def
-use Rattle.wubraken.proofs.batches.records_counted.Symbol.{name as #count}
-use Rattle.wubraken.proofs.batches.records_counted.Met as count-thm
+use Rattle.wubraken_batch.proofs.batches.records_counted as count
+use Rattle.wubraken_batch.proofs.batches.records_counted.Symbol as count-def
+use Rattle.wubraken_batch.proofs.batches.records_counted.Symbol.{name as #count}
+use Rattle.wubraken_batch.proofs.batches.records_counted.Met as count-thm
 use Rattle.wubraken.proofs.table.records_surveyed as workers
 use Rattle.wubraken.proofs.table.records_surveyed.Symbol as workers-def
 use Rattle.wubraken.proofs.table.records_surveyed.Symbol.{name as #workers}
 use Rattle.wubraken.proofs.table.records_surveyed.Met as workers-thm
-use Rattle.wubraken.proofs.copies.copy_out as out
-use Rattle.wubraken.proofs.copies.copy_out.Symbol as out-def
-use Rattle.wubraken.proofs.copies.copy_out.Symbol.{name as #out}
-use Rattle.wubraken.proofs.copies.copy_out.Met as out-thm
-use Rattle.wubraken.proofs.batches.run_held as work
-use Rattle.wubraken.proofs.batches.run_held.Symbol as work-def
-use Rattle.wubraken.proofs.batches.run_held.Symbol.{name as #work}
-use Rattle.wubraken.proofs.batches.run_held.Met as work-thm
-use Rattle.wubraken.proofs.copies.copy_back as back
-use Rattle.wubraken.proofs.copies.copy_back.Symbol as back-def
-use Rattle.wubraken.proofs.copies.copy_back.Symbol.{name as #back}
-use Rattle.wubraken.proofs.copies.copy_back.Met as back-thm
-use Rattle.wubraken.proofs.wubraken_run_batch.Key.{name as #key}
-use Rattle.wubraken.proofs.wubraken_run_batch as f
-use Rattle.wubraken.proofs.wubraken_run_batch.Statement as stated
-use Rattle.wubraken.proofs.wubraken_run_batch.Code as code
+use Rattle.wubraken_batch.proofs.copies.copy_out as out
+use Rattle.wubraken_batch.proofs.copies.copy_out.Symbol as out-def
+use Rattle.wubraken_batch.proofs.copies.copy_out.Symbol.{name as #out}
+use Rattle.wubraken_batch.proofs.copies.copy_out.Met as out-thm
+use Rattle.wubraken_batch.proofs.batches.run_held as work
+use Rattle.wubraken_batch.proofs.batches.run_held.Symbol as work-def
+use Rattle.wubraken_batch.proofs.batches.run_held.Symbol.{name as #work}
+use Rattle.wubraken_batch.proofs.batches.run_held.Met as work-thm
+use Rattle.wubraken_batch.proofs.copies.copy_back as back
+use Rattle.wubraken_batch.proofs.copies.copy_back.Symbol as back-def
+use Rattle.wubraken_batch.proofs.copies.copy_back.Symbol.{name as #back}
+use Rattle.wubraken_batch.proofs.copies.copy_back.Met as back-thm
+use Rattle.wubraken_batch.proofs.wubraken_run_batch.Key.{name as #key}
+use Rattle.wubraken_batch.proofs.wubraken_run_batch as f
+use Rattle.wubraken_batch.proofs.wubraken_run_batch.Statement as stated
+use Rattle.wubraken_batch.proofs.wubraken_run_batch.Code as code
 
 abbrev stayed : Stays (f.ended .signature .params) (f.ended .kept)
 stayed = (stay-dropped (plain (λ _. Sh.the-row)) yes, (stay-dropped (shrSliceOf (0 ∷ []) tt (plain (λ _. u8))) yes, (gave-slice (1 ∷ []) tt (plain (λ _. u8)), (gave-slice (2 ∷ []) tt (plain (λ _. u64)), (gave-slice (3 ∷ []) tt (plain (λ _. T.the-row)), tt)))))
@@ -381,8 +381,8 @@ wubraken-run-batch-spec 𝓤 H 𝓜 𝓖 𝓡 =
     entered 𝓤 H (tripleOf 𝓤 H (𝓖 .A) f.signature (f.spec 𝓤 H (𝓖 .A) (𝓜 .mem) (𝓡 .run)))
     (tables 𝓤 H 𝓜 𝓡 code.env .C) (tables 𝓤 H 𝓜 𝓡 code.env .Λ) #key code.function (code.unfolded 𝓤 H 𝓜 𝓡)
     (meets 𝓤 H (𝓖 .A) (givenOf 𝓤 H 𝓜 𝓖) (𝓜 .mem) (𝓡 .run) (tablesOf 𝓤 H 𝓜 (tables 𝓤 H 𝓜 𝓡 code.env))
-    (cited 𝓤 H (Count 𝓤 H (𝓖 .A) (𝓜 .mem) (𝓡 .run)) 𝓜 𝓡 code.env #count count-def.routine code.calls-wubraken·batches·records-counted (count-thm.met 𝓤 H 𝓜 𝓖 𝓡))
+    (cited 𝓤 H (Count 𝓤 H (𝓖 .A) (𝓜 .mem) (𝓡 .run)) 𝓜 𝓡 code.env #count count-def.routine code.calls-wubraken-batch·batches·records-counted (count-thm.met 𝓤 H 𝓜 𝓖 𝓡))
     (cited 𝓤 H (Workers 𝓤 H (𝓖 .A) (𝓜 .mem) (𝓡 .run)) 𝓜 𝓡 code.env #workers workers-def.routine code.calls-wubraken·table·records-surveyed (workers-thm.met 𝓤 H 𝓜 𝓖 𝓡))
-    (cited 𝓤 H (Out 𝓤 H (𝓖 .A) (𝓜 .mem) (𝓡 .run)) 𝓜 𝓡 code.env #out out-def.routine code.calls-wubraken·copies·copy-out (out-thm.met 𝓤 H 𝓜 𝓖 𝓡))
-    (cited 𝓤 H (Work 𝓤 H (𝓖 .A) (𝓜 .mem) (𝓡 .run)) 𝓜 𝓡 code.env #work work-def.routine code.calls-wubraken·batches·run-held (work-thm.met 𝓤 H 𝓜 𝓖 𝓡))
-    (cited 𝓤 H (Back 𝓤 H (𝓖 .A) (𝓜 .mem) (𝓡 .run)) 𝓜 𝓡 code.env #back back-def.routine code.calls-wubraken·copies·copy-back (back-thm.met 𝓤 H 𝓜 𝓖 𝓡)))
+    (cited 𝓤 H (Out 𝓤 H (𝓖 .A) (𝓜 .mem) (𝓡 .run)) 𝓜 𝓡 code.env #out out-def.routine code.calls-wubraken-batch·copies·copy-out (out-thm.met 𝓤 H 𝓜 𝓖 𝓡))
+    (cited 𝓤 H (Work 𝓤 H (𝓖 .A) (𝓜 .mem) (𝓡 .run)) 𝓜 𝓡 code.env #work work-def.routine code.calls-wubraken-batch·batches·run-held (work-thm.met 𝓤 H 𝓜 𝓖 𝓡))
+    (cited 𝓤 H (Back 𝓤 H (𝓖 .A) (𝓜 .mem) (𝓡 .run)) 𝓜 𝓡 code.env #back back-def.routine code.calls-wubraken-batch·copies·copy-back (back-thm.met 𝓤 H 𝓜 𝓖 𝓡)))

@@ -6,9 +6,9 @@ use native.Mathlib.Omega.{arith}
 use Rattle.laws.specs.Every.{every, every-none, every-step}
 use Rattle.calendar.specs.rules.Ranges.{blank, worker, recordInRange}
 use Rattle.calendar.specs.facts.RangeFacts.{limits}
-use Rattle.wubraken.specs.LentBatch.{heldInRange}
-use Rattle.wubraken.proofs.batches.held_in_range.Statement.{statement}
-use Rattle.wubraken.proofs.batches.held_in_range.Tie as tie
+use Rattle.wubraken_batch.specs.LentBatch.{heldInRange}
+use Rattle.wubraken_batch.proofs.batches.held_in_range.Statement.{statement}
+use Rattle.wubraken_batch.proofs.batches.held_in_range.Tie as tie
 
 abbrev Inv-loop : tie.InvT-loop
 Inv-loop shape n table ok₀ k₀ ok k = (k ≤ n) × (ok ≡ every k (λ i. recordInRange shape (worker table i)))

@@ -1,8 +1,8 @@
 -- 64 idle records. Assumes nothing.
 use borrow.Author.Needs.{needs}
 use Rattle.calendar.specs.rules.Ranges.{blank}
-use Rattle.wubraken.proofs.copies.idle_records.Statement.{statement}
-use Rattle.wubraken.proofs.copies.idle_records.Tie as tie
+use Rattle.wubraken_batch.proofs.copies.idle_records.Statement.{statement}
+use Rattle.wubraken_batch.proofs.copies.idle_records.Tie as tie
 
 returns : tie.Need-returns
 unfolding blank

@@ -1,4 +1,4 @@
--- A batch on lent memory, in numbers; that records it does not hold do not matter and are kept, so that it may be ending on a copy of the others. Assumes nothing.
+-- A batch on lent memory, in numbers; that records it does not hold do not matter and are kept, so that it may be run on a copy of the others. Assumes nothing.
 use mathlib.Core.Path.{_≡_, refl, sym, ap, _∙_, subst, subst⁻¹}
 use mathlib.Core.List.{List, _++_}
 use mathlib.Core.Bool.{Bool, true, false, cond}
@@ -23,10 +23,10 @@ use Rattle.batch.specs.Held.{heldAll}
 use Rattle.batch.specs.BatchLoop.{at-work}
 use Rattle.batch.specs.RecordsCounted.{countedOf, counted-bound, counted-again, counts}
 use Rattle.batch.specs.RecordsNotHeld.{over, all-within, all-alike}
-use Rattle.wubraken.specs.declared.batches.BatchEnd.{BatchEnd}
-use Rattle.wubraken.specs.declared.batches.HeldBatch.{HeldBatch}
+use Rattle.wubraken_batch.specs.declared.batches.BatchEnd.{BatchEnd}
+use Rattle.wubraken_batch.specs.declared.batches.HeldBatch.{HeldBatch}
 use Rattle.wubraken.specs.Survey.{surveyed, surveyed-bound}
 use Rattle.wubraken.specs.Results.{lent}
 
 abbrev pub stopNumber : Stop → ℕ
 stopNumber Drained = 0
@@ -147,7 +147,7 @@ module _ (sh : Shape) (s : List ℕ) (t : List Worker) (bytes lines : List ℕ) 
         let b = counted-bound (length t) in
         (omega (arith, h, e, same-count, b .1), omega (arith, h, e, same-count, b .0))
 
-    -- what was ending on the copy, and stored back, is the batch on the table
+    -- what was run on the copy, and stored back, is the batch on the table
     pub batch-is : (r : HeldBatch) (zs ls : List ℕ) → account zs (take (countedOf (length t)) (r .table)) ls (r .ending) ≡ batchOn sh s (take (countedOf (length t)) held) bytes lines
         → r .held ≡ heldOn sh s (take (countedOf (length t)) held) bytes lines → (ws : List Worker) → ws ≡ take (r .held) (r .table) ++ drop (r .held) t
         → account zs ws ls (r .ending) ≡ batchOn sh s t bytes lines

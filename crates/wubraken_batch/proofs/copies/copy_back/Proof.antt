@@ -52,13 +52,13 @@ use Rattle.arrival.specs.declared.Worker.{Worker}
 use Rattle.calendar.specs.rules.Ranges.{blank}
 use Rattle.arrival.proofs.Worker as T
 use Rattle.arrival.proofs.Worker.Laws as T′
-use Rattle.wubraken.proofs.Elements.{apart, joined}
-use Rattle.wubraken.proofs.Stored.{storedOf, start, one-more, as-long, closed}
-use Rattle.wubraken.proofs.copies.copy_back.Key.{name as #key}
-use Rattle.wubraken.proofs.copies.copy_back as f
-use Rattle.wubraken.proofs.copies.copy_back.Statement as stated
-use Rattle.wubraken.proofs.copies.copy_back.Code as code
-use Rattle.wubraken.proofs.copies.copy_back.Code.Mir as mir
+use Rattle.wubraken_batch.proofs.Elements.{apart, joined}
+use Rattle.wubraken_batch.proofs.Stored.{storedOf, start, one-more, as-long, closed}
+use Rattle.wubraken_batch.proofs.copies.copy_back.Key.{name as #key}
+use Rattle.wubraken_batch.proofs.copies.copy_back as f
+use Rattle.wubraken_batch.proofs.copies.copy_back.Statement as stated
+use Rattle.wubraken_batch.proofs.copies.copy_back.Code as code
+use Rattle.wubraken_batch.proofs.copies.copy_back.Code.Mir as mir
 
 abbrev vals : Worker → List Val
 vals = LL.vals T.the-type T′.the-laws
