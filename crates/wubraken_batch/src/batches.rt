@@ -6,13 +6,13 @@ ghost use lib.ListN.{take};
 ghost use Rattle.calendar.specs.rules.Ranges.{shapeInRange};
 ghost use Rattle.batch.specs.RecordsCounted.{countedOf};
 ghost use Rattle.wubraken_batch.specs.LentBatch.{stopNumber, heldInRange, heldOn, account, batchOn};
-use wubraken::table::records_surveyed;
 use admission::is_sound;
 use admission::ranges::record_in_range;
 use arrival::Shape;
 use arrival::Worker;
 use batch::HeldPool;
 use batch::Stop;
+use wubraken::table::records_surveyed;
 
 // The shape after a batch, the bytes read and written, and why it was left: 0 all bytes are worked through, 1 the next line may not fit, 7 or 8 what
 // follows is refused by that number.

@@ -53,7 +53,7 @@ use Rattle.wubraken.proofs.act_lent as callee
 use Rattle.wubraken.proofs.act_lent.Symbol as callee-def
 use Rattle.wubraken.proofs.act_lent.Symbol.{name as #callee}
 use Rattle.wubraken.proofs.act_lent.Met as callee-thm
-use Rattle.wubraken.proofs.Passing.{vals-sh, val-sh, vals-ar, val-ar, val-r, Act, Said, s, t, sv, tv, handed, to-act, goes-act}
+use Rattle.wubraken.proofs.Passing.{vals-sh, val-sh, vals-ar, val-ar, val-r, none-is, Act, Said, s, t, sv, tv, handed, to-act, goes-act}
 use Rattle.wubraken.proofs.wubraken_dequeue.Key.{name as #key}
 use Rattle.wubraken.proofs.wubraken_dequeue as f
 use Rattle.wubraken.proofs.wubraken_dequeue.Statement as stated
@@ -64,9 +64,6 @@ stayed = (stay-none (λ _. Sh.the-row) yes, (stay-none (λ _. usize) yes, (gave-
 
 module _ {M : Type 1} (𝓤 : URA M) (H : Heap 𝓤) (A : Atoms 𝓤) (W : Given 𝓤 H A) (mem : Memory → SProp 𝓤) (run : Routine → Fun 𝓤) (κ κ′ : Lft) (q q′ : Share) (sh : Shape) (i : ℕ) (b o : ℕ) (γ : GName) (S : List ℕ) (b′ o′ : ℕ) (γ′ : GName) (ys : List Worker)
     (sh-is : Is Sh.the-row sh (vals-sh sh)) (i-fits : i < 2 ^ 64) (room-s : Room u64 (length S)) (room : Room T.the-row (length ys)) where
-  none-is : Is Ar.the-row noArrival (vals-ar noArrival)
-  none-is = ((refl, lit< tt), ((refl, lit< tt), ((refl, lit< tt), ((refl, lit< tt), tt))))
-
   abbrev args : Shape × (ℕ × (RefT (List ℕ) × (RefT (List Worker) × Unit {0})))
   args = (sh, (i, (s sh 1 i noArrival b o γ S b′ o′ γ′ ys, (t sh 1 i noArrival b o γ S b′ o′ γ′ ys, tt))))
 
