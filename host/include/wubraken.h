@@ -11,7 +11,8 @@
  * length, content and argument may be handed in; what cannot be done is refused
  * by a number and changes nothing.
  *
- * Link target/staticlib/libwubraken.a (x86-64, System V).
+ * Link target/staticlib/libwubraken.a, and for wubraken_run_batch
+ * target/staticlib/libwubraken_batch.a beside it (x86-64, System V).
  */
 #ifndef WUBRAKEN_H
 #define WUBRAKEN_H

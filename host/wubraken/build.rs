@@ -1,4 +1,4 @@
-//! Links the proved library, from where `rt staticlib wubraken` writes it.
+//! Links the proved library's two archives, from where `rt staticlib` writes them.
 
 use std::env;
 use std::path::{Path, PathBuf};
@@ -11,14 +11,17 @@ fn main() {
             Path::new(&env::var_os("CARGO_MANIFEST_DIR").unwrap()).join("../../target/staticlib")
         }
     };
-    let library = directory.join("libwubraken.a");
-    if !library.exists() {
-        println!(
-            "cargo:warning={} is not there: run `rt staticlib wubraken` first",
-            library.display()
-        );
-    }
-    println!("cargo:rerun-if-changed={}", library.display());
     println!("cargo:rustc-link-search=native={}", directory.display());
-    println!("cargo:rustc-link-lib=static=wubraken");
+    for name in ["wubraken", "wubraken_batch"] {
+        let archive = directory.join(format!("lib{}.a", name));
+        if !archive.exists() {
+            println!(
+                "cargo:warning={} is not there: run `rt staticlib {}` first",
+                archive.display(),
+                name
+            );
+        }
+        println!("cargo:rerun-if-changed={}", archive.display());
+        println!("cargo:rustc-link-lib=static={}", name);
+    }
 }

@@ -136,5 +136,5 @@ fn refusal(number: u64) -> Refusal {
 /// The proved library gives no other answer.
 #[cold]
 fn another_library() -> ! {
-    panic!("the linked libwubraken.a is not the one of this crate")
+    panic!("the linked library is not the one of this crate")
 }

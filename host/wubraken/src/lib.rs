@@ -33,7 +33,8 @@
 //! Threads that share a pool lock it for a step (`examples/threads.rs`).
 //!
 //! The library is linked from the repository's `target/staticlib`, where
-//! `rt staticlib wubraken` writes it, or from the directory `WUBRAKEN_LIB_DIR`.
+//! `rt staticlib wubraken` and `rt staticlib wubraken_batch` write it, or from the
+//! directory `WUBRAKEN_LIB_DIR`.
 #![warn(missing_docs)]
 
 #[cfg(not(all(target_arch = "x86_64", target_pointer_width = "64")))]
