@@ -6,9 +6,11 @@ ghost use Rattle.calendar.specs.rules.Ranges.{shapeInRange, headInRange, nodeIn
 ghost use Rattle.words.specs.Laid.{Laid};
 use arrival::Shape;
 use arrival::Worker;
+use words::field;
 use words::get_cell;
 use words::get_field;
 use words::get_word;
+use words::word;
 
 // What refusal 1 tests.
 pub fn shape_in_range(shape: Shape) -> bool
@@ -41,22 +43,22 @@ pub fn node_in_range(shape: Shape, n: u64, store: &[u64]) -> bool
     ensures { λ r. ⌜ r ≡ nodeInRange shape (now (store .entry)) n ⌝ }
 {
     let link = get_cell(shape, shape.buckets + n, store);
-    let time = get_field(shape, 1, n, store);
-    let ticket = get_field(shape, 2, n, store);
-    let path = get_field(shape, 3, n, store);
-    let order = get_field(shape, 4, n, store);
-    let distance = get_field(shape, 5, n, store);
-    let epoch = get_field(shape, 6, n, store);
-    let standing = get_field(shape, 7, n, store);
+    let time = get_field(shape, field::TIME, n, store);
+    let ticket = get_field(shape, field::TICKET, n, store);
+    let path = get_field(shape, field::PATH, n, store);
+    let order = get_field(shape, field::ORDER, n, store);
+    let distance = get_field(shape, field::DISTANCE, n, store);
+    let epoch = get_field(shape, field::EPOCH, n, store);
+    let standing = get_field(shape, field::STANDING, n, store);
     (link / 2 <= shape.nodes)
-        & (time < 4294967296)
-        & (ticket < 4294967296)
+        & (time < word::COUNTS)
+        & (ticket < word::COUNTS)
         & (path <= 65535)
         & (order <= 63)
         & ((1 <= distance) | (standing == 0))
         & (distance <= 1024)
-        & (epoch < 4294967296)
-        & (standing < 4294967298)
+        & (epoch < word::COUNTS)
+        & (standing < word::STANDINGS)
 }
 
 fn heads_in_range(shape: Shape, store: &[u64]) -> bool
@@ -92,11 +94,11 @@ pub fn store_in_range(shape: Shape, store: &[u64]) -> bool
     requires { ⌜ Laid shape (now store) ⌝ }
     ensures { λ r. ⌜ r ≡ storeInRange shape (now (store .entry)) ⌝ }
 {
-    let current = get_word(shape, 0, store);
-    let started = get_word(shape, 1, store);
-    let last = get_word(shape, 2, store);
-    let words = (current / 4294967296 < shape.buckets)
-        & (started < 4294967296)
+    let current = get_word(shape, word::CURRENT, store);
+    let started = get_word(shape, word::STARTED, store);
+    let last = get_word(shape, word::LAST_NODE, store);
+    let words = (current / word::COUNTS < shape.buckets)
+        & (started < word::COUNTS)
         & (last < shape.nodes);
     words & heads_in_range(shape, store) & nodes_in_range(shape, store)
 }
@@ -119,6 +121,6 @@ pub fn record_in_range(shape: Shape, w: Worker) -> bool
         & (w.right <= shape.nodes)
         & (!((2 <= k) & (k <= 3) | (10 <= k) & (k <= 11)) | !(w.right == shape.nodes))
         & (w.seen / 2 <= shape.nodes)
-        & (w.current / 4294967296 < shape.buckets)
-        & (w.ticket < 4294967296)
+        & (w.current / word::COUNTS < shape.buckets)
+        & (w.ticket < word::COUNTS)
 }

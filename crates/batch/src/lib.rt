@@ -26,8 +26,10 @@ use turn_file::read_record;
 use turn_file::write_line;
 use turn_file::write_opened;
 use turn_file::write_refusal;
+use words::field;
 use words::get_cell;
 use words::get_field;
+use words::word;
 
 pub mod table;
 pub mod tickets;
@@ -66,7 +68,7 @@ fn turn_leaks(shape: Shape, w: Worker, store: &[u64]) -> bool
         return false;
     }
     let left = get_cell(shape, w.left, store);
-    let distance = get_field(shape, 5, w.right, store);
+    let distance = get_field(shape, field::DISTANCE, w.right, store);
     (left == 2 * w.right) & (distance == 0)
 }
 
@@ -147,7 +149,7 @@ pub fn run_batch(
                     let worker = reply.worker;
                     let response = reply.response;
                     table[i as usize] = worker;
-                    tickets[i as usize] = lower_ticket(4294967296, worker);
+                    tickets[i as usize] = lower_ticket(word::COUNTS, worker);
                     to = write_line(response, out, to);
                 }
                 at = next;

@@ -6,17 +6,18 @@ ghost use Rattle.batch.specs.Tickets.{ticketsOf, least, leastOf, lowFor}
 use arrival::Action;
 use arrival::Worker;
 use starts::free::lower_ticket;
+use words::word;
 
 // The ticket of each record's call; 2^32 where none is in progress.
 pub fn tickets_of(table: [Worker; 64]) -> [u64; 64]
     requires { ⌜ length table ≡ 64 ⌝ }
     ensures { λ r. ⌜ r ≡ ticketsOf table ⌝ }
 {
-    let mut tickets = [4294967296; 64];
+    let mut tickets = [word::COUNTS; 64];
     let mut i: usize = 0;
     while i < 64 {
         let w = table[i];
-        tickets[i] = lower_ticket(4294967296, w);
+        tickets[i] = lower_ticket(word::COUNTS, w);
         i += 1;
     }
     tickets
@@ -34,7 +35,7 @@ fn least_of(tickets: &[u64; 64], n: usize) -> u64
     requires { ⌜ n ≤ 64 ⌝ }
     ensures { λ r. ⌜ (r ≡ leastOf (now (tickets .entry)) n) × (r ≤ 4294967296) ⌝ }
 {
-    let mut low = 4294967296;
+    let mut low = word::COUNTS;
     let mut i: usize = 0;
     while i < n {
         low = lesser(low, tickets[i]);

@@ -10,20 +10,22 @@ use super::go_on;
 use arrival::Response;
 use arrival::Shape;
 use arrival::Worker;
+use words::field;
 use words::get_cell;
 use words::get_field;
 use words::get_word;
 use words::put_cell;
 use words::put_word;
 use words::replies::Reply;
+use words::word;
 
 pub fn step_8(shape: Shape, mut w: Worker, store: &[u64]) -> Reply
     requires { ⌜ Ready shape (now store) w ⌝ }
     ensures { λ r. ⌜ gives (now (store .entry)) r ≡ done shape (now (store .entry)) (step-8 shape (now (store .entry)) w) ⌝ }
 {
-    let current = get_word(shape, 0, store);
+    let current = get_word(shape, word::CURRENT, store);
     w.current = current;
-    w.bucket = current / 4294967296;
+    w.bucket = current / word::COUNTS;
     go_on(9, w)
 }
 
@@ -64,7 +66,7 @@ pub fn step_10(shape: Shape, mut w: Worker, store: &[u64]) -> Reply
         w.right = link / 2;
         walk_right(shape, w)
     } else {
-        if w.current % 4294967296 < get_field(shape, 6, right, store) {
+        if w.current % word::COUNTS < get_field(shape, field::EPOCH, right, store) {
             go_on(8, w)
         } else {
             go_on(11, w)
@@ -91,10 +93,10 @@ pub fn step_12(shape: Shape, mut w: Worker, store: &mut [u64]) -> Reply
     requires { ⌜ Ready shape (now store) w ⌝ }
     ensures { λ r. ⌜ gives (now (store .exit)) r ≡ done shape (now (store .entry)) (step-12 shape (now (store .entry)) w) ⌝ }
 {
-    let epoch = w.current % 4294967296;
-    if get_word(shape, 0, store) == w.bucket * 4294967296 + epoch {
-        let next = (w.bucket + 1) * 4294967296 + epoch;
-        put_word(shape, 0, next, store);
+    let epoch = w.current % word::COUNTS;
+    if get_word(shape, word::CURRENT, store) == w.bucket * word::COUNTS + epoch {
+        let next = (w.bucket + 1) * word::COUNTS + epoch;
+        put_word(shape, word::CURRENT, next, store);
         w.bucket = w.bucket + 1;
         w.current = next;
         go_on(9, w)
@@ -107,8 +109,8 @@ pub fn step_13(shape: Shape, w: Worker, store: &[u64]) -> Reply
     requires { ⌜ Ready shape (now store) w ⌝ }
     ensures { λ r. ⌜ gives (now (store .entry)) r ≡ done shape (now (store .entry)) (step-13 shape (now (store .entry)) w) ⌝ }
 {
-    let epoch = w.current % 4294967296;
-    if get_word(shape, 0, store) == w.bucket * 4294967296 + epoch {
+    let epoch = w.current % word::COUNTS;
+    if get_word(shape, word::CURRENT, store) == w.bucket * word::COUNTS + epoch {
         answer(w, Response::Empty)
     } else {
         go_on(8, w)

@@ -9,6 +9,7 @@ use super::go_on;
 use arrival::Response;
 use arrival::Shape;
 use arrival::Worker;
+use words::field;
 use words::get_cell;
 use words::get_word;
 use words::put_cell;
@@ -16,14 +17,15 @@ use words::put_field;
 use words::put_word;
 use words::replies::Reply;
 use words::replies::refuse;
+use words::word;
 
 pub fn step_4(shape: Shape, mut w: Worker, store: &mut [u64]) -> Reply
     requires { ⌜ Ready shape (now store) w ⌝ }
     ensures { λ r. ⌜ gives (now (store .exit)) r ≡ done shape (now (store .entry)) (step-4 shape (now (store .entry)) w) ⌝ }
 {
     let own = w.own;
-    let current = get_word(shape, 0, store);
-    put_field(shape, 6, own, current % 4294967296, store);
+    let current = get_word(shape, word::CURRENT, store);
+    put_field(shape, field::EPOCH, own, current % word::COUNTS, store);
     put_cell(shape, shape.buckets + own, 2 * w.right, store);
     w.current = current;
     go_on(5, w)
@@ -45,9 +47,9 @@ pub fn step_6(shape: Shape, mut w: Worker, store: &[u64]) -> Reply
     requires { ⌜ Ready shape (now store) w ⌝ }
     ensures { λ r. ⌜ gives (now (store .entry)) r ≡ done shape (now (store .entry)) (step-6 shape (now (store .entry)) w) ⌝ }
 {
-    let current = get_word(shape, 0, store);
+    let current = get_word(shape, word::CURRENT, store);
     w.current = current;
-    if current / 4294967296 < w.bucket {
+    if current / word::COUNTS < w.bucket {
         answer(w, Response::Stored(w.ticket))
     } else {
         go_on(7, w)
@@ -59,12 +61,17 @@ pub fn step_7(shape: Shape, w: Worker, store: &mut [u64]) -> Reply
     requires { ⌜ Ready shape (now store) w ⌝ }
     ensures { λ r. ⌜ gives (now (store .exit)) r ≡ localStep-7 shape (now (store .entry)) w ⌝ }
 {
-    let epoch = w.current % 4294967296;
-    if get_word(shape, 0, store) == w.current {
-        if epoch == 4294967295 {
+    let epoch = w.current % word::COUNTS;
+    if get_word(shape, word::CURRENT, store) == w.current {
+        if epoch == word::MAX_COUNT {
             refuse(w, 11)
         } else {
-            put_word(shape, 0, w.bucket * 4294967296 + (epoch + 1), store);
+            put_word(
+                shape,
+                word::CURRENT,
+                w.bucket * word::COUNTS + (epoch + 1),
+                store,
+            );
             answer(w, Response::Stored(w.ticket))
         }
     } else {

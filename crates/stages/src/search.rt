@@ -12,12 +12,14 @@ use arrival::Shape;
 use arrival::Worker;
 use arrival::is_lower;
 use arrival::spreading::energy;
+use words::field;
 use words::get_cell;
 use words::get_word;
 use words::item_at;
 use words::put_cell;
 use words::put_field;
 use words::replies::Reply;
+use words::word;
 
 // The end of a search: a put goes to 4, a take answers the arrival in its own node. It is called on copies: it is large and takes them by address, and
 // the caller's own then stay in registers.
@@ -96,9 +98,9 @@ pub fn step_3(shape: Shape, mut w: Worker, store: &mut [u64]) -> Reply
     let right = w.right;
     if get_cell(shape, left, store) == 2 * right {
         let next = w.seen / 2;
-        let started = get_word(shape, 1, store);
+        let started = get_word(shape, word::STARTED, store);
         put_cell(shape, left, 2 * next, store);
-        put_field(shape, 7, right, 2 + started, store);
+        put_field(shape, field::STANDING, right, 2 + started, store);
         w.right = next;
         settle_right(shape, w, store)
     } else {

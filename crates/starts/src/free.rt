@@ -8,8 +8,10 @@ ghost use Rattle.starts.specs.LeastTicket.{lower, freeBelow};
 ghost use Rattle.starts.specs.FreeSearch.{firstFreeBelow};
 use arrival::Shape;
 use arrival::Worker;
+use words::field;
 use words::get_field;
 use words::get_word;
+use words::word;
 
 // The least ticket in progress, with one record more.
 pub fn lower_ticket(low: u64, w: Worker) -> u64
@@ -45,11 +47,11 @@ pub fn first_free(shape: Shape, low: u64, store: &[u64]) -> u64
     ensures { λ r. ⌜ (r ≡ firstFreeBelow shape (now (store .entry)) low) × (r ≤ shape .nodes) ⌝ }
 {
     let nodes = shape.nodes;
-    let mut n = get_word(shape, 2, store);
+    let mut n = get_word(shape, word::LAST_NODE, store);
     let mut left = nodes;
     while 0 < left {
         n = node_after(shape, n);
-        let standing = get_field(shape, 7, n, store);
+        let standing = get_field(shape, field::STANDING, n, store);
         if is_free(low, standing) {
             return n;
         }

@@ -13,11 +13,13 @@ use arrival::Shape;
 use arrival::Worker;
 use arrival::bucket_of;
 use free::first_free;
+use words::field;
 use words::get_word;
 use words::put_field;
 use words::put_word;
 use words::replies::Reply;
 use words::replies::refuse;
+use words::word;
 
 pub mod free;
 pub mod opening;
@@ -28,12 +30,12 @@ fn fill_node(shape: Shape, n: u64, x: Item, store: &mut [u64])
     requires { ⌜ n < shape .nodes ⌝ }
     ensures { λ r. ⌜ now (store .exit) ≡ writeAll shape (now (store .entry)) (fill n x) ⌝ }
 {
-    put_field(shape, 1, n, x.time, store);
-    put_field(shape, 2, n, x.ticket, store);
-    put_field(shape, 3, n, x.path, store);
-    put_field(shape, 4, n, x.order, store);
-    put_field(shape, 5, n, x.distance, store);
-    put_field(shape, 7, n, 1, store);
+    put_field(shape, field::TIME, n, x.time, store);
+    put_field(shape, field::TICKET, n, x.ticket, store);
+    put_field(shape, field::PATH, n, x.path, store);
+    put_field(shape, field::ORDER, n, x.order, store);
+    put_field(shape, field::DISTANCE, n, x.distance, store);
+    put_field(shape, field::STANDING, n, 1, store);
 }
 
 // A put start on node n.
@@ -49,7 +51,7 @@ pub fn begin_enqueue(
     ensures { λ r. ⌜ gives (now (store .exit)) r ≡ done shape (now (store .entry)) (enqueueStart shape (now (store .entry)) n arrival w) ⌝ }
 {
     let time = arrival.time as u64;
-    let ticket = get_word(shape, 1, store) + 1;
+    let ticket = get_word(shape, word::STARTED, store) + 1;
     let x = Item {
         time,
         path: arrival.path as u64,
@@ -57,8 +59,8 @@ pub fn begin_enqueue(
         distance: arrival.distance as u64,
         ticket,
     };
-    put_word(shape, 1, ticket, store);
-    put_word(shape, 2, n, store);
+    put_word(shape, word::STARTED, ticket, store);
+    put_word(shape, word::LAST_NODE, n, store);
     fill_node(shape, n, x, store);
     w.stage = 1;
     w.kind = 0;
@@ -77,8 +79,8 @@ pub fn begin_dequeue(shape: Shape, mut w: Worker, store: &mut [u64]) -> Reply
     requires { ⌜ started shape (now store) < 4294967296 ⌝ }
     ensures { λ r. ⌜ gives (now (store .exit)) r ≡ done shape (now (store .entry)) (dequeueStart shape (now (store .entry)) w) ⌝ }
 {
-    let ticket = get_word(shape, 1, store) + 1;
-    put_word(shape, 1, ticket, store);
+    let ticket = get_word(shape, word::STARTED, store) + 1;
+    put_word(shape, word::STARTED, ticket, store);
     w.stage = 8;
     w.kind = 1;
     w.ticket = ticket;
@@ -103,7 +105,7 @@ fn enqueue_refusal(shape: Shape, arrival: Arrival, w: Worker, started: u64) -> u
     if w.stage != 0 {
         return 9;
     }
-    if started == 4294967295 {
+    if started == word::MAX_COUNT {
         return 11;
     }
     0
@@ -121,7 +123,7 @@ pub fn start_enqueue(
     requires { ⌜ (started shape (now store) < 4294967296) × (lastNode shape (now store) < shape .nodes) × (low ≤ 4294967296) × (1 ≤ shape .width) × (shape .width ≤ 65535) ⌝ }
     ensures { λ r. ⌜ gives (now (store .exit)) r ≡ localEnqueue shape low (now (store .entry)) arrival w ⌝ }
 {
-    let started = get_word(shape, 1, store);
+    let started = get_word(shape, word::STARTED, store);
     let k = enqueue_refusal(shape, arrival, w, started);
     if k != 0 {
         return refuse(w, k);
@@ -142,7 +144,7 @@ pub fn start_dequeue(shape: Shape, w: Worker, store: &mut [u64]) -> Reply
     if w.stage != 0 {
         return refuse(w, 9);
     }
-    if get_word(shape, 1, store) == 4294967295 {
+    if get_word(shape, word::STARTED, store) == word::MAX_COUNT {
         return refuse(w, 11);
     }
     begin_dequeue(shape, w, store)

@@ -6,7 +6,9 @@ ghost use Rattle.words.specs.Laid.{Laid};
 use arrival::Item;
 use arrival::Shape;
 
+pub mod field;
 pub mod replies;
+pub mod word;
 
 // How many words the layout has.
 pub fn layout_words(shape: Shape) -> usize
@@ -85,11 +87,11 @@ pub fn item_at(shape: Shape, n: u64, store: &[u64]) -> Item
     requires { ⌜ n < shape .nodes ⌝ }
     ensures { λ r. ⌜ r ≡ itemAt shape (now (store .entry)) n ⌝ }
 {
-    let time = get_field(shape, 1, n, store);
-    let ticket = get_field(shape, 2, n, store);
-    let path = get_field(shape, 3, n, store);
-    let order = get_field(shape, 4, n, store);
-    let distance = get_field(shape, 5, n, store);
+    let time = get_field(shape, field::TIME, n, store);
+    let ticket = get_field(shape, field::TICKET, n, store);
+    let path = get_field(shape, field::PATH, n, store);
+    let order = get_field(shape, field::ORDER, n, store);
+    let distance = get_field(shape, field::DISTANCE, n, store);
     Item {
         time,
         path,
