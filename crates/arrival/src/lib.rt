@@ -38,6 +38,19 @@ pub struct Worker {
     pub ticket: u64,
 }
 
+// A record with no call in progress, as opening leaves it.
+pub const IDLE_WORKER: Worker = Worker {
+    stage: 0,
+    kind: 0,
+    own: 0,
+    bucket: 0,
+    left: 0,
+    right: 0,
+    seen: 0,
+    current: 0,
+    ticket: 0,
+};
+
 // An arrival with its ticket, as a queue holds it.
 pub struct Item {
     pub time: u64,

@@ -5,6 +5,7 @@ ghost use Prim.Native.Nat.{_≤_};
 ghost use lib.ListN.{drop, replicate};
 ghost use Rattle.calendar.specs.rules.Ranges.{blank};
 ghost use Rattle.batch.specs.Held as holding;
+use arrival::IDLE_WORKER;
 use arrival::Worker;
 
 // The first n records become idle, all fields 0.
@@ -12,17 +13,7 @@ pub fn cleared(mut table: [Worker; 64], n: usize) -> [Worker; 64]
     requires { ⌜ n ≤ 64 ⌝ }
     ensures { λ r. ⌜ r ≡ replicate n blank ++ drop n table ⌝ }
 {
-    let idle = Worker {
-        stage: 0,
-        kind: 0,
-        own: 0,
-        bucket: 0,
-        left: 0,
-        right: 0,
-        seen: 0,
-        current: 0,
-        ticket: 0,
-    };
+    let idle = IDLE_WORKER;
     let mut i: usize = 0;
     while i < n {
         table[i] = idle;

@@ -10,6 +10,7 @@ ghost use Rattle.turns.specs.TurnsRun.{lent, follows, lastLine, roundOf,
 ghost use Rattle.turns.specs.BetweenRounds.{inHand, holding, leaves, Placed};
 ghost use Rattle.turns.specs.RunFollows.{Outcome};
 use arrival::Shape;
+use arrival::IDLE_WORKER;
 use arrival::Worker;
 use batch::HeldPool;
 use batch::Stop;
@@ -55,17 +56,7 @@ fn lent_words() -> [u64; WORDS]
 fn fresh_pool(store: &[u64]) -> HeldPool
     ensures { λ r. ⌜ Sound r (now (store .entry)) × (r .shape ≡ zeros) × (r .records ≡ 64) × (r .table ≡ lent .table) ⌝ }
 {
-    let idle = Worker {
-        stage: 0,
-        kind: 0,
-        own: 0,
-        bucket: 0,
-        left: 0,
-        right: 0,
-        seen: 0,
-        current: 0,
-        ticket: 0,
-    };
+    let idle = IDLE_WORKER;
     let shape = Shape {
         workers: 0,
         nodes: 0,

@@ -9,6 +9,7 @@ ghost use Rattle.wubraken.specs.Survey.{seen, surveyed, survey};
 use admission::ranges::record_in_range;
 use admission::ranges::shape_in_range;
 use arrival::Shape;
+use arrival::IDLE_WORKER;
 use arrival::Worker;
 use starts::free::lower_ticket;
 
@@ -68,17 +69,7 @@ pub fn clear_table(table: &mut [Worker], n: usize)
     requires { ⌜ n ≤ length (now table) ⌝ }
     ensures { λ _. ⌜ now (table .exit) ≡ replicate n blank ++ drop n (now (table .entry)) ⌝ }
 {
-    let idle = Worker {
-        stage: 0,
-        kind: 0,
-        own: 0,
-        bucket: 0,
-        left: 0,
-        right: 0,
-        seen: 0,
-        current: 0,
-        ticket: 0,
-    };
+    let idle = IDLE_WORKER;
     let mut k: usize = 0;
     while k < n {
         table[k] = idle;

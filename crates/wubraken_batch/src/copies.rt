@@ -4,23 +4,14 @@ ghost use mathlib.Core.List.{_++_};
 ghost use Prim.Native.Nat.{_≤_};
 ghost use lib.ListN.{length, take, drop, replicate};
 ghost use Rattle.calendar.specs.rules.Ranges.{blank};
+use arrival::IDLE_WORKER;
 use arrival::Worker;
 
 // 64 idle records.
 fn idle_records() -> [Worker; 64]
     ensures { λ r. ⌜ r ≡ replicate 64 blank ⌝ }
 {
-    let idle = Worker {
-        stage: 0,
-        kind: 0,
-        own: 0,
-        bucket: 0,
-        left: 0,
-        right: 0,
-        seen: 0,
-        current: 0,
-        ticket: 0,
-    };
+    let idle = IDLE_WORKER;
     [idle; 64]
 }
 
