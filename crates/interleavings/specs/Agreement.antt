@@ -15,7 +15,8 @@ use Rattle.arrival.specs.declared.Response.{Response}
 use Rattle.arrival.specs.declared.Response.the-variants.{Opened, Begun, On, Stored, Took, Empty, Refused}
 use Rattle.arrival.specs.Queue as queue
 use Rattle.calendar.specs.rules.Layout.{itemAt}
-use Rattle.calendar.specs.facts.Views.{View, view, updates, itemIn, upd-same, upd-other, upd-cases}
+use Rattle.calendar.specs.facts.Views.{View, view, updates, itemIn}
+use Rattle.laws.specs.Tests.{upd-same, upd-other, upd-cases}
 use Rattle.calendar.specs.rules.Ranges.{worker}
 use Rattle.calendar.specs.rules.Outcome.{Outcome}
 use Rattle.calendar.specs.rules.Operations.{Memory}
@@ -64,9 +65,6 @@ Agrees sh wd v T g L = record {
   status : (d : ℕ) (x : Item) → L .marked d ≡ some x → ((j : ℕ) × (j < sh .workers) × ((T j) .stage ≢ 0) × ((T j) .ticket ≡ d)) ⊎ ((s : ℕ) × (g .hist .end d ≡ ended s));
   fresh : (c : ℕ) → v .started < c → L .marked c ≡ none;
 }
-
-none-is-some : {A B : Type 0} (x : A) → none ≡ some x → B
-none-is-some x e = absurd (let z : _≡_ {A = ℕ} 0 1 = cc in omega arith)
 
 module _ (sh : Shape) (wd : 1 ≤ sh .width) (v : View) (T : ℕ → Worker) (g : Ghost (keys sh wd)) (L : Ledger) (A : Agrees sh wd v T g L) (i : ℕ) (l : i < sh .workers) where
   -- ── a start: worker i was idle, no call has the new ticket, other calls' items stay ──

@@ -1,16 +1,16 @@
 -- The calls that end: a take's search, an enqueue stored, an empty dequeue. And an update of current. Assumes nothing.
 use mathlib.Core.Path.{_≡_, refl, sym, ap, _∙_, subst}
 use mathlib.Core.Logic.{_≢_, _⊎_, inl, inr}
-use mathlib.Core.Option.{none, some}
+use mathlib.Core.Option.{none, some, Option·none-ne-some, Option·some-injective}
 use mathlib.Core.List.{[], _∷_, _++_, List·Memᴰ as Mem, List·Memᴰ·head as here, List·Memᴰ·tail as there, List·Memᴰ·append-cases as mem-append, Memᴰ·append-left as mem-left, Memᴰ·append-right as mem-right}
 use Prim.Native.Nat.{ℕ, _+_, _/_, _%_, _≤_, _<_}
 use native.Mathlib.Omega.{arith}
 use Rattle.arrival.specs.declared.Shape.{Shape}
 use Rattle.arrival.specs.declared.Worker.{Worker}
 use Rattle.calendar.specs.rules.Layout.{word}
-use Rattle.arrival.specs.declared.Item.{Item}
 use Rattle.arrival.specs.Keys.{itemBucket}
-use Rattle.calendar.specs.facts.Views.{View, update, itemIn, upd-same, upd-cases}
+use Rattle.calendar.specs.facts.Views.{View, update, itemIn}
+use Rattle.laws.specs.Tests.{upd-same, upd-cases}
 use Rattle.lists.specs.Chain.{In}
 use Rattle.lists.specs.LinkInvariant.{Chains, home, Safe}
 use Rattle.lists.specs.AllCalls.{Inv, with-record}
@@ -23,7 +23,7 @@ use Rattle.order.specs.Calls.{Call, Apart, scans, scans-unscan}
 use Rattle.order.specs.EntriesAfterMark.{alike-distinct, alike-call, scans-in, scans-out}
 use Rattle.interleavings.specs.ItemKeys.{keys, arr, Holds, Ahead}
 use Rattle.interleavings.specs.Joint.{Ghost, Absent, Rises, Marked, Clean, Part, walks, Ord}
-use Rattle.interleavings.specs.Nodes.{one-node, none-some}
+use Rattle.interleavings.specs.Nodes.{one-node}
 use Rattle.interleavings.specs.ScanChanges.{Tickets, over, ends-over, closed, settled}
 
 -- ── current is written ──
@@ -71,10 +71,10 @@ module _ (sh : Shape) (wd : 0 < sh .width) (m : View) (ch : Chains) (T : ℕ →
 
   -- no enqueue of the order bears a take's ticket
   no-put : (T i) .kind ≡ 1 → (q : Element K) → Mem (enqueue q) (g .order) → ticket q ≢ (T i) .ticket
-  no-put k q j e = none-some _ (sym (part .dequeuer busy k) ∙ ap (g .what) (sym e) ∙ O .whole .entries (enqueue q) j)
+  no-put k q j e = Option·none-ne-some _ (sym (part .dequeuer busy k) ∙ ap (g .what) (sym e) ∙ O .whole .entries (enqueue q) j)
 
   not-node : (T i) .kind ≡ 1 → (b n : ℕ) → In n (ch b) → m .ticket n ≢ (T i) .ticket
-  not-node k b n j e = none-some _ (sym (part .dequeuer busy k) ∙ ap (g .what) (sym e) ∙ O .whole .logged n (S .member b n j .0) (λ z. omega (arith, O .whole .ticketed b n j)))
+  not-node k b n j e = Option·none-ne-some _ (sym (part .dequeuer busy k) ∙ ap (g .what) (sym e) ∙ O .whole .logged n (S .member b n j .0) (λ z. omega (arith, O .whole .ticketed b n j)))
 
   not-scanning : (T i) .stage ≤ 8 → (v : ℕ) → Mem (scan v) (g .order) → v ≢ i
   not-scanning h v j e = omega (arith, O .whole .scans v j .1, ap (λ u. (T u) .stage) e)
@@ -116,12 +116,9 @@ module _ (sh : Shape) (wd : 0 < sh .width) (m : View) (ch : Chains) (T : ℕ →
     fresh : (v : ℕ) (q : Element K) → Mem (scan v) (g .order) → Mem (enqueue q) (g .order) → ticket q ≡ (T i) .ticket → bucket q ≤ (T v) .bucket
         → (T v) .current % 4294967296 < over (g .hist) ((T i) .ticket) (m .started) (m .current % 4294967296) .late ((T i) .ticket)
     fresh v q j k e h =
-        let same : q .it ≡ itemIn m ((T i) .own) = some-inj (sym (O .whole .entries (enqueue q) k) ∙ ap (g .what) (e ∙ sym bears) ∙ log) in
+        let same : q .it ≡ itemIn m ((T i) .own) = Option·some-injective _ _ (sym (O .whole .entries (enqueue q) k) ∙ ap (g .what) (e ∙ sym bears) ∙ log) in
         let f : bucket q ≡ (T i) .bucket = ap (itemBucket sh) same ∙ at-home in
         omega (arith, seen v j (omega arith), upd-same ((T i) .ticket) ((T i) .ticket) (m .current % 4294967296) (g .hist .late ((T i) .ticket)) refl)
-      where
-        some-inj : {a b : Item} → some a ≡ some b → a ≡ b
-        some-inj {a} {b} h = let z : a ≡ b = cc in z
 
     is-own : (c n : ℕ) → In n (ch c) → m .ticket n ≡ (T i) .ticket → n ≡ (T i) .own
     is-own c n j e = one-node sh m ch T P n ((T i) .own) (S .member c n j .0) isNode (O .whole .ticketed c n j) (e ∙ sym bears)

@@ -2,7 +2,7 @@
 use mathlib.Core.Path.{_≡_, refl, sym, _∙_, ap, subst}
 use mathlib.Core.Bool.{Bool, true, false}
 use mathlib.Core.Logic.{_⊎_, inl, inr}
-use mathlib.Core.Option.{none, some}
+use mathlib.Core.Option.{none, some, Option·none-ne-some, Option·some-injective}
 use mathlib.Core.List.{List, [], _∷_, map, List·Memᴰ as Mem, List·Memᴰ·head as here, List·Memᴰ·tail as there}
 use Prim.Native.Nat.{ℕ, _≤_}
 use native.Mathlib.Omega.{arith}
@@ -15,7 +15,8 @@ use Rattle.calendar.specs.facts.Views.{View, view}
 use Rattle.calendar.specs.rules.Ranges.{worker}
 use Rattle.calendar.specs.rules.Operations.{Memory}
 use Rattle.calendar.specs.rules.Ledger.{Ledger}
-use Rattle.calendar.specs.rules.Linearizability.{Finished, EndedBefore, Once, RespectsTime, markTicket, Agree, Linearization}
+use Rattle.calendar.specs.rules.Linearizability.{Finished, EndedBefore, RespectsTime, markTicket, Agree, Linearization}
+use Rattle.laws.specs.Lists.{Once}
 use Rattle.order.specs.Entries.{Keys, Element, Entry, enqueue, dequeue, empty, scan, Order, _≺_, ticket}
 use Rattle.order.specs.RealTime.{End, running, ended, NotBefore, ticket-of, end-of, Timely}
 use Rattle.order.specs.Calls.{Call, Distinct}
@@ -24,9 +25,6 @@ use Rattle.interleavings.specs.Joint.{Ghost, Logged}
 use Rattle.interleavings.specs.Agreement.{itemAsked, endedAt, Same, Agrees}
 use Rattle.interleavings.specs.Sequential.{asks, answers, plain}
 use Rattle.interleavings.specs.AlongHistory.{Followed}
-
-clash : {x : Item} {B : Type 0} → none ≡ some x → B
-clash {x} e = absurd (let z : _≡_ {A = ℕ} 0 1 = cc in omega arith)
 
 -- two entries of one ticket are one
 pub one-entry : {K : Keys} (L : Order K) (e f : Entry K) → Distinct L → Mem e L → Mem f L → Call e → Call f → ticket-of e ≡ ticket-of f → e ≡ f
@@ -38,10 +36,10 @@ one-entry (g ∷ L) e f D (there p) (there q) a b t = one-entry L e f (D .1) p q
 -- a call that puts x
 pub asked-put : (c : queue.Call) (x : Item) → itemAsked c ≡ some x → c ≡ queue.enqueue x
 asked-put (queue.enqueue y) x e = let z : y ≡ x = cc in ap queue.enqueue z
-asked-put queue.dequeue x e = clash e
+asked-put queue.dequeue x e = absurd (Option·none-ne-some _ e)
 
 asked-take : (c : queue.Call) → itemAsked c ≡ none → c ≡ queue.dequeue
-asked-take (queue.enqueue y) e = clash (sym e)
+asked-take (queue.enqueue y) e = absurd (Option·none-ne-some _ (sym e))
 asked-take queue.dequeue e = refl
 
 -- a finished call's end
@@ -154,11 +152,8 @@ module _ (sh : Shape) (wd : 1 ≤ sh .width) where
       log : (x : Element (keys sh wd)) → Mem (enqueue x) (F .ghost .order) → F .ghost .what (ticket x) ≡ some (x .it)
       log x k = F .ord .whole .entries (enqueue x) k
 
-      same : {a b : Item} → some a ≡ some b → a ≡ b
-      same {a} {b} h = let e : a ≡ b = cc in e
-
       one : (y z : Element (keys sh wd)) → Mem (enqueue y) (F .ghost .order) → Mem (enqueue z) (F .ghost .order) → ticket y ≡ ticket z → y ≡ z
-      one y z i j e = λ k. record { it = same (sym (log y i) ∙ ap (F .ghost .what) e ∙ log z j) k }
+      one y z i j e = λ k. record { it = Option·some-injective _ _ (sym (log y i) ∙ ap (F .ghost .what) e ∙ log z j) k }
 
       apart : (y z : Element (keys sh wd)) → Mem y [] ⊎ Mem (enqueue y) (F .ghost .order) → Mem z [] ⊎ Mem (enqueue z) (F .ghost .order) → ((y ≡ z) ⊎ ((y ≺ z) ⊎ (z ≺ y))) × (ticket y ≡ ticket z → y ≡ z)
       apart y z (inl j) b = elim j [ ]

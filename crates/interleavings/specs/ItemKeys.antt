@@ -1,9 +1,8 @@
 -- The pool's items as the order's: their keys, and what a walk of the pool is to the order. Assumes nothing.
-use mathlib.Core.Path.{_≡_, refl, ap}
-use mathlib.Core.Bool.{Bool, true, false}
+use mathlib.Core.Path.{_≡_, ap}
+use mathlib.Core.Bool.{true, Bool-discrete}
 use mathlib.Core.Logic.{_⊎_}
 use Prim.Native.Nat.{ℕ, _+_, _%_, _≤_, _<_}
-use native.Mathlib.Omega.{arith}
 use native.Mathlib.Decide.{ℕ-discrete}
 use Rattle.arrival.specs.declared.Shape.{Shape}
 use Rattle.arrival.specs.declared.Worker.{Worker}
@@ -27,10 +26,6 @@ same-item? a b = go (ℕ-discrete (a .time) (b .time)) (ℕ-discrete (a .path) (
     go (yes p) (yes q) (yes r) (no n) t = no (λ e. n (ap (λ (x : Item). x .distance) e))
     go (yes p) (yes q) (yes r) (yes s) (no n) = no (λ e. n (ap (λ (x : Item). x .ticket) e))
 
-pub true? : (t : Bool) → Dec (t ≡ true)
-true? true = yes refl
-true? false = no (λ e. let z : _≡_ {A = ℕ} 0 1 = cc in omega arith)
-
 abbrev pub keys : (sh : Shape) → 0 < sh .width → Keys
 keys sh wd = record {
   X = Item;
@@ -39,7 +34,7 @@ keys sh wd = record {
   transₖ = λ {x} {y} {z} g h. lower-trans x y z g h;
   weakₖ = λ {x} {z} y h. lower-weak x y z h;
   same?ₖ = same-item?;
-  below?ₖ = λ a b. true? (lower a b);
+  below?ₖ = λ a b. Bool-discrete (lower a b) true;
   ticketₖ = λ a. a .ticket;
   bucketₖ = itemBucket sh;
   bucket-upₖ = λ {x} {y} h. bucket-mono sh x y wd h;

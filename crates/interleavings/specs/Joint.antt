@@ -7,7 +7,8 @@ use Prim.Native.Nat.{ℕ, suc, _+_, _/_, _%_, _≤_, _<_}
 use Rattle.arrival.specs.declared.Shape.{Shape}
 use Rattle.arrival.specs.declared.Worker.{Worker}
 use Rattle.arrival.specs.declared.Item.{Item}
-use Rattle.calendar.specs.facts.Views.{View, itemIn, upd-cases}
+use Rattle.calendar.specs.facts.Views.{View, itemIn}
+use Rattle.laws.specs.Tests.{upd-cases}
 use Rattle.lists.specs.Chain.{In}
 use Rattle.lists.specs.LinkInvariant.{Chains}
 use Rattle.lists.specs.AllCalls.{Inv, with-record}

@@ -9,7 +9,8 @@ use lib.Dec.{eqb}
 use Rattle.arrival.specs.declared.Shape.{Shape}
 use Rattle.arrival.specs.declared.Worker.{Worker}
 use Rattle.calendar.specs.rules.Layout.{cell, field}
-use Rattle.calendar.specs.facts.Views.{View, update, upd-other, upd-cases}
+use Rattle.calendar.specs.facts.Views.{View, update}
+use Rattle.laws.specs.Tests.{upd-other, upd-cases}
 use Rattle.lists.specs.Chain.{In, insertAt, removeAt, in-insert, in-remove}
 use Rattle.lists.specs.LinkInvariant.{Chains, setChain, set-cases, Lists, Linking, Unlinking, unlinked, edge, link-in, un-in}
 use Rattle.lists.specs.AllCalls.{Live, Inv}

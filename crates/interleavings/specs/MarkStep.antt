@@ -2,7 +2,7 @@
 use mathlib.Core.Path.{_≡_, refl, sym, ap, _∙_, subst}
 use mathlib.Core.Bool.{Bool, true, false}
 use mathlib.Core.Logic.{_≢_, _⊎_, inl, inr}
-use mathlib.Core.Option.{none, some}
+use mathlib.Core.Option.{none, some, Option·none-ne-some, Option·some-injective}
 use mathlib.Core.List.{[], List·Memᴰ as Mem}
 use Prim.Native.Nat.{ℕ, _+_, _*_, _/_, _%_, _≤_, _<_}
 use native.Mathlib.Omega.{arith}
@@ -13,7 +13,8 @@ use Rattle.calendar.specs.rules.Layout.{cell}
 use Rattle.arrival.specs.declared.Item.{Item}
 use Rattle.arrival.specs.Keys.{lower, itemBucket, lower-trans, lower-irr, lower-total}
 use Rattle.calendar.specs.rules.Outcome.{withStage, withOwn}
-use Rattle.calendar.specs.facts.Views.{View, update, itemIn, Lt, upd-same, upd-other}
+use Rattle.calendar.specs.facts.Views.{View, update, itemIn, Lt}
+use Rattle.laws.specs.Tests.{upd-same, upd-other}
 use Rattle.lists.specs.Chain.{In}
 use Rattle.lists.specs.LinkInvariant.{Chains, home, Safe}
 use Rattle.lists.specs.Marking.{marked-half}
@@ -27,7 +28,7 @@ use Rattle.order.specs.Calls.{Call}
 use Rattle.order.specs.EntriesAfterMark.{Found, found, taken-gone, taken-enqueued}
 use Rattle.interleavings.specs.ItemKeys.{keys, arr, Holds, Meets, Ahead}
 use Rattle.interleavings.specs.Joint.{Holder, held-close, Ghost, Absent, Logged, Marked, Clean, Part, walks, Whole, Ord, part-left, orderly-shift, parts-close, scans-close}
-use Rattle.interleavings.specs.Nodes.{reach-trans, reach-above, one-node, none-some}
+use Rattle.interleavings.specs.Nodes.{reach-trans, reach-above, one-node}
 
 module _ (sh : Shape) (wd : 0 < sh .width) (m : View) (ch : Chains) (T : ℕ → Worker) (g : Ghost (keys sh wd)) (P : Inv sh m ch T) (O : Ord sh wd m ch T g)
     (i : ℕ) (l : i < sh .workers) (eleven : (T i) .stage ≡ 11) (was : m .cells (sh .buckets + (T i) .right) ≡ (T i) .seen) where
@@ -79,7 +80,7 @@ module _ (sh : Shape) (wd : 0 < sh .width) (m : View) (ch : Chains) (T : ℕ →
   log-c = part .dequeuer busy kind-1
 
   apart-x : m .ticket ((T i) .right) ≢ (T i) .ticket
-  apart-x e = none-some _ (sym log-c ∙ ap (g .what) (sym e) ∙ log-x)
+  apart-x e = Option·none-ne-some _ (sym log-c ∙ ap (g .what) (sym e) ∙ log-x)
 
   chain-node : (b n : ℕ) → In n (ch b) → n < sh .nodes
   chain-node b n j = P .lists .member b n j .isNode
@@ -157,12 +158,9 @@ module _ (sh : Shape) (wd : 0 < sh .width) (m : View) (ch : Chains) (T : ℕ →
       go (ended s) e = taken-gone [] (g .order) x d (O .whole .orderly .legal) (O .whole .distinct) (λ k. elim k [ ]) j (O .whole .into ((T i) .bucket) ((T i) .right) s inside clean-x e)
 
   only : (f : Entry K) → Mem f (g .order) → Call f → ticket-of f ≡ ticket x → f ≡ enqueue x
-  only (enqueue y) j c e = ap enqueue (λ k. record { it = some-inj (sym (O .whole .entries (enqueue y) j) ∙ ap (g .what) e ∙ log-x) k })
-    where
-      some-inj : {a b : Item} → some a ≡ some b → a ≡ b
-      some-inj {a} {b} h = let z : a ≡ b = cc in z
-  only (dequeue z c) j k e = absurd (none-some _ (sym (O .whole .entries (dequeue z c) j) ∙ ap (g .what) e ∙ log-x))
-  only (empty c) j k e = absurd (none-some _ (sym (O .whole .entries (empty c) j) ∙ ap (g .what) e ∙ log-x))
+  only (enqueue y) j c e = ap enqueue (λ k. record { it = Option·some-injective _ _ (sym (O .whole .entries (enqueue y) j) ∙ ap (g .what) e ∙ log-x) k })
+  only (dequeue z c) j k e = absurd (Option·none-ne-some _ (sym (O .whole .entries (dequeue z c) j) ∙ ap (g .what) e ∙ log-x))
+  only (empty c) j k e = absurd (Option·none-ne-some _ (sym (O .whole .entries (empty c) j) ∙ ap (g .what) e ∙ log-x))
   only (scan v) j k e = absurd k
 
   pub inserted : (M : Order K) × Found (g .hist) (walks sh wd m ch T) (g .order) M i x
@@ -244,7 +242,7 @@ module _ (sh : Shape) (wd : 0 < sh .width) (m : View) (ch : Chains) (T : ℕ →
       into = λ b n s j c e. let u = clean-not-x n c in
           subst (λ S. Mem (arr sh wd m n) S) (sym (F .queue)) (mem-without (run [] (g .order)) x (λ f. u (is-x b n j (ap (λ (a : Element K). a .it) f))) (O .whole .into b n s j (rw (same-cell n u) at c) e));
       pending = λ b n j c e. let u = clean-not-x n c in
-          absent-x (m .ticket n) (λ f. none-some _ (sym log-c ∙ ap (g .what) (sym f) ∙ O .whole .logged n (chain-node b n j) (λ z. omega (arith, O .whole .ticketed b n j))))
+          absent-x (m .ticket n) (λ f. Option·none-ne-some _ (sym log-c ∙ ap (g .what) (sym f) ∙ O .whole .logged n (chain-node b n j) (λ z. omega (arith, O .whole .ticketed b n j))))
           (λ f. u (one-node sh m ch T P n ((T i) .right) (chain-node b n j) isNode (O .whole .ticketed b n j) f)) (O .whole .pending b n j (rw (same-cell n u) at c) e);
       ticketed = O .whole .ticketed;
       current = λ q j. O .whole .current q (old q j .0);
@@ -310,7 +308,7 @@ module _ (sh : Shape) (wd : 0 < sh .width) (m : View) (ch : Chains) (T : ℕ →
                 let p = P .knows v lv .search b c .enqueueOwn d c in
                 let f : (T i) .right ≡ (T v) .own = one-node sh m ch T P ((T i) .right) ((T v) .own) isNode (p .isNode) pos-x (sym e ∙ sym (p .ticketed)) in
                 p .out ((T i) .bucket) (subst (λ (n : ℕ). In n (ch ((T i) .bucket))) f inside)
-            other (inr b) e = none-some _ (sym (O .parts v lv .dequeuer (live (inr b)) (take-kind b (P .knows v lv .kinds))) ∙ ap (g .what) e ∙ log-x)
+            other (inr b) e = Option·none-ne-some _ (sym (O .parts v lv .dequeuer (live (inr b)) (take-kind b (P .knows v lv .kinds))) ∙ ap (g .what) e ∙ log-x)
 
     mine : Part sh wd marked (grown M) i next
     mine = record {

@@ -1,7 +1,6 @@
 -- Nodes, their tickets, and what lies behind a node on its links. Assumes nothing.
 use mathlib.Core.Path.{_≡_, sym, subst}
 use mathlib.Core.Logic.{_⊎_, inl, inr}
-use mathlib.Core.Option.{none, some}
 use Prim.Native.Nat.{ℕ, _+_, _/_, _≤_, _<_}
 use native.Mathlib.Omega.{arith}
 use native.Mathlib.Decide.{ℕ-discrete}
@@ -39,6 +38,3 @@ one-node sh m ch T P a b la lb pos e = go (ℕ-discrete a b)
     go : Dec (a ≡ b) → a ≡ b
     go (yes h) = h
     go (no n) = absurd (omega (arith, P .unique a b la lb n e))
-
-pub none-some : {A : Type 0} (x : A) → none ≡ some x → ⊥
-none-some x e = let z : _≡_ {A = ℕ} 0 1 = cc in omega arith

@@ -9,7 +9,8 @@ use native.Mathlib.Decide.{ℕ-discrete}
 use lib.Dec.{eqb}
 use Rattle.arrival.specs.declared.Shape.{Shape}
 use Rattle.arrival.specs.declared.Worker.{Worker}
-use Rattle.calendar.specs.facts.Views.{View, upd-same, upd-other, upd-cases}
+use Rattle.calendar.specs.facts.Views.{View}
+use Rattle.laws.specs.Tests.{upd-same, upd-other, upd-cases}
 use Rattle.lists.specs.Chain.{In}
 use Rattle.lists.specs.LinkInvariant.{Chains, home}
 use Rattle.lists.specs.AllCalls.{Rest, with-record}

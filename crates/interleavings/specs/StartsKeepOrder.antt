@@ -14,7 +14,8 @@ use Rattle.calendar.specs.rules.Layout.{word}
 use Rattle.arrival.specs.declared.Item.{Item}
 use Rattle.arrival.specs.Keys.{itemBucket}
 use Rattle.calendar.specs.rules.Outcome.{withStage}
-use Rattle.calendar.specs.facts.Views.{View, update, itemIn, upd-same, upd-other}
+use Rattle.calendar.specs.facts.Views.{View, update, itemIn}
+use Rattle.laws.specs.Tests.{upd-same, upd-other}
 use Rattle.lists.specs.Chain.{In}
 use Rattle.lists.specs.LinkInvariant.{Chains, unlinked}
 use Rattle.lists.specs.AllCalls.{Live, with-record}

@@ -3,7 +3,7 @@
 use mathlib.Core.Path.{_≡_, refl, sym, ap, _∙_, subst}
 use mathlib.Core.Bool.{Bool, true, false}
 use mathlib.Core.Logic.{_≢_, _⊎_, inl, inr}
-use mathlib.Core.Option.{none, some}
+use mathlib.Core.Option.{none, some, Option·none-ne-some, Option·some-injective}
 use mathlib.Core.List.{[], List·Memᴰ as Mem}
 use Prim.Native.Nat.{ℕ, _≤_, _<_}
 use native.Mathlib.Omega.{arith}
@@ -34,12 +34,6 @@ use Rattle.interleavings.specs.Agreement.{itemAsked, endedAt, Same}
 use Rattle.interleavings.specs.Extraction.{one-entry, asked-put, end-known}
 use Rattle.interleavings.specs.AlongHistory.{Followed}
 
-some-injective : {a b : Item} → some a ≡ some b → a ≡ b
-some-injective {a} {b} h = let e : a ≡ b = cc in e
-
-not-none : {x : Item} {B : Type 0} → none ≡ some x → B
-not-none {x} e = absurd (let z : _≡_ {A = ℕ} 0 1 = cc in omega arith)
-
 module _ (sh : Shape) (wd : 1 ≤ sh .width) (m : Memory) (L : Ledger) (F : Followed sh wd m L) where
   abbrev v : View
   v = view sh (m .store)
@@ -67,14 +61,14 @@ module _ (sh : Shape) (wd : 1 ≤ sh .width) (m : Memory) (L : Ledger) (F : Foll
       by-stage z true q =
           let hi = F .reached .inv .knows j h .dequeues z (leb-true (T j .stage) 7 q) in
           let lo : 1 ≤ (T j) .stage = positive (T j .stage) b in
-          (z, lo, hi, some-injective (sym (M .holding z lo hi) ∙ mark))
+          (z, lo, hi, Option·some-injective _ _ (sym (M .holding z lo hi) ∙ mark))
         where
           positive : (n : ℕ) → n ≢ 0 → 1 ≤ n
           positive n u = omega arith
-      by-stage z false q = not-none (sym (M .clear (inr (leb-false (T j .stage) 7 q))) ∙ mark)
+      by-stage z false q = absurd (Option·none-ne-some _ (sym (M .clear (inr (leb-false (T j .stage) 7 q))) ∙ mark))
 
       by-kind : ((worker (m .table) j) .kind ≡ 0) ⊎ ((worker (m .table) j) .kind ≡ 1) → ((worker (m .table) j) .kind ≡ 1) × (1 ≤ (worker (m .table) j) .stage) × ((worker (m .table) j) .stage ≤ 3) × (itemIn (view sh (m .store)) ((worker (m .table) j) .own) ≡ x)
-      by-kind (inl z) = not-none (sym (M .clear (inl z)) ∙ mark)
+      by-kind (inl z) = absurd (Option·none-ne-some _ (sym (M .clear (inl z)) ∙ mark))
       by-kind (inr z) = by-stage z (leb (T j .stage) 7) refl
 
   -- a finished call that marked something answered it
@@ -82,9 +76,9 @@ module _ (sh : Shape) (wd : 1 ≤ sh .width) (m : Memory) (L : Ledger) (F : Foll
   answered d s x e k = go (F .ghost .said d) (F .agrees .said d s e) (F .ord .whole .finished d s e .2)
     where
       go : (f : Entry (keys sh wd)) → Same sh wd f (L .response d) (L .marked d) → ticket-of f ≡ d → (f ≡ dequeue (record { it = x }) d) × (L .response d ≡ queue.taken x)
-      go (enqueue y) (r, n) t = not-none (sym n ∙ k)
-      go (dequeue z c) (r, n) t = let q : z .it ≡ x = some-injective (sym n ∙ k) in (λ i. dequeue (record { it = q i }) (t i), r ∙ ap queue.taken q)
-      go (empty c) (r, n) t = not-none (sym n ∙ k)
+      go (enqueue y) (r, n) t = absurd (Option·none-ne-some _ (sym n ∙ k))
+      go (dequeue z c) (r, n) t = let q : z .it ≡ x = Option·some-injective _ _ (sym n ∙ k) in (λ i. dequeue (record { it = q i }) (t i), r ∙ ap queue.taken q)
+      go (empty c) (r, n) t = absurd (Option·none-ne-some _ (sym n ∙ k))
       go (scan w) n t = absurd n
 
   -- what is marked has its entry
@@ -124,7 +118,7 @@ module _ (sh : Shape) (wd : 1 ≤ sh .width) (m : Memory) (L : Ledger) (F : Foll
 
   pub marked-once : (c d : ℕ) (x y : Item) → L .marked c ≡ some x → L .marked d ≡ some y → x .ticket ≡ y .ticket → c ≡ d
   marked-once c d x y e f t =
-      let q : x ≡ y = some-injective (sym (F .ord .whole .entries (enqueue (elem x)) (put-entry c x (marked-entry c x e))) ∙ ap (F .ghost .what) t ∙ F .ord .whole .entries (enqueue (elem y)) (put-entry d y (marked-entry d y f))) in
+      let q : x ≡ y = Option·some-injective _ _ (sym (F .ord .whole .entries (enqueue (elem x)) (put-entry c x (marked-entry c x e))) ∙ ap (F .ghost .what) t ∙ F .ord .whole .entries (enqueue (elem y)) (put-entry d y (marked-entry d y f))) in
       taken-once [] order (elem x) c d (F .ord .whole .orderly .legal) (F .ord .whole .distinct) (λ j. elim j [ ]) (marked-entry c x e) (subst (λ (z : Item). Mem (dequeue (elem z) d) order) (sym q) (marked-entry d y f))
 
   holds-bits : (w : Worker) → w .kind ≡ 1 → 1 ≤ w .stage → w .stage ≤ 3 → hasMarked w ≡ true
@@ -152,10 +146,10 @@ module _ (sh : Shape) (wd : 1 ≤ sh .width) (m : Memory) (L : Ledger) (F : Foll
 
       go : (f : Entry (keys sh wd)) → Mem f (F .ghost .order) × Call f × (ticket-of f ≡ c) → (x .ticket ≡ c) × Mem (enqueue (record { it = x })) (F .ghost .order)
       go (enqueue y) (k, b, t) =
-          let q : y .it ≡ x = some-injective (sym (F .ord .whole .entries (enqueue y) k) ∙ ap (F .ghost .what) t ∙ what) in
+          let q : y .it ≡ x = Option·some-injective _ _ (sym (F .ord .whole .entries (enqueue y) k) ∙ ap (F .ghost .what) t ∙ what) in
           (ap (λ (z : Item). z .ticket) (sym q) ∙ t, subst (λ (z : Item). Mem (enqueue (elem z)) order) q k)
-      go (dequeue z n) (k, b, t) = not-none (sym (F .ord .whole .entries (dequeue z n) k) ∙ ap (F .ghost .what) t ∙ what)
-      go (empty n) (k, b, t) = not-none (sym (F .ord .whole .entries (empty n) k) ∙ ap (F .ghost .what) t ∙ what)
+      go (dequeue z n) (k, b, t) = absurd (Option·none-ne-some _ (sym (F .ord .whole .entries (dequeue z n) k) ∙ ap (F .ghost .what) t ∙ what))
+      go (empty n) (k, b, t) = absurd (Option·none-ne-some _ (sym (F .ord .whole .entries (empty n) k) ∙ ap (F .ghost .what) t ∙ what))
       go (scan w) (k, b, t) = absurd b
 
   in-queue-once : (x : Item) → Mem (elem x) (run [] order) → (unmarkedOf sh (m .store) x (F .chains (bucketOf sh (x .time))) ≡ 1) × ((d : ℕ) → L .marked d ≢ some x)

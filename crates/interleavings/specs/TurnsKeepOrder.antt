@@ -12,10 +12,10 @@ use Rattle.arrival.specs.declared.Worker.{Worker}
 use Rattle.arrival.specs.declared.Item.{Item}
 use Rattle.arrival.specs.declared.Response.{Response}
 use Rattle.arrival.specs.declared.Response.the-variants.{Opened, Begun, On, Stored, Took, Empty, Refused}
-use Rattle.laws.specs.Tests.{by-test, never}
+use Rattle.laws.specs.Tests.{by-test, never, upd-same}
 use Rattle.arrival.specs.Queue.{taken}
 use Rattle.calendar.specs.rules.Layout.{Write, _≔_, word, head, link, linkCell, current, itemAt, isMarked}
-use Rattle.calendar.specs.facts.Views.{View, view, update, updates, itemIn, upd-same}
+use Rattle.calendar.specs.facts.Views.{View, view, update, updates, itemIn}
 use Rattle.calendar.specs.rules.Outcome.{Outcome, withStage, withOwn, withBucket, withRight, withCurrent}
 use Rattle.calendar.specs.rules.SearchSteps.{leftHolds, unlink}
 use Rattle.calendar.specs.rules.EnqueueSteps.{ownEpoch, prepare, linkOwn, renewed, renewCurrent}

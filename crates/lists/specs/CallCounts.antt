@@ -7,8 +7,9 @@ use native.Mathlib.Omega.{arith}
 use native.Mathlib.Decide.{ℕ-discrete}
 use Rattle.arrival.specs.declared.Shape.{Shape}
 use Rattle.arrival.specs.declared.Worker.{Worker}
-use Rattle.calendar.specs.facts.Views.{upd-same, upd-other}
-use Rattle.lists.specs.Chain.{In, Distinct, Spot, Edge, insertAt, removeAt}
+use Rattle.laws.specs.Tests.{upd-same, upd-other}
+use Rattle.laws.specs.Lists.{Once}
+use Rattle.lists.specs.Chain.{In, Spot, Edge, insertAt, removeAt}
 use Rattle.lists.specs.LinkInvariant.{Chains, setChain}
 use Rattle.lists.specs.AllCalls.{with-record}
 
@@ -70,12 +71,12 @@ module _ (sh : Shape) where
       go (no u) ih = omega (arith, ap (count c) (upd-other b n xs (ch n) u), ih (omega arith))
 
   module _ (c d : ℕ → ℕ) (x : ℕ) (was : c (sh .buckets + x) % 2 ≡ 0) (is : d (sh .buckets + x) % 2 ≡ 1) (frame : (n : ℕ) → n ≢ x → d (sh .buckets + n) % 2 ≡ c (sh .buckets + n) % 2) where
-    count-mark : (ns : List ℕ) → Distinct ns → In x ns → count c ns ≡ 1 + count d ns
+    count-mark : (ns : List ℕ) → Once ns → In x ns → count c ns ≡ 1 + count d ns
     count-mark (n ∷ ns) ds (List·Memᴰ·head e) =
         omega (arith, ap (λ y. c (sh .buckets + y) % 2) e, ap (λ y. d (sh .buckets + y) % 2) e, count-frame c d ns (λ k j. frame k (λ f. ds .0 k j (sym e ∙ sym f))))
     count-mark (n ∷ ns) ds (List·Memᴰ·tail j) = omega (arith, frame n (ds .0 x j), count-mark ns (ds .1) j)
 
-    pub total-mark : (ch : Chains) (b : ℕ) → ((q : ℕ) → Distinct (ch q)) → In x (ch b) → ((q : ℕ) → In x (ch q) → q ≡ b) → (n : ℕ) → b < n → total c ch n ≡ 1 + total d ch n
+    pub total-mark : (ch : Chains) (b : ℕ) → ((q : ℕ) → Once (ch q)) → In x (ch b) → ((q : ℕ) → In x (ch q) → q ≡ b) → (n : ℕ) → b < n → total c ch n ≡ 1 + total d ch n
     total-mark ch b ds j one zero h = absurd (omega arith)
     total-mark ch b ds j one (suc n) h = go (ℕ-discrete b n) (total-mark ch b ds j one n)
       where

@@ -7,7 +7,8 @@ use Rattle.arrival.specs.declared.Shape.{Shape}
 use Rattle.calendar.specs.rules.Layout.{field}
 use Rattle.arrival.specs.declared.Item.{Item}
 use Rattle.arrival.specs.Keys.{itemBucket}
-use Rattle.calendar.specs.facts.Views.{View, update, itemIn, Lt, upd-same, upd-other, upd-cases}
+use Rattle.calendar.specs.facts.Views.{View, update, itemIn, Lt}
+use Rattle.laws.specs.Tests.{upd-same, upd-other, upd-cases}
 use Rattle.lists.specs.Chain.{In, ascends-map}
 use Rattle.lists.specs.Knowledge.{Stable}
 use Rattle.lists.specs.LinkInvariant.{Chains, home, Safe, Follows, Lists}

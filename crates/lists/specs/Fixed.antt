@@ -12,9 +12,9 @@ use Rattle.arrival.specs.declared.Worker.{Worker}
 use Rattle.arrival.specs.declared.Action.{Action}
 use Rattle.arrival.specs.declared.Action.the-variants.{Enqueue, Dequeue, Step}
 use Rattle.arrival.specs.declared.Response.the-variants.{Opened}
-use Rattle.laws.specs.Tests.{never}
+use Rattle.laws.specs.Tests.{never, upd-other}
 use Rattle.calendar.specs.rules.Layout.{Write, itemAt, epochAt, started}
-use Rattle.calendar.specs.facts.Views.{View, view, updates, itemIn, view-writeAll, upd-other}
+use Rattle.calendar.specs.facts.Views.{View, view, updates, itemIn, view-writeAll}
 use Rattle.calendar.specs.rules.Ranges.{worker}
 use Rattle.calendar.specs.rules.Reclaim.{firstFree}
 use Rattle.calendar.specs.facts.FirstFree.{first-free-node, first-free-free}

@@ -14,10 +14,10 @@ use Rattle.arrival.specs.declared.Arrival.{Arrival}
 use Rattle.arrival.specs.declared.Worker.{Worker}
 use Rattle.arrival.specs.declared.Action.the-variants.{Enqueue, Dequeue, Step}
 use Rattle.arrival.specs.Keys.{bucketOf, item-bucket, bucket-below}
-use Rattle.laws.specs.Tests.{never, parts}
+use Rattle.laws.specs.Tests.{never, parts, upd-cases}
 use Rattle.calendar.specs.rules.Layout.{started, standing, writeAll}
-use Rattle.calendar.specs.facts.Views.{view, updates, view-writeAll, AllInside, upd-cases}
-use Rattle.laws.specs.Every.{every, every-at}
+use Rattle.calendar.specs.facts.Views.{view, updates, view-writeAll, AllInside}
+use Rattle.laws.specs.Counting.{every, every-at}
 use Rattle.calendar.specs.rules.Ranges.{blank, worker}
 use Rattle.calendar.specs.facts.RangeFacts.{StoreRanges, RecordRanges}
 use Rattle.calendar.specs.rules.Reclaim.{startedBy, isFree, isFreeNode, firstFree}

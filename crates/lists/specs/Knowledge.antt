@@ -9,7 +9,8 @@ use Rattle.arrival.specs.declared.Shape.{Shape}
 use Rattle.arrival.specs.declared.Worker.{Worker}
 use Rattle.calendar.specs.rules.Layout.{cell, field}
 use Rattle.arrival.specs.Keys.{itemBucket}
-use Rattle.calendar.specs.facts.Views.{View, update, itemIn, Lt, upd-other}
+use Rattle.calendar.specs.facts.Views.{View, update, itemIn, Lt}
+use Rattle.laws.specs.Tests.{upd-other}
 use Rattle.lists.specs.Chain.{In, Spot, here, spot-of, insertAt, removeAt, in-insert, in-remove, edge-in}
 use Rattle.lists.specs.LinkInvariant.{Chains, setChain, set-cases, home, Safe, Lists, Linking, Unlinking, unlinked, edge, link-safe, un-safe, un-standing, out-not-left, marked-cell}
 
@@ -177,17 +178,18 @@ mark-stable sh m ch x seen c b was clean i = record {
     same : (n : ℕ) → x ≢ n → (update (cell (sh .buckets + x)) (2 * (seen / 2) + 1) m) .cells (sh .buckets + n) ≡ m .cells (sh .buckets + n)
     same n h = upd-other (sh .buckets + x) (sh .buckets + n) (2 * (seen / 2) + 1) (m .cells (sh .buckets + n)) (λ e. h (omega arith))
 
+-- what is safe for a call is nobody's private node
+pub not-private : (sh : Shape) (m : View) (ch : Chains) (c d x : ℕ) → Private sh m ch d x → (n : ℕ) → Safe sh m ch c n → x ≢ n
+not-private sh m ch c d x p n (inl i) e = p .out (home sh m n) (Memᴰ·cast e i)
+not-private sh m ch c d x p n (inr (k, s, l)) e = omega (arith, ap (m .standing) e, p .used)
+
 -- A PRIVATE NODE'S link and epoch (4), written by the call d, for another call c.
 pub private-stable : (sh : Shape) (m : View) (ch : Chains) (c d x e v : ℕ) → c ≢ d → Private sh m ch d x
     → Stable sh m ch (update (cell (sh .buckets + x)) v (update (field 6 x) e m)) ch c
 private-stable sh m ch c d x e v cd p = record {
-  safe = λ n l s. record { still = s; key = refl; epoch = upd-other x n e (m .epoch n) (not-safe n s); marked = λ q. same n (not-safe n s) };
+  safe = λ n l s. record { still = s; key = refl; epoch = upd-other x n e (m .epoch n) (not-private sh m ch c d x p n s); marked = λ q. same n (not-private sh m ch c d x p n s) };
   private = λ n q. record { still = q; key = refl; link = same n (λ r. cd (sym (q .ticketed) ∙ ap (m .ticket) (sym r) ∙ p .ticketed)) };
 }
   where
     same : (n : ℕ) → x ≢ n → (update (cell (sh .buckets + x)) v (update (field 6 x) e m)) .cells (sh .buckets + n) ≡ m .cells (sh .buckets + n)
     same n h = upd-other (sh .buckets + x) (sh .buckets + n) v (m .cells (sh .buckets + n)) (λ r. h (omega arith))
-
-    not-safe : (n : ℕ) → Safe sh m ch c n → x ≢ n
-    not-safe n (inl i) r = p .out (home sh m n) (Memᴰ·cast r i)
-    not-safe n (inr (k, s, l)) r = omega (arith, ap (m .standing) r, p .used)

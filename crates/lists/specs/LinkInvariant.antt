@@ -10,8 +10,10 @@ use borrow.Author.Tests.{eqb-true, eqb-false}
 use Rattle.arrival.specs.declared.Shape.{Shape}
 use Rattle.calendar.specs.rules.Layout.{word, cell, field}
 use Rattle.arrival.specs.Keys.{itemBucket, lower-trans, lower-irr}
-use Rattle.calendar.specs.facts.Views.{View, update, itemIn, Lt, upd-same, upd-other, upd-cases}
-use Rattle.lists.specs.Chain.{In, Distinct, Runs, Spot, Edge, Apart, insertAt, removeAt, runs-frame, spot-not, insert-runs, edge-of, edge-in, remove-runs, in-insert, insert-in, in-remove, remove-in, removed-ne, in-next, Ascends, distinct, insert-ascends, remove-ascends}
+use Rattle.calendar.specs.facts.Views.{View, update, itemIn, Lt}
+use Rattle.laws.specs.Tests.{upd-same, upd-other, upd-cases}
+use Rattle.laws.specs.Lists.{Once}
+use Rattle.lists.specs.Chain.{In, Runs, Spot, Edge, Apart, insertAt, removeAt, runs-frame, spot-not, insert-runs, edge-of, edge-in, remove-runs, in-insert, insert-in, in-remove, remove-in, removed-ne, in-next, Ascends, distinct, insert-ascends, remove-ascends}
 
 -- The chains, as the proof carries them.
 abbrev pub Chains : Type 0
@@ -89,7 +91,7 @@ head-apart sh b ns h n i e = omega arith
 pub out-not-left : (sh : Shape) (b : ℕ) (ns : List ℕ) (left n : ℕ) → b < sh .buckets → Spot sh left b ns → (In n ns → ⊥) → left ≢ sh .buckets + n
 out-not-left sh b ns left n l sp out e = spot-not sh (sh .buckets + n) sp (λ q. omega arith) (λ j i q. out (Memᴰ·cast (omega arith) i)) (sym e)
 
-pub chain-distinct : (sh : Shape) (m : View) (ns : List ℕ) → Ascends (Lt m) ns → Distinct ns
+pub chain-distinct : (sh : Shape) (m : View) (ns : List ℕ) → Ascends (Lt m) ns → Once ns
 chain-distinct sh m ns = distinct sh (Lt m) (λ a b c. lower-trans (itemIn m a) (itemIn m b) (itemIn m c)) (λ a. lower-irr (itemIn m a)) ns
 
 module _ (sh : Shape) (m : View) (ch : Chains) (Live : ℕ → Type 0) (I : Lists sh m ch Live) (b left right own : ℕ) (k : Linking sh m ch b left right own) where
@@ -167,7 +169,7 @@ module _ (sh : Shape) (m : View) (ch : Chains) (Live : ℕ → Type 0) (I : List
   pub edge : Edge sh left right b (ch b)
   edge = edge-of sh (m .cells) (k .spot) (I .runs b (k .inRange)) (omega (arith, k .was)) (λ e. omega (arith, k .isNode))
 
-  ds : Distinct (ch b)
+  ds : Once (ch b)
   ds = chain-distinct sh m (ch b) (I .ascends b)
 
   -- left was unmarked: a marked cell is not left

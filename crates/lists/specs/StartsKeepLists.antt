@@ -10,7 +10,8 @@ use Rattle.calendar.specs.rules.Layout.{word}
 use Rattle.arrival.specs.declared.Item.{Item}
 use Rattle.arrival.specs.Keys.{itemBucket}
 use Rattle.calendar.specs.rules.Outcome.{withStage}
-use Rattle.calendar.specs.facts.Views.{View, update, itemIn, upd-same, upd-cases}
+use Rattle.calendar.specs.facts.Views.{View, update, itemIn}
+use Rattle.laws.specs.Tests.{upd-same, upd-cases}
 use Rattle.lists.specs.LinkInvariant.{Chains}
 use Rattle.lists.specs.Marking.{fewer-keeps, more-keeps}
 use Rattle.lists.specs.AllCalls.{Knows, Live, Inv, with-record, knows-stable}

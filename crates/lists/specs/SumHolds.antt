@@ -1,7 +1,7 @@
 -- The sum of document 01 holds after every history from an opening. Assumes nothing.
 use mathlib.Core.Path.{_≡_, refl, sym, ap, _∙_, subst⁻¹}
 use mathlib.Core.Bool.{Bool, true, false, cond}
-use mathlib.Core.Option.{some}
+use mathlib.Core.Option.{some, Option·some-injective}
 use mathlib.Core.List.{List, [], _∷_}
 use Prim.Native.Nat.{ℕ, zero, suc, _+_, _-_, _%_, _≤_, _<_}
 use native.Mathlib.Omega.{arith}
@@ -14,7 +14,7 @@ use Rattle.arrival.specs.declared.Response.{Response}
 use Rattle.arrival.specs.declared.Response.the-variants.{Opened, Begun, On, Stored, Took, Empty, Refused}
 use Rattle.calendar.specs.rules.Layout.{link, isMarked, itemAt, writeAll}
 use Rattle.calendar.specs.facts.Views.{View, view, updates, view-writeAll, AllInside}
-use Rattle.laws.specs.Every.{count}
+use Rattle.laws.specs.Counting.{count}
 use Rattle.calendar.specs.rules.Ranges.{blank, worker}
 use Rattle.calendar.specs.rules.Reclaim.{firstFree}
 use Rattle.calendar.specs.facts.FirstFree.{first-free-node}
@@ -205,8 +205,5 @@ module _ (sh : Shape) where
         S .balanced,
         workers-are (n .table) hasLinked (sh .workers),
         workers-are (n .table) hasMarked (sh .workers),
-        unmarked-are (n .store) lists (S .chains) (sh .buckets) (λ b l. one-list (sym (listed b l) ∙ walk-meets sh (n .store) (S .chains) _ (S .reached .inv .lists) b l)),
+        unmarked-are (n .store) lists (S .chains) (sh .buckets) (λ b l. Option·some-injective _ _ (sym (listed b l) ∙ walk-meets sh (n .store) (S .chains) _ (S .reached .inv .lists) b l)),
       )
-    where
-      one-list : {a b : List ℕ} → some a ≡ some b → a ≡ b
-      one-list {a} {b} q = let z : a ≡ b = cc in z

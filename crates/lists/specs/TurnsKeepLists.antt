@@ -9,7 +9,7 @@ use borrow.Author.Tests.{eqb-true, eqb-false, ltb-true, ltb-false}
 use Rattle.arrival.specs.declared.Shape.{Shape}
 use Rattle.arrival.specs.declared.Worker.{Worker}
 use Rattle.arrival.specs.Keys.{lower-total}
-use Rattle.laws.specs.Tests.{never}
+use Rattle.laws.specs.Tests.{never, upd-same}
 use Rattle.calendar.specs.rules.Layout.{Write, field, word, linkCell, link, current, itemAt, isMarked}
 use Rattle.calendar.specs.rules.Outcome.{Outcome, withStage, withOwn, withBucket, withRight, withSeen, withCurrent}
 use Rattle.calendar.specs.rules.SearchSteps.{leftHolds, unlink}
@@ -17,7 +17,7 @@ use Rattle.calendar.specs.rules.EnqueueSteps.{ownEpoch, prepare, linkOwn, renew
 use Rattle.calendar.specs.rules.DequeueSteps.{nodeIsMarked, linkHolds, markNode, nextCurrent}
 use Rattle.calendar.specs.facts.Inside.{found-writes, settled-writes, walked-writes}
 use Rattle.calendar.specs.facts.Changes.{Found, put-found, take-ends, Settled, at-end, goes-on, Walked, out, out-last, meets, Change, head-read, mark-seen, passed, stopped, unlinked, again-3, prepared, linked, again-5, stored-6, on-7, stored-7, back-6, current-read, first-read, mark-passed, newer, on-11, marked, back-10, advanced, back-12, emptied, back-13}
-use Rattle.calendar.specs.facts.Views.{View, view, update, updates, Lt, upd-same}
+use Rattle.calendar.specs.facts.Views.{View, view, update, updates, Lt}
 use Rattle.lists.specs.Chain.{In, Runs, insertAt, removeAt, insert-own}
 use Rattle.lists.specs.LinkInvariant.{Chains, setChain, home, Safe, Follows, Lists, Linking, Unlinking, edge, link-keeps, unlink-keeps, safe-next}
 use Rattle.lists.specs.Marking.{mark-keeps, private-keeps}

@@ -1,17 +1,17 @@
 -- What is ahead of a walk stays ahead through every change of the links. Assumes nothing.
 use mathlib.Core.Path.{_≡_, refl, sym, ap}
-use mathlib.Core.List.{Memᴰ·cast}
-use mathlib.Core.Logic.{_≢_, _⊎_, inl, inr}
+use mathlib.Core.Logic.{_⊎_, inl, inr}
 use Prim.Native.Nat.{ℕ, _+_, _*_, _/_, _%_, _<_}
 use native.Mathlib.Omega.{arith}
 use Rattle.arrival.specs.declared.Shape.{Shape}
 use Rattle.calendar.specs.rules.Layout.{cell}
 use Rattle.arrival.specs.Keys.{lower-trans, lower-irr}
-use Rattle.calendar.specs.facts.Views.{View, update, itemIn, Lt, upd-same, upd-other}
+use Rattle.calendar.specs.facts.Views.{View, update, itemIn, Lt}
+use Rattle.laws.specs.Tests.{upd-same, upd-other}
 use Rattle.lists.specs.Chain.{In}
-use Rattle.lists.specs.LinkInvariant.{Chains, home, Safe, Follows, Lists, Linking, Unlinking, unlinked, own-not-left, safe-next}
+use Rattle.lists.specs.LinkInvariant.{Chains, Safe, Follows, Lists, Linking, Unlinking, unlinked, own-not-left, safe-next}
 use Rattle.lists.specs.Marking.{marked-half}
-use Rattle.lists.specs.Knowledge.{Private}
+use Rattle.lists.specs.Knowledge.{Private, not-private}
 use Rattle.lists.specs.LinkPaths.{Reach, reach-half, reach-link, reach-unlink, reach-outside, run-reach, later-reach}
 
 module _ (sh : Shape) (m : View) (ch : Chains) (Live : ℕ → Type 0) (I : Lists sh m ch Live) (z n : ℕ) (r : Reach sh (m .cells) z n) where
@@ -33,13 +33,9 @@ module _ (sh : Shape) (m : View) (ch : Chains) (Live : ℕ → Type 0) (I : List
 
   pub ahead-private : (c d x v : ℕ) → Live c → n < sh .nodes → z < sh .nodes → Safe sh m ch c n → Private sh m ch d x → Reach sh ((update (cell (sh .buckets + x)) v m) .cells) z n
   ahead-private c d x v live nn zn safe p =
-      reach-outside sh (m .cells) _ (λ q. (q < sh .nodes) × Safe sh m ch c q) (λ q s. upd-other (sh .buckets + x) (sh .buckets + q) v (m .cells (sh .buckets + q)) (λ e. not-safe q (s .1) (omega arith)))
+      reach-outside sh (m .cells) _ (λ q. (q < sh .nodes) × Safe sh m ch c q) (λ q s. upd-other (sh .buckets + x) (sh .buckets + q) v (m .cells (sh .buckets + q)) (λ e. not-private sh m ch c d x p q (s .1) (omega arith)))
       (λ q s. go q (m .cells (sh .buckets + q) / 2) (safe-next sh m ch Live I c q live (s .0) (s .1))) zn (nn, safe) r
     where
-      not-safe : (q : ℕ) → Safe sh m ch c q → x ≢ q
-      not-safe q (inl i) e = p .out (home sh m q) (Memᴰ·cast e i)
-      not-safe q (inr (k, s, l)) e = omega (arith, ap (m .standing) e, p .used)
-
       go : (q y : ℕ) → (y ≡ sh .nodes) ⊎ Follows sh m ch c q y → (y ≡ sh .nodes) ⊎ ((y < sh .nodes) × Safe sh m ch c y)
       go q y (inl e) = inl e
       go q y (inr f) = inr (f .isNode, f .safe)

@@ -1,7 +1,7 @@
 -- The sum of document 01 over every history: stored and puts at 6 and 7, arrivals answered, takes at 1 to 3, unmarked nodes.
 -- One match over the changes. Assumes nothing.
 use mathlib.Core.Path.{_≡_, refl, sym, ap, _∙_, subst}
-use mathlib.Core.Bool.{Bool, true, false, cond, _&&_}
+use mathlib.Core.Bool.{Bool, true, false, cond, _&&_, and-false}
 use mathlib.Core.Logic.{_≢_, _⊎_, inl, inr}
 use mathlib.Core.List.{List, []}
 use Prim.Native.Nat.{ℕ, _+_, _*_, _/_, _%_, _≤_, _<_}
@@ -14,7 +14,8 @@ use Rattle.arrival.specs.declared.Worker.{Worker}
 use Rattle.arrival.specs.declared.Response.{Response}
 use Rattle.arrival.specs.declared.Response.the-variants.{Opened, Begun, On, Stored, Took, Empty, Refused}
 use Rattle.calendar.specs.rules.Layout.{Write, link}
-use Rattle.calendar.specs.facts.Views.{View, view, updates, upd-same, upd-other, upd-cases}
+use Rattle.calendar.specs.facts.Views.{View, view, updates}
+use Rattle.laws.specs.Tests.{upd-same, upd-other, upd-cases}
 use Rattle.calendar.specs.rules.Ranges.{worker}
 use Rattle.calendar.specs.facts.RangeFacts.{RecordRanges}
 use Rattle.calendar.specs.rules.Outcome.{Outcome, withStage, withOwn, withBucket, withSeen, withCurrent}
@@ -39,8 +40,7 @@ abbrev pub markedBit : Worker → ℕ
 markedBit w = cond (hasMarked w) 1 0
 
 off : (a : Bool) → _≡_ {A = ℕ} (cond (a && false) 1 0) 0
-off true = refl
-off false = refl
+off a = rw (and-false a)
 
 linked-on : (w : Worker) → w .kind ≡ 0 → 6 ≤ w .stage → w .stage ≤ 7 → linkedBit w ≡ 1
 linked-on w z a b = rw (eq-eqb (w .kind) 0 z, le-leb 6 (w .stage) a, le-leb (w .stage) 7 b)

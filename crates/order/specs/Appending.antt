@@ -6,7 +6,7 @@ use Prim.Native.Nat.{ℕ, _≤_, _<_}
 use native.Mathlib.Omega.{arith}
 use native.Mathlib.Decide.{ℕ-discrete}
 use Rattle.order.specs.Entries.{Keys, Element, Entry, enqueue, dequeue, empty, scan, Q, Order, keep, ticket, bucket, without, step, run, Walk, Ok, run-append, walk-append}
-use Rattle.order.specs.RealTime.{End, running, ended, Hist, NotBefore, Settled, end-of, ticket-of, InTime, Timely, pairs-snoc, Elder, AgeAt}
+use Rattle.order.specs.RealTime.{End, running, ended, Hist, NotBefore, Settled, end-of, ticket-of, InTime, Timely, pairs-snoc, Elder, AgeAt, settled-open}
 use Rattle.order.specs.Scans.{Walker, Sight, Marks, marks-find, Alike, nil, both, right, alike-run, alike-unscan, sight-alike, unscan, running-ended}
 use Rattle.order.specs.OrderAfterMark.{Inv, came, inv-alike, inv-unscan}
 
@@ -29,17 +29,13 @@ pub not-settled : (a b : End) → a ≡ running → Settled a b → ⊥
 not-settled running b e h = h
 not-settled (ended t) b e h = running-ended t (sym e)
 
-pub settled-running : (a b : End) → Settled a b → Settled a running
-settled-running running b h = h
-settled-running (ended t) b h = tt
-
 module _ {H H′ : Hist} {c s : ℕ} (E : Ends H H′ c s) (B : Past H s) where
   pub settled-kept : (m n : ℕ) → Settled (H .end m) (H .end n) → Settled (H′ .end m) (H′ .end n)
   settled-kept m n h = go (ℕ-discrete m c) (ℕ-discrete n c)
     where
       go : Dec (m ≡ c) → Dec (n ≡ c) → Settled (H′ .end m) (H′ .end n)
       go (yes e) d = absurd (not-settled (H .end m) (H .end n) (ap (H .end) e ∙ E .ran) h)
-      go (no k) (yes e) = rw (E .other-end m k, e, E .over) (settled-late (H .end m) s (B m) (settled-running (H .end m) (H .end n) h))
+      go (no k) (yes e) = rw (E .other-end m k, e, E .over) (settled-late (H .end m) s (B m) (settled-open (H .end m) (H .end n) h))
       go (no k) (no l) = rw (E .other-end m k, E .other-end n l) h
 
   pub done-kept : (m : ℕ) → Settled (H .end m) running → Settled (H′ .end m) running

@@ -58,6 +58,15 @@ scans-b {K} S x L p c v w n =
     omega (arith, scans-unscan v w (A ++ enqueue x ∷ dequeue x c ∷ (M ++ B)) n, scans-append v A (enqueue x ∷ dequeue x c ∷ (M ++ B)), scans-append v M B, scans-staying v S x (p .front), scans-strip v (p .back) x, scans-append v (p .front) (p .back), ap (scans v) (p .split))
 
 -- ── what was enqueued once and taken is gone ──
+-- what is in the queue past an entry is enqueued no more
+pub still-once : {K : Keys} (S : Q K) (L : Order K) (x : Element K) (f : Entry K) → ((h : Entry K) → Mem h L → Apart f h)
+    → (Mem x S → ¬ Mem (enqueue x) (f ∷ L)) → Mem x (step S f) → ¬ Mem (enqueue x) L
+still-once S L x (enqueue p) a o (here g) j = a (enqueue x) j tt tt (ap ticket (sym g))
+still-once S L x (enqueue p) a o (there i) j = o i (there j)
+still-once S L x (dequeue z c) a o i j = o (without-mem S z i .0) (there j)
+still-once S L x (empty c) a o i j = o i (there j)
+still-once S L x (scan w) a o i j = o i (there j)
+
 pub taken-gone : {K : Keys} (S : Q K) (L : Order K) (x : Element K) (d : ℕ) → Legal S L → Distinct L → (Mem x S → ¬ Mem (enqueue x) L) → Mem (dequeue x d) L → ¬ Mem x (run S L)
 taken-gone {K} S (e ∷ L) x d l D once (here g) k = go (subst (λ f. Mem x (run (step S f) L)) (sym g) k) (subst (λ f. Ok S f) (sym g) (l .0) .0)
   where
@@ -67,14 +76,7 @@ taken-gone {K} S (e ∷ L) x d l D once (here g) k = go (subst (λ f. Mem x (run
         pick : Mem x (without S x) ⊎ Mem (enqueue x) L → ⊥
         pick (inl y) = without-mem S x y .1 refl
         pick (inr y) = once i (there y)
-taken-gone {K} S (e ∷ L) x d l D once (there m) k = taken-gone (step S e) L x d (l .1) (D .1) (fresh e (D .0) once) m k
-  where
-    fresh : (f : Entry K) → ((h : Entry K) → Mem h L → Apart f h) → (Mem x S → ¬ Mem (enqueue x) (f ∷ L)) → Mem x (step S f) → ¬ Mem (enqueue x) L
-    fresh (enqueue p) a o (here g) j = a (enqueue x) j tt tt (ap ticket (sym g))
-    fresh (enqueue p) a o (there i) j = o i (there j)
-    fresh (dequeue z c) a o i j = o (without-mem S z i .0) (there j)
-    fresh (empty c) a o i j = o i (there j)
-    fresh (scan w) a o i j = o i (there j)
+taken-gone {K} S (e ∷ L) x d l D once (there m) k = taken-gone (step S e) L x d (l .1) (D .1) (still-once S L x e (D .0) once) m k
 
 -- what is taken was there or was enqueued
 pub taken-enqueued : {K : Keys} (S : Q K) (L : Order K) (x : Element K) (d : ℕ) → Legal S L → Mem (dequeue x d) L → Mem x S ⊎ Mem (enqueue x) L

@@ -3,12 +3,14 @@ use mathlib.Core.Path.{_≡_, refl, sym, ap, _∙_, subst⁻¹}
 use mathlib.Core.Bool.{Bool, true, false, cond}
 use mathlib.Core.List.{List, [], _∷_, _++_}
 use mathlib.Core.Logic.{_⊎_, inl, inr}
-use Prim.Native.Nat.{ℕ, zero, suc, _+_, _-_, _≤_, _<_}
+use Prim.Native.Nat.{ℕ, _+_, _-_, _≤_, _<_}
 use native.Mathlib.Omega.{arith}
 use lib.Dec.{eqb}
 use lib.ListN.{length, take, drop, length-drop, take-append-drop}
-use lib.Seq.{drop-drop, take-nil, take-take, take-at, length-take-le}
+use lib.Seq.{drop-drop, take-take, take-at, length-take-le}
 use borrow.Author.Tests.{eqb-true, eqb-false, eq-eqb, ne-eqb}
+use Rattle.laws.specs.Lists.{drop-take}
+use Rattle.laws.specs.Storing.{moved}
 use Rattle.turn_file.specs.MoreBytes.{Unknown, Cut, at-end, why-refused, cut-short}
 use Rattle.turn_file.specs.Buffer.{written, after, written-length, after-within}
 use Rattle.batch.specs.declared.HeldPool.{HeldPool}
@@ -22,7 +24,6 @@ use Rattle.batch.specs.PartOfFile.{Reason, part-of-file}
 use Rattle.turns.specs.declared.Next.{Next}
 use Rattle.turns.specs.declared.Next.the-variants.{Read, Last}
 use Rattle.turns.specs.declared.Round.{Round}
-use Rattle.laws.specs.MoveFront.{moved}
 use Rattle.turns.specs.TurnsRun.{follows, lastLine, Held, Rounded, rounded, roundOf, isEmpty}
 
 -- the bytes from `at` to `have`
@@ -42,12 +43,6 @@ pub record Placed (r : Round) (have : ℕ) (out : List ℕ) : Type 0 where
   pub few : r .next ≡ Read → have - r .at < 12
 
 -- ── bytes in hand ──
-drop-take : (m n : ℕ) (l : List ℕ) → drop m (take n l) ≡ take (n - m) (drop m l)
-drop-take zero n l = let e : n ≡ n - 0 = omega arith in ap (λ (k : ℕ). take k l) e
-drop-take (suc m) zero l = let e : 0 ≡ 0 - suc m = omega arith in ap (λ (k : ℕ). take k (drop (suc m) l)) e
-drop-take (suc m) (suc n) [] = sym (take-nil (suc n - suc m))
-drop-take (suc m) (suc n) (x ∷ l) = let e : n - m ≡ suc n - suc m = omega arith in drop-take m n l ∙ ap (λ (k : ℕ). take k (drop m l)) e
-
 pub further-on : (at m have : ℕ) (input : List ℕ) → drop m (inHand at have input) ≡ inHand (at + m) have input
 further-on at m have input =
     let e : have - at - m ≡ have - (at + m) = omega arith in

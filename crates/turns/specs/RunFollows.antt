@@ -17,7 +17,7 @@ use Rattle.turns.specs.declared.Ended.the-variants.{Finished, Closed, Sp
 use Rattle.turns.specs.declared.Next.{Next}
 use Rattle.turns.specs.declared.Next.the-variants.{More, Read, End, Last}
 use Rattle.turns.specs.declared.Round.{Round}
-use Rattle.laws.specs.MoveFront.{moved}
+use Rattle.laws.specs.Storing.{moved}
 use Rattle.turns.specs.TurnsRun.{lent, Held, Rounded, roundOf, Reads, worked-on, read-on, nextRound, rounds, atFirst, inputOf}
 use Rattle.turns.specs.InPieces.{load, in-pieces}
 use Rattle.turns.specs.BetweenRounds.{inHand, holding, leaves, read-behind, nothing-read}

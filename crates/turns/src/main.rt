@@ -5,7 +5,7 @@ ghost use lib.ListN.{length, take};
 ghost use Rattle.turn_file.specs.Buffer.{written, after};
 ghost use Rattle.batch.specs.TurnFile.{zeros};
 ghost use Rattle.batch.specs.CodeView.{Sound};
-ghost use Rattle.laws.specs.MoveFront.{moved};
+ghost use Rattle.laws.specs.Storing.{moved};
 ghost use Rattle.turns.specs.TurnsRun.{lent, follows, lastLine, roundOf, atFirst};
 ghost use Rattle.turns.specs.BetweenRounds.{inHand, holding, leaves, Placed};
 ghost use Rattle.turns.specs.RunFollows.{Outcome};

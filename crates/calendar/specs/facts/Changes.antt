@@ -12,7 +12,7 @@ use Rattle.arrival.specs.declared.Shape.{Shape}
 use Rattle.arrival.specs.declared.Worker.{Worker}
 use Rattle.arrival.specs.declared.Response.the-variants.{Stored, Empty}
 use Rattle.laws.specs.Tests.{by-test}
-use Rattle.laws.specs.Every.{Each, each-of}
+use Rattle.laws.specs.Counting.{Each, each-of}
 use Rattle.calendar.specs.rules.Layout.{Write, _≔_, word, head, link, linkCell, current, successor, bucketIn}
 use Rattle.calendar.specs.rules.Outcome.{Outcome, on, answer, withOwn, withBucket, withLeft, withRight, withSeen, withCurrent}
 use Rattle.calendar.specs.rules.SearchSteps.{answered, found, settle, rightIsMarked, rightIsLower, leftHolds, unlink, step-1, step-2, step-3}

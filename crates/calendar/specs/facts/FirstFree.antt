@@ -13,7 +13,7 @@ use Rattle.arrival.specs.declared.Worker.{Worker}
 use Rattle.calendar.specs.rules.Layout.{lastNode}
 use Rattle.calendar.specs.rules.Reclaim.{isFreeNode, nodeAfter, firstFreeOf, firstFree}
 
-after-below : (sh : Shape) (n : ℕ) → n < sh .nodes → nodeAfter sh n < sh .nodes
+pub after-below : (sh : Shape) (n : ℕ) → 0 < sh .nodes → nodeAfter sh n < sh .nodes
 after-below sh n h = go (ltb (n + 1) (sh .nodes)) refl
   where
     go : (t : Bool) → ltb (n + 1) (sh .nodes) ≡ t → cond t (n + 1) 0 < sh .nodes
@@ -28,12 +28,12 @@ module _ (sh : Shape) (s : List ℕ) (t : List Worker) where
   first-of : (k n : ℕ) → n < sh .nodes → firstFreeOf sh s t k n ≢ sh .nodes → (firstFreeOf sh s t k n < sh .nodes) × (isFreeNode sh s t (firstFreeOf sh s t k n) ≡ true)
   unfolding firstFreeOf
   first-of zero n h e = absurd (e refl)
-  first-of (suc k) n h e = go (isFreeNode sh s t (nodeAfter sh n)) refl e (first-of k (nodeAfter sh n) (after-below sh n h))
+  first-of (suc k) n h e = go (isFreeNode sh s t (nodeAfter sh n)) refl e (first-of k (nodeAfter sh n) (after-below sh n (omega arith)))
     where
       go : (u : Bool) → isFreeNode sh s t (nodeAfter sh n) ≡ u → cond u (nodeAfter sh n) (firstFreeOf sh s t k (nodeAfter sh n)) ≢ sh .nodes
           → (firstFreeOf sh s t k (nodeAfter sh n) ≢ sh .nodes → (firstFreeOf sh s t k (nodeAfter sh n) < sh .nodes) × (isFreeNode sh s t (firstFreeOf sh s t k (nodeAfter sh n)) ≡ true))
           → (cond u (nodeAfter sh n) (firstFreeOf sh s t k (nodeAfter sh n)) < sh .nodes) × (isFreeNode sh s t (cond u (nodeAfter sh n) (firstFreeOf sh s t k (nodeAfter sh n))) ≡ true)
-      go true f q rec = (after-below sh n h, f)
+      go true f q rec = (after-below sh n (omega arith), f)
       go false f q rec = rec q
 
   pub first-free-node : lastNode sh s < sh .nodes → firstFree sh s t ≢ sh .nodes → firstFree sh s t < sh .nodes
@@ -64,7 +64,7 @@ module _ (sh : Shape) (s : List ℕ) (t : List Worker) where
   not-before : (k n : ℕ) → n < sh .nodes → firstFreeOf sh s t k n ≢ sh .nodes → (x : ℕ) → x < sh .nodes → Before n x (firstFreeOf sh s t k n) → isFreeNode sh s t x ≡ false
   unfolding firstFreeOf
   not-before zero n hn e x hx p = absurd (e refl)
-  not-before (suc k) n hn e x hx p = go (isFreeNode sh s t (nodeAfter sh n)) refl e (ℕ-discrete x (nodeAfter sh n)) p (λ q r. not-before k (nodeAfter sh n) (after-below sh n hn) q x hx r)
+  not-before (suc k) n hn e x hx p = go (isFreeNode sh s t (nodeAfter sh n)) refl e (ℕ-discrete x (nodeAfter sh n)) p (λ q r. not-before k (nodeAfter sh n) (after-below sh n (omega arith)) q x hx r)
     where
       go : (u : Bool) → isFreeNode sh s t (nodeAfter sh n) ≡ u → cond u (nodeAfter sh n) (firstFreeOf sh s t k (nodeAfter sh n)) ≢ sh .nodes
           → Dec (x ≡ nodeAfter sh n) → Before n x (cond u (nodeAfter sh n) (firstFreeOf sh s t k (nodeAfter sh n)))
@@ -96,12 +96,12 @@ module _ (sh : Shape) (s : List ℕ) (t : List Worker) where
   none-of zero n hn e x hx (inr p) = absurd (omega arith)
   none-of (suc k) n hn e x hx p =
       go (isFreeNode sh s t (nodeAfter sh n)) refl e (ℕ-discrete x (nodeAfter sh n))
-      (λ d q. none-of k (nodeAfter sh n) (after-below sh n hn) q x hx (closer k n x hn hx (ltb (n + 1) (sh .nodes)) refl d p))
+      (λ d q. none-of k (nodeAfter sh n) (after-below sh n (omega arith)) q x hx (closer k n x hn hx (ltb (n + 1) (sh .nodes)) refl d p))
     where
       go : (u : Bool) → isFreeNode sh s t (nodeAfter sh n) ≡ u → cond u (nodeAfter sh n) (firstFreeOf sh s t k (nodeAfter sh n)) ≡ sh .nodes
           → Dec (x ≡ nodeAfter sh n)
           → (x ≢ nodeAfter sh n → firstFreeOf sh s t k (nodeAfter sh n) ≡ sh .nodes → isFreeNode sh s t x ≡ false) → isFreeNode sh s t x ≡ false
-      go true f q d rec = absurd (omega (arith, after-below sh n hn))
+      go true f q d rec = absurd (omega (arith, after-below sh n (omega arith)))
       go false f q (yes d) rec = rw d f
       go false f q (no d) rec = rec d q
 

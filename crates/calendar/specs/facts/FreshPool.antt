@@ -1,31 +1,29 @@
 -- What an opened store and table hold, place by place. Assumes nothing.
-use mathlib.Core.Path.{_≡_, refl, sym, ap, _∙_}
-use mathlib.Core.List.{List, [], _∷_, _++_}
-use mathlib.Core.Bool.{Bool, true, false, cond, _&&_}
-use mathlib.Core.Logic.{inl, inr}
-use Prim.Native.Nat.{ℕ, zero, suc, _+_, _*_, _-_, _/_, _%_, _≤_, _<_}
+use mathlib.Core.Path.{_≡_, ap, _∙_}
+use mathlib.Core.List.{List}
+use mathlib.Core.Logic.{inr}
+use Prim.Native.Nat.{ℕ, _+_, _*_, _-_, _≤_, _<_}
 use native.Mathlib.Omega.{arith}
-use lib.Dec.{eqb, leb, ltb, lit<}
-use lib.ListN.{length, getD, drop, replicate, getD-replicate, length-replicate, List·getD-append}
-use borrow.Author.Tests.{eq-eqb, ne-eqb, le-leb, lt-ltb, le-ltb, lt-leb}
+use lib.Dec.{lit<}
+use lib.ListN.{drop, replicate, getD-replicate, length-replicate, List·getD-append}
+use borrow.Author.Tests.{ne-eqb, le-leb, lt-ltb, le-ltb}
 use Rattle.arrival.specs.declared.Shape.{Shape}
 use Rattle.arrival.specs.declared.Worker.{Worker}
 use Rattle.calendar.specs.rules.Layout.{Place, word, cell, field, address, layout, read, word-inside, cell-inside, field-inside}
-use Rattle.calendar.specs.facts.Views.{View, view}
+use Rattle.calendar.specs.facts.Views.{view}
 use Rattle.calendar.specs.rules.Ranges.{blank, worker}
 use Rattle.calendar.specs.facts.RangeFacts.{StoreRanges, RecordRanges, Limits}
-use Rattle.calendar.specs.rules.Opening.{openWord, wordsFrom, openStore, openTable}
-
-words-at : (g : ℕ → ℕ) (i n k : ℕ) (d : List ℕ) → k < n → getD (wordsFrom g i n ++ d) k 0 ≡ g (i + k)
-unfolding wordsFrom
-words-at g i zero k d h = absurd (omega arith)
-words-at g i (suc n) zero d h = let e : i + 0 ≡ i = omega arith in rw e
-words-at g i (suc n) (suc k) d h = let e : suc i + k ≡ i + suc k = omega arith in words-at g (suc i) n k d (omega arith) ∙ ap g e
+use Rattle.calendar.specs.rules.Opening.{openWord, openStore, openTable}
+use Rattle.laws.specs.Lists.{wordsFrom, words-at, length-words}
 
 module _ (sh : Shape) (s : List ℕ) where
   at-place : (p : Place) → address sh p < layout sh → read sh (openStore sh s) p ≡ openWord sh (address sh p)
   unfolding openStore read
-  at-place p h = let e : 0 + address sh p ≡ address sh p = omega arith in words-at (openWord sh) 0 (layout sh) (address sh p) (drop (layout sh) s) h ∙ ap (openWord sh) e
+  at-place p h =
+      let e : 0 + address sh p ≡ address sh p = omega arith in
+      List·getD-append (wordsFrom (openWord sh) 0 (layout sh)) (drop (layout sh) s) 0 (address sh p) (rw (length-words (openWord sh) 0 (layout sh)) h)
+      ∙ words-at (openWord sh) 0 (layout sh) (address sh p) h
+      ∙ ap (openWord sh) e
 
   pub open-current : read sh (openStore sh s) (word 0) ≡ 0
   unfolding address

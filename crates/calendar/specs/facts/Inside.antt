@@ -1,9 +1,8 @@
 -- Every word that a start or turn writes lies in the layout, and none of them answers a refusal. Assumes nothing.
-use mathlib.Core.Path.{_≡_, refl, sym, ap, _∙_}
+use mathlib.Core.Path.{_≡_, refl, _∙_}
 use mathlib.Core.List.{List, [], _∷_}
-use mathlib.Core.Bool.{Bool, true, false}
 use mathlib.Core.Logic.{_≢_}
-use Prim.Native.Nat.{ℕ, _+_, _≤_, _<_}
+use Prim.Native.Nat.{ℕ, _+_, _<_}
 use native.Mathlib.Omega.{arith}
 use lib.Dec.{lit<}
 use lib.ListN.{length}
@@ -11,7 +10,7 @@ use Rattle.arrival.specs.declared.Shape.{Shape}
 use Rattle.arrival.specs.declared.Arrival.{Arrival}
 use Rattle.arrival.specs.declared.Worker.{Worker}
 use Rattle.arrival.specs.Responses.{said}
-use Rattle.calendar.specs.rules.Layout.{Place, word, cell, field, Write, _≔_, writeAll, write, address, layout, valid, length-write, word-inside, cell-inside, field-inside}
+use Rattle.calendar.specs.rules.Layout.{field, Write, _≔_, writeAll, write, address, layout, length-write, word-inside, cell-inside, field-inside}
 use Rattle.calendar.specs.facts.Views.{AllInside}
 use Rattle.calendar.specs.facts.RangeFacts.{RecordRanges}
 use Rattle.calendar.specs.rules.Outcome.{Outcome}

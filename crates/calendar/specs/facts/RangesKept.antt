@@ -1,25 +1,25 @@
 -- Starts and turns keep every field in its range, but for one leak: a turn at 3 that unlinks a node of distance 0. Assumes nothing.
-use mathlib.Core.Path.{_≡_, refl, sym, ap, _∙_, subst}
-use mathlib.Core.List.{List, [], _∷_}
+use mathlib.Core.Path.{_≡_, refl, sym, _∙_, subst}
+use mathlib.Core.List.{List, []}
 use mathlib.Core.Bool.{Bool, true, false, cond, _&&_}
-use mathlib.Core.Logic.{_≢_, _⊎_, inl, inr}
-use Prim.Native.Nat.{ℕ, zero, suc, _+_, _*_, _-_, _/_, _%_, _≤_, _<_}
+use mathlib.Core.Logic.{_≢_, inl}
+use Prim.Native.Nat.{ℕ, _+_, _*_, _-_, _/_, _%_, _≤_, _<_}
 use native.Mathlib.Omega.{arith}
 use native.Mathlib.Nat.{mul-le-mul}
 use lib.Dec.{eqb}
-use borrow.Author.Tests.{eqb-true, eqb-false, ltb-true, ltb-false, eq-eqb}
+use borrow.Author.Tests.{eqb-false, ltb-true, eq-eqb}
 use Rattle.arrival.specs.declared.Shape.{Shape}
 use Rattle.arrival.specs.declared.Arrival.{Arrival}
 use Rattle.arrival.specs.declared.Worker.{Worker}
-use Rattle.arrival.specs.Keys.{bucketOf, bucket-below}
-use Rattle.laws.specs.Tests.{never}
+use Rattle.arrival.specs.Keys.{bucket-below}
+use Rattle.laws.specs.Tests.{never, upd-cases}
 use Rattle.calendar.specs.rules.Layout.{Write, word, cell, field, link, started, current}
-use Rattle.calendar.specs.facts.Views.{View, view, update, updates, upd-cases, upd-other}
+use Rattle.calendar.specs.facts.Views.{View, view, update, updates}
 use Rattle.calendar.specs.rules.Ranges.{worker}
-use Rattle.calendar.specs.facts.RangeFacts.{NodeWords, NodeRanges, HeadRanges, StoreRanges, RecordRanges}
-use Rattle.calendar.specs.rules.Outcome.{Outcome, withStage, withSeen, withRight, withLeft, withOwn, withBucket, withCurrent}
+use Rattle.calendar.specs.facts.RangeFacts.{NodeWords, StoreRanges, RecordRanges}
+use Rattle.calendar.specs.rules.Outcome.{Outcome, withStage, withSeen, withRight, withOwn, withBucket, withCurrent}
 use Rattle.calendar.specs.rules.Starts.{enqueueStart, dequeueStart}
-use Rattle.calendar.specs.rules.SearchSteps.{leftHolds, retirement, unlink}
+use Rattle.calendar.specs.rules.SearchSteps.{leftHolds, retirement}
 use Rattle.calendar.specs.rules.EnqueueSteps.{ownEpoch, currentHolds, renewed}
 use Rattle.calendar.specs.rules.DequeueSteps.{nextCurrent}
 use Rattle.calendar.specs.rules.Reclaim.{firstFree}

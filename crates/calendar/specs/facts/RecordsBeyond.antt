@@ -13,7 +13,7 @@ use Rattle.arrival.specs.declared.Worker.{Worker}
 use Rattle.arrival.specs.declared.Action.{Action}
 use Rattle.arrival.specs.declared.Action.the-variants.{Enqueue, Dequeue, Step}
 use Rattle.arrival.specs.declared.Response.the-variants.{Opened, Refused}
-use Rattle.laws.specs.Every.{every-same}
+use Rattle.laws.specs.Counting.{every-same}
 use Rattle.calendar.specs.rules.Ranges.{shapeInRange, blank, worker, recordInRange, tableInRange}
 use Rattle.calendar.specs.rules.Reclaim.{startedBy, isFree, nodeAfter, firstFreeOf, firstFree}
 use Rattle.calendar.specs.rules.Layout.{standing}

@@ -1,8 +1,7 @@
 -- The starred cases of "Arrivals to check by hand", as one table under one theorem: computed, entry by entry. Assumes nothing.
 use mathlib.Core.Path.{_≡_, refl}
 use mathlib.Core.List.{List, [], _∷_, _++_}
-use Prim.Native.Nat.{ℕ, zero, suc, _+_}
-use lib.Dec.{eqb}
+use Prim.Native.Nat.{ℕ}
 use lib.ListN.{replicate}
 use Rattle.arrival.specs.declared.Shape.{Shape}
 use Rattle.arrival.specs.declared.Arrival.{Arrival}
@@ -12,11 +11,12 @@ use Rattle.arrival.specs.declared.Response.{Response}
 use Rattle.arrival.specs.declared.Response.the-variants.{Opened, Begun, On, Stored, Took, Empty, Refused}
 use Rattle.arrival.specs.Keys.{lower, bucketOf}
 use Rattle.arrival.specs.Energy.{energyOf}
-use Rattle.calendar.specs.rules.Layout.{address, read, write, current, currentWord, layout}
-use Rattle.laws.specs.Every.{every}
+use Rattle.calendar.specs.rules.Layout.{address, read, write, current, currentWord}
+use Rattle.laws.specs.Counting.{every}
+use Rattle.laws.specs.Lists.{wordsFrom}
 use Rattle.calendar.specs.rules.Ranges.{blank, storeInRange, tableInRange}
 use Rattle.calendar.specs.rules.Reclaim.{isFree, firstFreeOf, firstFree}
-use Rattle.calendar.specs.rules.Opening.{wordsFrom, openStore, openTable}
+use Rattle.calendar.specs.rules.Opening.{openStore, openTable}
 use Rattle.calendar.specs.rules.Starts.{enqueueStart, dequeueStart}
 use Rattle.calendar.specs.rules.SearchSteps.{found, settle, step-1, step-2, step-3}
 use Rattle.calendar.specs.rules.EnqueueSteps.{step-4, step-5, step-6, step-7}

@@ -1,18 +1,16 @@
 -- What no operation changes: a refused one changes nothing; words beyond the layout, records beyond the workers and the
 -- records of other workers stay; lengths stay. Assumes nothing.
-use mathlib.Core.Path.{_≡_, refl, sym, ap, _∙_, subst}
-use mathlib.Core.List.{List, [], _∷_, _++_}
+use mathlib.Core.Path.{_≡_, refl, ap, _∙_}
+use mathlib.Core.List.{List, [], _∷_}
 use mathlib.Core.Bool.{Bool, true, false, cond}
 use mathlib.Core.Logic.{_≢_}
-use Prim.Native.Nat.{ℕ, zero, suc, _+_, _≤_, _<_}
+use Prim.Native.Nat.{ℕ, suc, _<_}
 use native.Mathlib.Omega.{arith}
 use lib.Dec.{eqb}
-use lib.ListN.{length, set, drop, getD, replicate, length-set, length-append, length-drop, length-replicate}
+use lib.ListN.{length, drop, replicate, length-set, length-append, length-drop, length-replicate}
 use lib.Seq.{drop-set-lt, drop-at, getD-set-other}
-use borrow.Author.Tests.{eqb-true, eqb-false}
+use borrow.Author.Tests.{eqb-true}
 use Rattle.arrival.specs.declared.Shape.{Shape}
-use Rattle.arrival.specs.declared.Arrival.{Arrival}
-use Rattle.arrival.specs.declared.Worker.{Worker}
 use Rattle.arrival.specs.declared.Action.{Action}
 use Rattle.arrival.specs.declared.Action.the-variants.{Enqueue, Dequeue, Step}
 use Rattle.arrival.specs.declared.Response.{Response}
@@ -20,13 +18,14 @@ use Rattle.arrival.specs.declared.Response.the-variants.{Opened, Refused}
 use Rattle.arrival.specs.Responses.{said}
 use Rattle.calendar.specs.rules.Layout.{Write, _≔_, write, writeAll, layout, address}
 use Rattle.calendar.specs.rules.Ranges.{blank, worker}
-use Rattle.calendar.specs.rules.Opening.{openWord, wordsFrom, openStore, openTable}
+use Rattle.calendar.specs.rules.Opening.{openWord, openStore, openTable}
+use Rattle.laws.specs.Lists.{wordsFrom, length-words}
 use Rattle.calendar.specs.rules.Reclaim.{firstFree}
 use Rattle.calendar.specs.facts.FirstFree.{first-free-node}
 use Rattle.calendar.specs.rules.Outcome.{Outcome}
 use Rattle.calendar.specs.rules.Starts.{enqueueStart, dequeueStart}
 use Rattle.calendar.specs.rules.Refusals.{openRefusal}
-use Rattle.calendar.specs.facts.Accepted.{Lent, open-accepted, enqueue-accepted, dequeue-accepted, step-accepted}
+use Rattle.calendar.specs.facts.Accepted.{open-accepted, enqueue-accepted, dequeue-accepted, step-accepted}
 use Rattle.calendar.specs.facts.Views.{AllInside}
 use Rattle.calendar.specs.facts.Changes.{step-is}
 use Rattle.calendar.specs.facts.Inside.{enqueue-inside, dequeue-inside, change-inside, change-said, length-writeAll}
@@ -115,11 +114,6 @@ others-untouched sh m a j h =
     (λ e. getD-set-other (m .table) (actor a) j (outcome sh m a .worker) blank h)
 
 -- ── the opening ──
-length-words : (g : ℕ → ℕ) (i n : ℕ) → length (wordsFrom g i n) ≡ n
-unfolding wordsFrom
-length-words g i zero = refl
-length-words g i (suc n) = ap suc (length-words g (suc i) n)
-
 pub open-same-size : (sh : Shape) (m : Memory) → SameSize m (open-pool sh m .memory)
 unfolding open-pool openStore openTable
 open-same-size sh m =

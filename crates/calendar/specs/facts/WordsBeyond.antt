@@ -7,7 +7,7 @@ use native.Mathlib.Omega.{arith}
 use lib.Dec.{eqb, leb, ltb, lit<}
 use lib.ListN.{length, drop, set, length-append, List·getD-append}
 use lib.Seq.{set-append-left, drop-append-le}
-use borrow.Author.Tests.{eqb-true, le-ltb, ltb-true}
+use borrow.Author.Tests.{eqb-true, le-ltb}
 use Rattle.arrival.specs.declared.Shape.{Shape}
 use Rattle.arrival.specs.declared.Item.{Item}
 use Rattle.arrival.specs.declared.Worker.{Worker}
@@ -17,11 +17,13 @@ use Rattle.arrival.specs.declared.Action.the-variants.{Enqueue, Dequeue, Step}
 use Rattle.arrival.specs.declared.Response.{Response}
 use Rattle.arrival.specs.declared.Response.the-variants.{Opened, Refused}
 use Rattle.calendar.specs.rules.Layout.{Place, word, cell, field, Write, _≔_, address, layout, read, write, writeAll, linkCell, itemAt, standing, word-inside, cell-inside, field-inside, length-write}
-use Rattle.laws.specs.Every.{every-same, each-of}
+use Rattle.laws.specs.Counting.{every-same, each-of}
+use Rattle.laws.specs.Lists.{wordsFrom}
 use Rattle.calendar.specs.rules.Ranges.{worker, small, currentInRange, linkInRange, pathInRange, orderInRange, headInRange, nodeInRange, storeInRange}
 use Rattle.calendar.specs.facts.RangeFacts.{RecordRanges}
 use Rattle.calendar.specs.rules.Reclaim.{isFree, nodeAfter, firstFreeOf, firstFree}
-use Rattle.calendar.specs.rules.Opening.{openWord, wordsFrom, openStore, openTable}
+use Rattle.calendar.specs.facts.FirstFree.{after-below}
+use Rattle.calendar.specs.rules.Opening.{openWord, openStore, openTable}
 use Rattle.calendar.specs.rules.Outcome.{Outcome}
 use Rattle.calendar.specs.rules.Starts.{enqueueStart, dequeueStart}
 use Rattle.calendar.specs.rules.Refusals.{openRefusal, enqueueRefusal, dequeueRefusal, stepRefusal}
@@ -100,12 +102,8 @@ module _ (sh : Shape) (s v : List ℕ) (long : layout sh ≤ length s) where
     first-of-same zero n h = refl
     first-of-same (suc k) n h = λ j. cond (isFree sh t (free j)) (nodeAfter sh n) (first-of-same k (nodeAfter sh n) (omega arith) j)
       where
-        below : (b : Bool) → ltb (n + 1) (sh .nodes) ≡ b → cond b (n + 1) 0 < sh .nodes
-        below true e = ltb-true (n + 1) (sh .nodes) e
-        below false e = omega arith
-
         free : standing sh (s ++ v) (nodeAfter sh n) ≡ standing sh s (nodeAfter sh n)
-        free = same-field 7 (nodeAfter sh n) (lit< tt) (below (ltb (n + 1) (sh .nodes)) refl)
+        free = same-field 7 (nodeAfter sh n) (lit< tt) (after-below sh n (omega arith))
 
     first-same : firstFree sh (s ++ v) t ≡ firstFree sh s t
     unfolding firstFree

@@ -13,7 +13,8 @@ use Rattle.arrival.specs.declared.Action.{Action}
 use Rattle.arrival.specs.declared.Action.the-variants.{Enqueue}
 use Rattle.arrival.specs.declared.Response.the-variants.{Opened, Begun}
 use Rattle.arrival.specs.Keys.{bucketOf}
-use Rattle.arrival.specs.Queue.{Call, enqueue, dequeue, Reply, replies, taken}
+use Rattle.arrival.specs.Queue.{enqueue, Reply, replies, taken}
+use Rattle.laws.specs.Lists.{Once}
 use Rattle.calendar.specs.rules.Layout.{itemAt}
 use Rattle.calendar.specs.rules.Ranges.{worker, storeInRange, tableInRange}
 use Rattle.calendar.specs.rules.Operations.{Memory, open-pool, act, run}
@@ -27,11 +28,6 @@ Finished L c = (s : ℕ) × (L .ended c ≡ some s)
 -- y had ended before x started: x is one of the calls that started after y's end
 abbrev pub EndedBefore : Ledger → ℕ → ℕ → Type 0
 EndedBefore L y x = (s : ℕ) × (L .ended y ≡ some s) × (s < x)
-
--- each call at most once
-abbrev pub Once : List ℕ → Type 0
-Once [] = Unit {0}
-Once (c ∷ cs) = ((d : ℕ) → List·Memᴰ d cs → c ≢ d) × Once cs
 
 -- what stands first had not started after the end of what stands behind it
 abbrev pub RespectsTime : Ledger → List ℕ → Type 0

@@ -9,7 +9,7 @@ use borrow.Author.Tests.{eqb-true, eqb-false, leb-true, leb-false}
 use Rattle.arrival.specs.declared.Shape.{Shape}
 use Rattle.arrival.specs.declared.Worker.{Worker}
 use Rattle.calendar.specs.rules.Layout.{lastNode, standing}
-use Rattle.laws.specs.Every.{every, count, count-three}
+use Rattle.laws.specs.Counting.{every, count, count-three}
 use Rattle.calendar.specs.rules.Ranges.{worker}
 
 abbrev pub inProgress : Worker → Bool

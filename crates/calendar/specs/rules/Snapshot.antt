@@ -8,7 +8,7 @@ use Rattle.arrival.specs.declared.Shape.{Shape}
 use Rattle.arrival.specs.declared.Item.{Item}
 use Rattle.arrival.specs.declared.Worker.{Worker}
 use Rattle.calendar.specs.rules.Layout.{cell, read, link, linkCell, itemAt, successor, isMarked}
-use Rattle.laws.specs.Every.{count}
+use Rattle.laws.specs.Counting.{count}
 use Rattle.calendar.specs.rules.Ranges.{worker, between}
 
 -- n in front of a walk that came to the end

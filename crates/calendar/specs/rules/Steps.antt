@@ -1,8 +1,8 @@
 -- The turn by stage: one rule for each of 1 to 13. Assumes nothing.
-use mathlib.Core.Path.{_≡_, refl, ap}
+use mathlib.Core.Path.{_≡_, ap}
 use mathlib.Core.List.{List, [], _∷_}
-use Prim.Native.Nat.{ℕ, _≤_}
-use lib.ListN.{getD, List·getD-eq-default}
+use Prim.Native.Nat.{ℕ}
+use lib.ListN.{getD}
 use Rattle.arrival.specs.declared.Shape.{Shape}
 use Rattle.arrival.specs.declared.Worker.{Worker}
 use Rattle.calendar.specs.rules.Outcome.{Outcome, on}

@@ -4,7 +4,7 @@ use mathlib.Core.List.{List}
 use Prim.Native.Nat.{ℕ, _+_, _≤_, _-_}
 use native.Mathlib.Omega.{arith}
 use lib.ListN.{length, getD, set, length-set}
-use Rattle.laws.specs.MoveFront.{moved, none-moved, moved-more}
+use Rattle.laws.specs.Storing.{moved, none-moved, moved-more}
 use borrow.Author.Needs.{needs}
 use Rattle.turns.proofs.keep_rest.Statement.{statement}
 use Rattle.turns.proofs.keep_rest.Tie as tie

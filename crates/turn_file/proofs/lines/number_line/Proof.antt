@@ -10,7 +10,7 @@ use denote.Ref.{now}
 use Rattle.turn_file.specs.Decimal.{decimal}
 use Rattle.turn_file.specs.Lines.{number-size}
 use Rattle.turn_file.specs.Buffer.{cut, stored}
-use Rattle.laws.specs.StoreRuns.{behind}
+use Rattle.laws.specs.Storing.{behind}
 use borrow.Author.Needs.{needs}
 use Rattle.turn_file.proofs.lines.number_line.Statement.{statement}
 use Rattle.turn_file.proofs.lines.number_line.Tie as tie

@@ -9,7 +9,7 @@ use denote.Ref.{now}
 use Rattle.turn_file.specs.Decimal.{decimal}
 use Rattle.turn_file.specs.Lines.{values, tookLine, took-size}
 use Rattle.turn_file.specs.Buffer.{cut, stored}
-use Rattle.laws.specs.StoreRuns.{behind, joined}
+use Rattle.laws.specs.Storing.{behind, joined}
 use borrow.Author.Needs.{needs}
 use Rattle.turn_file.proofs.lines.took_line.Statement.{statement}
 use Rattle.turn_file.proofs.lines.took_line.Tie as tie
