@@ -25,8 +25,8 @@ use Rattle.calendar.specs.rules.Outcome.{Outcome, on, answer}
 use Rattle.calendar.specs.rules.Reclaim.{firstFree}
 use Rattle.calendar.specs.facts.FirstFree.{first-free-node}
 use Rattle.calendar.specs.rules.SearchSteps.{leftHolds, unlink, found, settle, step-3}
-use Rattle.calendar.specs.rules.Steps.{step, step-at}
-use Rattle.calendar.specs.facts.Changes.{step-is}
+use Rattle.calendar.specs.rules.Steps.{step}
+use Rattle.calendar.specs.facts.Changes.{step-is, step-at}
 use Rattle.calendar.specs.facts.Inside.{enqueue-inside, dequeue-inside, change-inside}
 use Rattle.calendar.specs.facts.Accepted.{Lent, Usable, EnqueueAccepted, DequeueAccepted, StepAccepted}
 use Rattle.calendar.specs.facts.RangesKept.{leaks, enqueue-ranged, dequeue-ranged, step-ranged}

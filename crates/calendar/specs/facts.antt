@@ -1,9 +1,12 @@
+-- What is proved of the rules, and the definitions that only proofs use.
+pub mod Places
 pub mod Views
 pub mod RangeFacts
 pub mod Accepted
 pub mod Changes
 pub mod Inside
 pub mod FirstFree
+pub mod NodeCounts
 pub mod Untouched
 pub mod Starred
 pub mod RangesKept

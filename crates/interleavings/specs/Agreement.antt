@@ -14,17 +14,17 @@ use Rattle.arrival.specs.declared.Worker.{Worker}
 use Rattle.arrival.specs.declared.Response.{Response}
 use Rattle.arrival.specs.declared.Response.the-variants.{Opened, Begun, On, Stored, Took, Empty, Refused}
 use Rattle.arrival.specs.Queue as queue
-use Rattle.calendar.specs.rules.Layout.{itemAt}
-use Rattle.calendar.specs.facts.Views.{View, view, updates, itemIn}
 use Rattle.laws.specs.Tests.{upd-same, upd-other, upd-cases}
+use Rattle.calendar.specs.rules.Layout.{itemAt}
 use Rattle.calendar.specs.rules.Ranges.{worker}
 use Rattle.calendar.specs.rules.Outcome.{Outcome}
 use Rattle.calendar.specs.rules.Operations.{Memory}
 use Rattle.calendar.specs.rules.DequeueSteps.{linkHolds}
 use Rattle.calendar.specs.rules.Ledger.{Ledger, begins, ends, marks, hears, sees}
-use Rattle.lists.specs.AllCalls.{with-record}
+use Rattle.calendar.specs.facts.Views.{View, view, updates, itemIn}
 use Rattle.order.specs.Entries.{Entry, enqueue, dequeue, empty, scan, ticket}
 use Rattle.order.specs.RealTime.{End, running, ended}
+use Rattle.lists.specs.AllCalls.{with-record}
 use Rattle.interleavings.specs.ItemKeys.{keys}
 use Rattle.interleavings.specs.Joint.{Ghost}
 use Rattle.interleavings.specs.StartsKeepOrder.{logs}

@@ -16,27 +16,27 @@ use Rattle.arrival.specs.Responses.{said}
 use Rattle.arrival.specs.Keys.{bucketOf, item-bucket, bucket-below}
 use Rattle.arrival.specs.Queue as queue
 use Rattle.calendar.specs.rules.Layout.{writeAll, started}
-use Rattle.calendar.specs.facts.Views.{view, updates, view-writeAll, AllInside}
 use Rattle.calendar.specs.rules.Ranges.{blank, worker}
 use Rattle.calendar.specs.rules.Reclaim.{firstFree}
-use Rattle.calendar.specs.facts.FirstFree.{first-free-node, first-free-free}
 use Rattle.calendar.specs.rules.Opening.{openStore, openTable}
-use Rattle.calendar.specs.facts.FreshPool.{open-started, open-head, open-field, open-worker}
 use Rattle.calendar.specs.rules.Outcome.{Outcome}
 use Rattle.calendar.specs.rules.Starts.{itemOf, begun, enqueueStart, dequeueStart}
+use Rattle.calendar.specs.rules.Operations.{Memory, perform, open-pool, actor, refusal, outcome, act, run}
+use Rattle.calendar.specs.rules.Ledger.{Ledger, new, begins, hears, sees, notes, reads, ledger}
+use Rattle.calendar.specs.facts.Views.{view, updates, view-writeAll, AllInside}
+use Rattle.calendar.specs.facts.FirstFree.{first-free-node, first-free-free}
+use Rattle.calendar.specs.facts.FreshPool.{open-started, open-head, open-field, open-worker}
 use Rattle.calendar.specs.facts.Accepted.{EnqueueAccepted, DequeueAccepted, StepAccepted, enqueue-accepted, dequeue-accepted, step-accepted}
 use Rattle.calendar.specs.facts.Changes.{Change, step-is}
 use Rattle.calendar.specs.facts.Inside.{enqueue-inside, dequeue-inside, change-inside}
 use Rattle.calendar.specs.facts.Acting.{by-act}
-use Rattle.calendar.specs.rules.Operations.{Memory, perform, open-pool, actor, refusal, outcome, act, run}
-use Rattle.calendar.specs.rules.Ledger.{Ledger, new, begins, hears, sees, notes, reads, ledger}
+use Rattle.order.specs.Scans.{running-ended}
 use Rattle.lists.specs.LinkInvariant.{Chains}
 use Rattle.lists.specs.Filling.{key-same, not-safe}
 use Rattle.lists.specs.AllCalls.{Live, with-record}
 use Rattle.lists.specs.FromOpening.{Reached, table-set, reached-enqueue, reached-dequeue, reached-step, free-node}
 use Rattle.lists.specs.NodeReuse.{opened, open-reaches}
 use Rattle.lists.specs.TurnsKeepLists.{chains-after}
-use Rattle.order.specs.Scans.{running-ended}
 use Rattle.interleavings.specs.ItemKeys.{keys}
 use Rattle.interleavings.specs.Joint.{Ghost, Ord}
 use Rattle.interleavings.specs.StartsKeepOrder.{logs, joint-enqueue, joint-dequeue, joint-open}

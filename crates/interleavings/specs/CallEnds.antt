@@ -7,13 +7,10 @@ use Prim.Native.Nat.{ℕ, _+_, _/_, _%_, _≤_, _<_}
 use native.Mathlib.Omega.{arith}
 use Rattle.arrival.specs.declared.Shape.{Shape}
 use Rattle.arrival.specs.declared.Worker.{Worker}
-use Rattle.calendar.specs.rules.Layout.{word}
 use Rattle.arrival.specs.Keys.{itemBucket}
-use Rattle.calendar.specs.facts.Views.{View, update, itemIn}
 use Rattle.laws.specs.Tests.{upd-same, upd-cases}
-use Rattle.lists.specs.Chain.{In}
-use Rattle.lists.specs.LinkInvariant.{Chains, home, Safe}
-use Rattle.lists.specs.AllCalls.{Inv, with-record}
+use Rattle.calendar.specs.rules.Layout.{word}
+use Rattle.calendar.specs.facts.Views.{View, update, itemIn}
 use Rattle.order.specs.Entries.{Keys, Element, Entry, enqueue, dequeue, empty, scan, Order, ticket, bucket, run, run-append}
 use Rattle.order.specs.RealTime.{ended, Hist, ticket-of, pairs-snoc}
 use Rattle.order.specs.Scans.{Alike, alike-sym, alike-run, alike-mem, alike-unscan, unscan}
@@ -21,6 +18,9 @@ use Rattle.order.specs.OrderAfterMark.{Inv as Orderly, inv-unscan}
 use Rattle.order.specs.Appending.{Ends, Past, inv-end, inv-enqueue, inv-empty, unscan-mem, walked-out}
 use Rattle.order.specs.Calls.{Call, Apart, scans, scans-unscan}
 use Rattle.order.specs.EntriesAfterMark.{alike-distinct, alike-call, scans-in, scans-out}
+use Rattle.lists.specs.Chain.{In}
+use Rattle.lists.specs.LinkInvariant.{Chains, home, Safe}
+use Rattle.lists.specs.AllCalls.{Inv, with-record}
 use Rattle.interleavings.specs.ItemKeys.{keys, arr, Holds, Ahead}
 use Rattle.interleavings.specs.Joint.{Ghost, Absent, Rises, Marked, Clean, Part, walks, Ord}
 use Rattle.interleavings.specs.Nodes.{one-node}

@@ -11,9 +11,9 @@ use Rattle.arrival.specs.declared.Worker.{Worker}
 use Rattle.arrival.specs.declared.Response.{Response}
 use Rattle.arrival.specs.declared.Response.the-variants.{Opened, Begun, On, Stored, Took, Empty, Refused}
 use Rattle.calendar.specs.rules.Layout.{Write}
-use Rattle.calendar.specs.facts.Views.{view, updates, itemIn}
 use Rattle.calendar.specs.rules.Outcome.{Outcome}
 use Rattle.calendar.specs.rules.DequeueSteps.{linkHolds}
+use Rattle.calendar.specs.facts.Views.{view, updates, itemIn}
 use Rattle.calendar.specs.facts.Changes.{Found, put-found, take-ends, Settled, at-end, goes-on, Walked, out, out-last, meets, Change, head-read, mark-seen, passed, stopped, unlinked, again-3, prepared, linked, again-5, stored-6, on-7, stored-7, back-6, current-read, first-read, mark-passed, newer, on-11, marked, back-10, advanced, back-12, emptied, back-13}
 
 -- the record keeps kind and own node, and comes neither into the search of a take nor into a walk from outside

@@ -9,11 +9,11 @@ use Rattle.arrival.specs.declared.Worker.{Worker}
 use Rattle.arrival.specs.declared.Item.{Item}
 use Rattle.arrival.specs.Keys.{lower, itemBucket, lower-trans, lower-irr, lower-weak, bucket-mono}
 use Rattle.calendar.specs.facts.Views.{View, itemIn}
+use Rattle.order.specs.Entries.{Keys, Element}
+use Rattle.order.specs.Scans.{Walker as Walk}
 use Rattle.lists.specs.Chain.{In}
 use Rattle.lists.specs.LinkInvariant.{Chains}
 use Rattle.lists.specs.LinkPaths.{Reach}
-use Rattle.order.specs.Entries.{Keys, Element}
-use Rattle.order.specs.Scans.{Walker as Walk}
 
 pub same-item? : (a b : Item) → Dec (a ≡ b)
 same-item? a b = go (ℕ-discrete (a .time) (b .time)) (ℕ-discrete (a .path) (b .path)) (ℕ-discrete (a .order) (b .order)) (ℕ-discrete (a .distance) (b .distance)) (ℕ-discrete (a .ticket) (b .ticket))

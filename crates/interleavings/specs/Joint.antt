@@ -7,17 +7,17 @@ use Prim.Native.Nat.{ℕ, suc, _+_, _/_, _%_, _≤_, _<_}
 use Rattle.arrival.specs.declared.Shape.{Shape}
 use Rattle.arrival.specs.declared.Worker.{Worker}
 use Rattle.arrival.specs.declared.Item.{Item}
-use Rattle.calendar.specs.facts.Views.{View, itemIn}
 use Rattle.laws.specs.Tests.{upd-cases}
-use Rattle.lists.specs.Chain.{In}
-use Rattle.lists.specs.LinkInvariant.{Chains}
-use Rattle.lists.specs.AllCalls.{Inv, with-record}
+use Rattle.calendar.specs.facts.Views.{View, itemIn}
 use Rattle.order.specs.Entries.{Keys, Element, Entry, enqueue, dequeue, empty, scan, Order, ticket, bucket, run}
 use Rattle.order.specs.RealTime.{running, ended, Hist, ticket-of}
 use Rattle.order.specs.Scans.{Walker as Walk}
 use Rattle.order.specs.OrderAfterMark.{Inv as Orderly}
 use Rattle.order.specs.Appending.{inv-shift}
 use Rattle.order.specs.Calls.{Call, Distinct}
+use Rattle.lists.specs.Chain.{In}
+use Rattle.lists.specs.LinkInvariant.{Chains}
+use Rattle.lists.specs.AllCalls.{Inv, with-record}
 use Rattle.interleavings.specs.ItemKeys.{keys, arr, Holds, Ahead, walk}
 
 -- what the proof carries beside the chains: the ends of the calls, the order, and of each ticket what was put under it (a take: none) and the entry that its answer is

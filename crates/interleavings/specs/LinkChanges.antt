@@ -8,22 +8,22 @@ use native.Mathlib.Omega.{arith}
 use lib.Dec.{eqb}
 use Rattle.arrival.specs.declared.Shape.{Shape}
 use Rattle.arrival.specs.declared.Worker.{Worker}
+use Rattle.laws.specs.Tests.{upd-other, upd-cases}
 use Rattle.calendar.specs.rules.Layout.{cell, field}
 use Rattle.calendar.specs.facts.Views.{View, update}
-use Rattle.laws.specs.Tests.{upd-other, upd-cases}
-use Rattle.lists.specs.Chain.{In, insertAt, removeAt, in-insert, in-remove}
-use Rattle.lists.specs.LinkInvariant.{Chains, setChain, set-cases, Lists, Linking, Unlinking, unlinked, edge, link-in, un-in}
-use Rattle.lists.specs.AllCalls.{Live, Inv}
 use Rattle.order.specs.Entries.{Keys, Element, scan, ticket, bucket, run}
 use Rattle.order.specs.RealTime.{running, ended}
 use Rattle.order.specs.Scans.{right, running-ended}
 use Rattle.order.specs.OrderAfterMark.{Inv as Orderly}
 use Rattle.order.specs.Calls.{scans}
-use Rattle.interleavings.specs.ItemKeys.{keys, arr, Holds, Ahead}
-use Rattle.interleavings.specs.Joint.{Ghost, Absent, Marked, Clean, walks, Ord, part-left}
+use Rattle.order.specs.Appending.{inv-shift}
+use Rattle.lists.specs.Chain.{In, insertAt, removeAt, in-insert, in-remove}
+use Rattle.lists.specs.LinkInvariant.{Chains, setChain, set-cases, Lists, Linking, Unlinking, unlinked, edge, link-in, un-in}
+use Rattle.lists.specs.AllCalls.{Live, Inv}
 use Rattle.lists.specs.Knowledge.{Private}
 use Rattle.lists.specs.WalkAhead.{ahead-link, ahead-unlink, ahead-private}
-use Rattle.order.specs.Appending.{inv-shift}
+use Rattle.interleavings.specs.ItemKeys.{keys, arr, Holds, Ahead}
+use Rattle.interleavings.specs.Joint.{Ghost, Absent, Marked, Clean, walks, Ord, part-left}
 
 module _ (sh : Shape) (wd : 0 < sh .width) (m : View) (ch : Chains) (T : ℕ → Worker) (g : Ghost (keys sh wd)) (P : Inv sh m ch T) (O : Ord sh wd m ch T g) where
   abbrev K : Keys

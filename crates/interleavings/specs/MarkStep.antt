@@ -9,23 +9,23 @@ use native.Mathlib.Omega.{arith}
 use native.Mathlib.Decide.{ℕ-discrete}
 use Rattle.arrival.specs.declared.Shape.{Shape}
 use Rattle.arrival.specs.declared.Worker.{Worker}
-use Rattle.calendar.specs.rules.Layout.{cell}
 use Rattle.arrival.specs.declared.Item.{Item}
 use Rattle.arrival.specs.Keys.{lower, itemBucket, lower-trans, lower-irr, lower-total}
+use Rattle.laws.specs.Tests.{upd-same, upd-other}
+use Rattle.calendar.specs.rules.Layout.{cell}
 use Rattle.calendar.specs.rules.Outcome.{withStage, withOwn}
 use Rattle.calendar.specs.facts.Views.{View, update, itemIn, Lt}
-use Rattle.laws.specs.Tests.{upd-same, upd-other}
+use Rattle.order.specs.Entries.{Keys, Element, Entry, enqueue, dequeue, empty, scan, Order, _≺_, ticket, bucket, mem-without, without-mem, run}
+use Rattle.order.specs.RealTime.{End, running, ended, ticket-of}
+use Rattle.order.specs.OrderAfterMark.{Inv as Orderly, Taking}
+use Rattle.order.specs.Calls.{Call}
+use Rattle.order.specs.EntriesAfterMark.{Found, found, taken-gone, taken-enqueued}
 use Rattle.lists.specs.Chain.{In}
 use Rattle.lists.specs.LinkInvariant.{Chains, home, Safe}
 use Rattle.lists.specs.Marking.{marked-half}
 use Rattle.lists.specs.AllCalls.{Knows, Live, Inv, with-record}
 use Rattle.lists.specs.LinkPaths.{reach-half}
 use Rattle.lists.specs.WalkAhead.{ahead-above}
-use Rattle.order.specs.Entries.{Keys, Element, Entry, enqueue, dequeue, empty, scan, Order, _≺_, ticket, bucket, mem-without, without-mem, run}
-use Rattle.order.specs.RealTime.{End, running, ended, ticket-of}
-use Rattle.order.specs.OrderAfterMark.{Inv as Orderly, Taking}
-use Rattle.order.specs.Calls.{Call}
-use Rattle.order.specs.EntriesAfterMark.{Found, found, taken-gone, taken-enqueued}
 use Rattle.interleavings.specs.ItemKeys.{keys, arr, Holds, Meets, Ahead}
 use Rattle.interleavings.specs.Joint.{Holder, held-close, Ghost, Absent, Logged, Marked, Clean, Part, walks, Whole, Ord, part-left, orderly-shift, parts-close, scans-close}
 use Rattle.interleavings.specs.Nodes.{reach-trans, reach-above, one-node}

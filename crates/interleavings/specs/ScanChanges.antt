@@ -9,11 +9,8 @@ use native.Mathlib.Decide.{ℕ-discrete}
 use lib.Dec.{eqb}
 use Rattle.arrival.specs.declared.Shape.{Shape}
 use Rattle.arrival.specs.declared.Worker.{Worker}
-use Rattle.calendar.specs.facts.Views.{View}
 use Rattle.laws.specs.Tests.{upd-same, upd-other, upd-cases}
-use Rattle.lists.specs.Chain.{In}
-use Rattle.lists.specs.LinkInvariant.{Chains, home}
-use Rattle.lists.specs.AllCalls.{Rest, with-record}
+use Rattle.calendar.specs.facts.Views.{View}
 use Rattle.order.specs.Entries.{Keys, Element, Entry, enqueue, dequeue, empty, scan, Order, ticket, bucket, run}
 use Rattle.order.specs.RealTime.{running, ended, Hist, ticket-of}
 use Rattle.order.specs.Scans.{Alike, nil, right, alike-append, alike-refl, alike-sym, alike-run, alike-mem, alike-unscan, unscan, running-ended}
@@ -21,6 +18,9 @@ use Rattle.order.specs.OrderAfterMark.{Inv as Orderly, inv-unscan}
 use Rattle.order.specs.Appending.{Ends, inv-scan, unscan-mem}
 use Rattle.order.specs.Calls.{Call, Distinct, scans, scans-unscan}
 use Rattle.order.specs.EntriesAfterMark.{alike-distinct, alike-call, scans-in, scans-out}
+use Rattle.lists.specs.Chain.{In}
+use Rattle.lists.specs.LinkInvariant.{Chains, home}
+use Rattle.lists.specs.AllCalls.{Rest, with-record}
 use Rattle.interleavings.specs.ItemKeys.{keys, arr, Holds, Ahead, walk}
 use Rattle.interleavings.specs.Joint.{Holder, held-close, Ghost, Absent, Logged, Clean, Part, walks, Ord, part-left, orderly-shift, parts-close, scans-close}
 

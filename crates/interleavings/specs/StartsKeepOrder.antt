@@ -10,23 +10,23 @@ use native.Mathlib.Decide.{ℕ-discrete}
 use lib.Dec.{eqb}
 use Rattle.arrival.specs.declared.Shape.{Shape}
 use Rattle.arrival.specs.declared.Worker.{Worker}
-use Rattle.calendar.specs.rules.Layout.{word}
 use Rattle.arrival.specs.declared.Item.{Item}
 use Rattle.arrival.specs.Keys.{itemBucket}
+use Rattle.laws.specs.Tests.{upd-same, upd-other}
+use Rattle.calendar.specs.rules.Layout.{word}
 use Rattle.calendar.specs.rules.Outcome.{withStage}
 use Rattle.calendar.specs.facts.Views.{View, update, itemIn}
-use Rattle.laws.specs.Tests.{upd-same, upd-other}
-use Rattle.lists.specs.Chain.{In}
-use Rattle.lists.specs.LinkInvariant.{Chains, unlinked}
-use Rattle.lists.specs.AllCalls.{Live, with-record}
 use Rattle.order.specs.Entries.{Keys, Element, Entry, enqueue, dequeue, empty, scan, ticket, bucket, run}
 use Rattle.order.specs.RealTime.{running}
 use Rattle.order.specs.Scans.{running-ended}
 use Rattle.order.specs.Calls.{scans}
-use Rattle.interleavings.specs.ItemKeys.{keys, Holds}
-use Rattle.interleavings.specs.Joint.{held-close, Ghost, Absent, Logged, part-left, orderly-shift, parts-close, scans-close, Joint}
+use Rattle.lists.specs.Chain.{In}
+use Rattle.lists.specs.LinkInvariant.{Chains, unlinked}
+use Rattle.lists.specs.AllCalls.{Live, with-record}
 use Rattle.lists.specs.Filling.{filled, Free, key-same, not-in, not-safe}
 use Rattle.lists.specs.StartsKeepLists.{inv-dequeue, inv-enqueue, inv-open, here-key}
+use Rattle.interleavings.specs.ItemKeys.{keys, Holds}
+use Rattle.interleavings.specs.Joint.{held-close, Ghost, Absent, Logged, part-left, orderly-shift, parts-close, scans-close, Joint}
 
 abbrev pub logs : {K : Keys} → Ghost K → ℕ → Option (K .X) → Ghost K
 logs g c d = record { hist = g .hist; order = g .order; what = λ n. cond (eqb c n) d (g .what n); said = g .said }

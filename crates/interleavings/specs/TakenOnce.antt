@@ -13,21 +13,21 @@ use Rattle.arrival.specs.declared.Shape.{Shape}
 use Rattle.arrival.specs.declared.Item.{Item}
 use Rattle.arrival.specs.declared.Worker.{Worker}
 use Rattle.arrival.specs.Keys.{bucketOf, itemBucket, item-bucket}
-use Rattle.laws.specs.Tests.{parts}
 use Rattle.arrival.specs.Queue as queue
-use Rattle.calendar.specs.facts.Views.{View, view, itemIn}
+use Rattle.laws.specs.Tests.{parts}
 use Rattle.calendar.specs.rules.Ranges.{worker}
 use Rattle.calendar.specs.rules.Operations.{Memory}
 use Rattle.calendar.specs.rules.Ledger.{Ledger, succeeds-11}
 use Rattle.calendar.specs.rules.Snapshot.{unmarkedOf, hasMarked}
 use Rattle.calendar.specs.rules.Linearizability.{Finished, HeldBy, AnsweredBy}
-use Rattle.lists.specs.LinkInvariant.{chain-distinct}
-use Rattle.lists.specs.Walks.{unmarked-none, unmarked-once}
+use Rattle.calendar.specs.facts.Views.{View, view, itemIn}
 use Rattle.order.specs.Entries.{Element, Entry, enqueue, dequeue, empty, scan, ticket, run}
 use Rattle.order.specs.RealTime.{End, running, ended, ticket-of}
 use Rattle.order.specs.Calls.{Call}
 use Rattle.order.specs.EntriesAfterMark.{taken-gone, taken-enqueued}
 use Rattle.order.specs.ElementFate.{taken-once, enqueued-or-taken}
+use Rattle.lists.specs.LinkInvariant.{chain-distinct}
+use Rattle.lists.specs.Walks.{unmarked-none, unmarked-once}
 use Rattle.interleavings.specs.ItemKeys.{keys}
 use Rattle.interleavings.specs.Nodes.{one-node}
 use Rattle.interleavings.specs.Agreement.{itemAsked, endedAt, Same}

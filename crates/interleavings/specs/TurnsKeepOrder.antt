@@ -12,28 +12,28 @@ use Rattle.arrival.specs.declared.Worker.{Worker}
 use Rattle.arrival.specs.declared.Item.{Item}
 use Rattle.arrival.specs.declared.Response.{Response}
 use Rattle.arrival.specs.declared.Response.the-variants.{Opened, Begun, On, Stored, Took, Empty, Refused}
-use Rattle.laws.specs.Tests.{by-test, never, upd-same}
 use Rattle.arrival.specs.Queue.{taken}
+use Rattle.laws.specs.Tests.{by-test, never, upd-same}
 use Rattle.calendar.specs.rules.Layout.{Write, _≔_, word, head, link, linkCell, current, itemAt, isMarked}
-use Rattle.calendar.specs.facts.Views.{View, view, update, updates, itemIn}
 use Rattle.calendar.specs.rules.Outcome.{Outcome, withStage, withOwn, withBucket, withRight, withCurrent}
 use Rattle.calendar.specs.rules.SearchSteps.{leftHolds, unlink}
 use Rattle.calendar.specs.rules.EnqueueSteps.{ownEpoch, prepare, linkOwn, renewed, renewCurrent}
 use Rattle.calendar.specs.rules.DequeueSteps.{nodeIsMarked, linkHolds, markNode, nextCurrent, thisCurrent}
 use Rattle.calendar.specs.rules.Refusals.{noEpoch}
+use Rattle.calendar.specs.facts.Views.{View, view, update, updates, itemIn}
 use Rattle.calendar.specs.facts.Inside.{found-writes, settled-writes, walked-writes}
 use Rattle.calendar.specs.facts.Changes.{Found, put-found, take-ends, Settled, at-end, goes-on, Walked, out, out-last, meets, Change, head-read, mark-seen, passed, stopped, unlinked, again-3, prepared, linked, again-5, stored-6, on-7, stored-7, back-6, current-read, first-read, mark-passed, newer, on-11, marked, back-10, advanced, back-12, emptied, back-13}
+use Rattle.order.specs.Entries.{Keys, Element, Entry, enqueue, dequeue, empty, scan, run}
+use Rattle.order.specs.RealTime.{ended}
+use Rattle.order.specs.Scans.{alike-sym, alike-unscan, unscan}
+use Rattle.order.specs.Calls.{Call}
+use Rattle.order.specs.EntriesAfterMark.{alike-call}
 use Rattle.lists.specs.LinkInvariant.{Chains}
 use Rattle.lists.specs.Knowledge.{Private}
 use Rattle.lists.specs.AllCalls.{Knows, Live, Inv, with-record, rest}
 use Rattle.lists.specs.LinkPaths.{Reach}
 use Rattle.lists.specs.WalkAhead.{ahead-pass, ahead-head}
 use Rattle.lists.specs.TurnsKeepLists.{R, rest-3, unlinking, linking-5, chains-3, chains-5, chains-after, inv-step, enqueues, dequeues}
-use Rattle.order.specs.Entries.{Keys, Element, Entry, enqueue, dequeue, empty, scan, run}
-use Rattle.order.specs.RealTime.{ended}
-use Rattle.order.specs.Scans.{alike-sym, alike-unscan, unscan}
-use Rattle.order.specs.Calls.{Call}
-use Rattle.order.specs.EntriesAfterMark.{alike-call}
 use Rattle.interleavings.specs.ItemKeys.{keys, Holds, Ahead}
 use Rattle.interleavings.specs.Joint.{Ghost, Rises, Part, Ord, Joint}
 use Rattle.interleavings.specs.ScanChanges.{Tickets, tickets-of, quiet, unscanned, rescanned}

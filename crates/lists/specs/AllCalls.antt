@@ -8,8 +8,8 @@ use lib.Dec.{eqb}
 use Rattle.arrival.specs.declared.Shape.{Shape}
 use Rattle.arrival.specs.declared.Worker.{Worker}
 use Rattle.arrival.specs.declared.Item.{Item}
-use Rattle.calendar.specs.facts.Views.{View}
 use Rattle.laws.specs.Tests.{upd-cases}
+use Rattle.calendar.specs.facts.Views.{View}
 use Rattle.lists.specs.LinkInvariant.{Chains, Lists}
 use Rattle.lists.specs.Knowledge.{Stands, Searches, Stable, stands, searches-stable}
 use Rattle.lists.specs.Marking.{fewer-keeps}

@@ -4,11 +4,11 @@ use mathlib.Core.Logic.{_≢_, _⊎_, inl, inr}
 use Prim.Native.Nat.{ℕ, _+_, _/_, _%_, _≤_, _<_}
 use native.Mathlib.Omega.{arith}
 use Rattle.arrival.specs.declared.Shape.{Shape}
-use Rattle.calendar.specs.rules.Layout.{field}
 use Rattle.arrival.specs.declared.Item.{Item}
 use Rattle.arrival.specs.Keys.{itemBucket}
-use Rattle.calendar.specs.facts.Views.{View, update, itemIn, Lt}
 use Rattle.laws.specs.Tests.{upd-same, upd-other, upd-cases}
+use Rattle.calendar.specs.rules.Layout.{field}
+use Rattle.calendar.specs.facts.Views.{View, update, itemIn, Lt}
 use Rattle.lists.specs.Chain.{In, ascends-map}
 use Rattle.lists.specs.Knowledge.{Stable}
 use Rattle.lists.specs.LinkInvariant.{Chains, home, Safe, Follows, Lists}

@@ -14,21 +14,21 @@ use Rattle.arrival.specs.declared.Action.the-variants.{Enqueue, Dequeue, Step}
 use Rattle.arrival.specs.declared.Response.the-variants.{Opened}
 use Rattle.laws.specs.Tests.{never, upd-other}
 use Rattle.calendar.specs.rules.Layout.{Write, itemAt, epochAt, started}
-use Rattle.calendar.specs.facts.Views.{View, view, updates, itemIn, view-writeAll}
 use Rattle.calendar.specs.rules.Ranges.{worker}
 use Rattle.calendar.specs.rules.Reclaim.{firstFree}
-use Rattle.calendar.specs.facts.FirstFree.{first-free-node, first-free-free}
 use Rattle.calendar.specs.rules.Outcome.{Outcome}
 use Rattle.calendar.specs.rules.Starts.{itemOf, enqueueStart, dequeueStart}
 use Rattle.calendar.specs.rules.EnqueueSteps.{ownEpoch}
+use Rattle.calendar.specs.rules.Snapshot.{holds}
+use Rattle.calendar.specs.rules.Ledger.{new}
+use Rattle.calendar.specs.rules.Operations.{Memory, open-pool, refusal, outcome, act, run}
+use Rattle.calendar.specs.facts.Views.{View, view, updates, itemIn, view-writeAll}
+use Rattle.calendar.specs.facts.FirstFree.{first-free-node, first-free-free}
 use Rattle.calendar.specs.facts.Accepted.{enqueue-accepted, step-accepted}
 use Rattle.calendar.specs.facts.Changes.{Change, head-read, mark-seen, passed, stopped, unlinked, again-3, prepared, linked, again-5, stored-6, on-7, stored-7, back-6, current-read, first-read, mark-passed, newer, on-11, marked, back-10, advanced, back-12, emptied, back-13, step-is}
 use Rattle.calendar.specs.facts.Inside.{found-writes, settled-writes, walked-writes}
-use Rattle.calendar.specs.rules.Snapshot.{holds}
 use Rattle.calendar.specs.facts.Untouched.{outcome-inside}
-use Rattle.calendar.specs.rules.Ledger.{new}
 use Rattle.calendar.specs.facts.Acting.{by-act}
-use Rattle.calendar.specs.rules.Operations.{Memory, open-pool, refusal, outcome, act, run}
 use Rattle.lists.specs.LinkInvariant.{Chains, Safe, home}
 use Rattle.lists.specs.Knowledge.{Private}
 use Rattle.lists.specs.Filling.{key-same}

@@ -15,23 +15,23 @@ use Rattle.arrival.specs.declared.Worker.{Worker}
 use Rattle.arrival.specs.declared.Action.the-variants.{Enqueue, Dequeue, Step}
 use Rattle.arrival.specs.Keys.{bucketOf, item-bucket, bucket-below}
 use Rattle.laws.specs.Tests.{never, parts, upd-cases}
-use Rattle.calendar.specs.rules.Layout.{started, standing, writeAll}
-use Rattle.calendar.specs.facts.Views.{view, updates, view-writeAll, AllInside}
 use Rattle.laws.specs.Counting.{every, every-at}
+use Rattle.calendar.specs.rules.Layout.{started, standing, writeAll}
 use Rattle.calendar.specs.rules.Ranges.{blank, worker}
-use Rattle.calendar.specs.facts.RangeFacts.{StoreRanges, RecordRanges}
 use Rattle.calendar.specs.rules.Reclaim.{startedBy, isFree, isFreeNode, firstFree}
-use Rattle.calendar.specs.facts.FirstFree.{first-free-node, first-free-free}
 use Rattle.calendar.specs.rules.Opening.{openStore, openTable}
-use Rattle.calendar.specs.facts.FreshPool.{open-head, open-field, open-worker, open-store-ranged, open-table-ranged}
 use Rattle.calendar.specs.rules.Outcome.{Outcome}
 use Rattle.calendar.specs.rules.Starts.{itemOf, begun, enqueueStart, dequeueStart}
-use Rattle.calendar.specs.facts.Accepted.{Lent, EnqueueAccepted, DequeueAccepted, StepAccepted}
 use Rattle.calendar.specs.rules.SearchSteps.{leftHolds}
+use Rattle.calendar.specs.rules.Operations.{Memory, perform, outcome}
+use Rattle.calendar.specs.facts.Views.{view, updates, view-writeAll, AllInside}
+use Rattle.calendar.specs.facts.RangeFacts.{StoreRanges, RecordRanges}
+use Rattle.calendar.specs.facts.FirstFree.{first-free-node, first-free-free}
+use Rattle.calendar.specs.facts.FreshPool.{open-head, open-field, open-worker, open-store-ranged, open-table-ranged}
+use Rattle.calendar.specs.facts.Accepted.{Lent, EnqueueAccepted, DequeueAccepted, StepAccepted}
 use Rattle.calendar.specs.facts.Changes.{Change}
 use Rattle.calendar.specs.facts.Inside.{enqueue-inside, dequeue-inside, change-inside, length-writeAll}
 use Rattle.calendar.specs.facts.RangesKept.{leaks, enqueue-ranged, dequeue-ranged, step-ranged}
-use Rattle.calendar.specs.rules.Operations.{Memory, perform, outcome}
 use Rattle.lists.specs.Chain.{edge-in}
 use Rattle.lists.specs.LinkInvariant.{Chains, edge}
 use Rattle.lists.specs.Filling.{Free}

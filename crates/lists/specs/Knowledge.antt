@@ -7,10 +7,10 @@ use Prim.Native.Nat.{ℕ, _+_, _*_, _/_, _%_, _≤_, _<_}
 use native.Mathlib.Omega.{arith}
 use Rattle.arrival.specs.declared.Shape.{Shape}
 use Rattle.arrival.specs.declared.Worker.{Worker}
-use Rattle.calendar.specs.rules.Layout.{cell, field}
 use Rattle.arrival.specs.Keys.{itemBucket}
-use Rattle.calendar.specs.facts.Views.{View, update, itemIn, Lt}
 use Rattle.laws.specs.Tests.{upd-other}
+use Rattle.calendar.specs.rules.Layout.{cell, field}
+use Rattle.calendar.specs.facts.Views.{View, update, itemIn, Lt}
 use Rattle.lists.specs.Chain.{In, Spot, here, spot-of, insertAt, removeAt, in-insert, in-remove, edge-in}
 use Rattle.lists.specs.LinkInvariant.{Chains, setChain, set-cases, home, Safe, Lists, Linking, Unlinking, unlinked, edge, link-safe, un-safe, un-standing, out-not-left, marked-cell}
 

@@ -8,11 +8,11 @@ use native.Mathlib.Omega.{arith}
 use lib.Dec.{eqb}
 use borrow.Author.Tests.{eqb-true, eqb-false}
 use Rattle.arrival.specs.declared.Shape.{Shape}
-use Rattle.calendar.specs.rules.Layout.{word, cell, field}
 use Rattle.arrival.specs.Keys.{itemBucket, lower-trans, lower-irr}
-use Rattle.calendar.specs.facts.Views.{View, update, itemIn, Lt}
 use Rattle.laws.specs.Tests.{upd-same, upd-other, upd-cases}
 use Rattle.laws.specs.Lists.{Once}
+use Rattle.calendar.specs.rules.Layout.{word, cell, field}
+use Rattle.calendar.specs.facts.Views.{View, update, itemIn, Lt}
 use Rattle.lists.specs.Chain.{In, Runs, Spot, Edge, Apart, insertAt, removeAt, runs-frame, spot-not, insert-runs, edge-of, edge-in, remove-runs, in-insert, insert-in, in-remove, remove-in, removed-ne, in-next, Ascends, distinct, insert-ascends, remove-ascends}
 
 -- The chains, as the proof carries them.

@@ -5,9 +5,9 @@ use mathlib.Core.Logic.{_≢_, _⊎_, inl, inr}
 use Prim.Native.Nat.{ℕ, _+_, _*_, _/_, _%_, _≤_, _<_}
 use native.Mathlib.Omega.{arith}
 use Rattle.arrival.specs.declared.Shape.{Shape}
+use Rattle.laws.specs.Tests.{upd-other, upd-cases}
 use Rattle.calendar.specs.rules.Layout.{word, cell}
 use Rattle.calendar.specs.facts.Views.{View, update}
-use Rattle.laws.specs.Tests.{upd-other, upd-cases}
 use Rattle.lists.specs.Chain.{In, runs-half, runs-frame}
 use Rattle.lists.specs.LinkInvariant.{Chains, Follows, Lists}
 

@@ -19,21 +19,21 @@ use Rattle.arrival.specs.declared.Response.{Response}
 use Rattle.arrival.specs.declared.Response.the-variants.{Opened, Begun, Refused}
 use Rattle.arrival.specs.Responses.{said}
 use Rattle.calendar.specs.rules.Layout.{layout}
-use Rattle.calendar.specs.facts.Views.{View, view, itemIn}
 use Rattle.calendar.specs.rules.Ranges.{blank, worker, storeInRange, tableInRange}
-use Rattle.calendar.specs.facts.RangeFacts.{store-tests, table-tests}
 use Rattle.calendar.specs.rules.Reclaim.{firstFree}
-use Rattle.calendar.specs.facts.FirstFree.{first-free-node, first-free-free}
 use Rattle.calendar.specs.rules.Opening.{openStore, openTable}
 use Rattle.calendar.specs.rules.Starts.{enqueueStart}
 use Rattle.calendar.specs.rules.Refusals.{badShape, tooShort, outOfRange, noWorker, badArrival, tooLate, busy, idle, noTicket, noEpoch, noNode, openRefusal, enqueueRefusal, dequeueRefusal, stepRefusal}
+use Rattle.calendar.specs.rules.Snapshot.{holds}
+use Rattle.calendar.specs.rules.Ledger.{new}
+use Rattle.calendar.specs.rules.Operations.{Memory, Result, perform, open-pool, actor, refusal, outcome, act, run}
+use Rattle.calendar.specs.facts.Views.{View, view, itemIn}
+use Rattle.calendar.specs.facts.RangeFacts.{store-tests, table-tests}
+use Rattle.calendar.specs.facts.FirstFree.{first-free-node, first-free-free}
 use Rattle.calendar.specs.facts.Accepted.{Lent, open-accepted, enqueue-accepted, dequeue-accepted, step-accepted}
 use Rattle.calendar.specs.facts.Changes.{step-is}
-use Rattle.calendar.specs.rules.Snapshot.{holds}
 use Rattle.calendar.specs.facts.Untouched.{open-same-size, outcome-said}
-use Rattle.calendar.specs.rules.Ledger.{new}
 use Rattle.calendar.specs.facts.Acting.{by-act}
-use Rattle.calendar.specs.rules.Operations.{Memory, Result, perform, open-pool, actor, refusal, outcome, act, run}
 use Rattle.lists.specs.LinkInvariant.{Chains}
 use Rattle.lists.specs.Filling.{Free, not-used, not-safe}
 use Rattle.lists.specs.AllCalls.{Live, Inv}

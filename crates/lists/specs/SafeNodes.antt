@@ -10,9 +10,9 @@ use Rattle.arrival.specs.declared.Shape.{Shape}
 use Rattle.arrival.specs.declared.Worker.{Worker}
 use Rattle.laws.specs.Tests.{parts, either, within}
 use Rattle.calendar.specs.rules.Layout.{linkCell}
-use Rattle.calendar.specs.facts.Views.{View}
 use Rattle.calendar.specs.rules.Ranges.{between}
 use Rattle.calendar.specs.rules.Snapshot.{holds}
+use Rattle.calendar.specs.facts.Views.{View}
 use Rattle.lists.specs.LinkInvariant.{Chains}
 use Rattle.lists.specs.Knowledge.{Private, Stands}
 use Rattle.lists.specs.AllCalls.{Knows}

@@ -6,12 +6,12 @@ use Prim.Native.Nat.{ℕ, _+_, _*_, _≤_, _<_}
 use native.Mathlib.Omega.{arith}
 use Rattle.arrival.specs.declared.Shape.{Shape}
 use Rattle.arrival.specs.declared.Worker.{Worker}
-use Rattle.calendar.specs.rules.Layout.{word}
 use Rattle.arrival.specs.declared.Item.{Item}
 use Rattle.arrival.specs.Keys.{itemBucket}
+use Rattle.laws.specs.Tests.{upd-same, upd-cases}
+use Rattle.calendar.specs.rules.Layout.{word}
 use Rattle.calendar.specs.rules.Outcome.{withStage}
 use Rattle.calendar.specs.facts.Views.{View, update, itemIn}
-use Rattle.laws.specs.Tests.{upd-same, upd-cases}
 use Rattle.lists.specs.LinkInvariant.{Chains}
 use Rattle.lists.specs.Marking.{fewer-keeps, more-keeps}
 use Rattle.lists.specs.AllCalls.{Knows, Live, Inv, with-record, knows-stable}

@@ -12,23 +12,23 @@ use Rattle.arrival.specs.declared.Action.{Action}
 use Rattle.arrival.specs.declared.Action.the-variants.{Enqueue, Dequeue, Step}
 use Rattle.arrival.specs.declared.Response.{Response}
 use Rattle.arrival.specs.declared.Response.the-variants.{Opened, Begun, On, Stored, Took, Empty, Refused}
-use Rattle.calendar.specs.rules.Layout.{link, isMarked, itemAt, writeAll}
-use Rattle.calendar.specs.facts.Views.{View, view, updates, view-writeAll, AllInside}
 use Rattle.laws.specs.Counting.{count}
+use Rattle.calendar.specs.rules.Layout.{link, isMarked, itemAt, writeAll}
 use Rattle.calendar.specs.rules.Ranges.{blank, worker}
 use Rattle.calendar.specs.rules.Reclaim.{firstFree}
-use Rattle.calendar.specs.facts.FirstFree.{first-free-node}
 use Rattle.calendar.specs.rules.Opening.{openStore, openTable}
-use Rattle.calendar.specs.facts.FreshPool.{open-worker}
 use Rattle.calendar.specs.rules.Outcome.{Outcome}
 use Rattle.calendar.specs.rules.Starts.{enqueueStart, dequeueStart}
+use Rattle.calendar.specs.rules.Operations.{Memory, perform, open-pool, actor, refusal, outcome, act, run}
+use Rattle.calendar.specs.rules.Ledger.{Ledger, new, marks, hears, sees, succeeds-11, notes, reads, ledger}
+use Rattle.calendar.specs.rules.Snapshot.{bucketList, unmarkedIn, unmarkedTo, hasLinked, hasMarked, workersWith}
+use Rattle.calendar.specs.facts.Views.{View, view, updates, view-writeAll, AllInside}
+use Rattle.calendar.specs.facts.FirstFree.{first-free-node}
+use Rattle.calendar.specs.facts.FreshPool.{open-worker}
 use Rattle.calendar.specs.facts.Accepted.{enqueue-accepted, dequeue-accepted, step-accepted}
 use Rattle.calendar.specs.facts.Changes.{Change, step-is}
 use Rattle.calendar.specs.facts.Inside.{enqueue-inside, dequeue-inside, change-inside}
-use Rattle.calendar.specs.rules.Operations.{Memory, perform, open-pool, actor, refusal, outcome, act, run}
-use Rattle.calendar.specs.rules.Ledger.{Ledger, new, marks, hears, sees, succeeds-11, notes, reads, ledger}
 use Rattle.calendar.specs.facts.Acting.{by-act}
-use Rattle.calendar.specs.rules.Snapshot.{bucketList, unmarkedIn, unmarkedTo, hasLinked, hasMarked, workersWith}
 use Rattle.lists.specs.LinkInvariant.{Chains}
 use Rattle.lists.specs.AllCalls.{with-record}
 use Rattle.lists.specs.TurnsKeepLists.{chains-after}

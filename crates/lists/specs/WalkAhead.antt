@@ -4,10 +4,10 @@ use mathlib.Core.Logic.{_⊎_, inl, inr}
 use Prim.Native.Nat.{ℕ, _+_, _*_, _/_, _%_, _<_}
 use native.Mathlib.Omega.{arith}
 use Rattle.arrival.specs.declared.Shape.{Shape}
-use Rattle.calendar.specs.rules.Layout.{cell}
 use Rattle.arrival.specs.Keys.{lower-trans, lower-irr}
-use Rattle.calendar.specs.facts.Views.{View, update, itemIn, Lt}
 use Rattle.laws.specs.Tests.{upd-same, upd-other}
+use Rattle.calendar.specs.rules.Layout.{cell}
+use Rattle.calendar.specs.facts.Views.{View, update, itemIn, Lt}
 use Rattle.lists.specs.Chain.{In}
 use Rattle.lists.specs.LinkInvariant.{Chains, Safe, Follows, Lists, Linking, Unlinking, unlinked, own-not-left, safe-next}
 use Rattle.lists.specs.Marking.{marked-half}

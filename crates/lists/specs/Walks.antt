@@ -14,8 +14,8 @@ use Rattle.arrival.specs.declared.Item.{Item}
 use Rattle.laws.specs.Tests.{parts}
 use Rattle.laws.specs.Lists.{Once, once-below}
 use Rattle.calendar.specs.rules.Layout.{link, itemAt, isMarked}
-use Rattle.calendar.specs.facts.Views.{view}
 use Rattle.calendar.specs.rules.Snapshot.{onto, nodesFrom, bucketList, sameItem, unmarkedOf}
+use Rattle.calendar.specs.facts.Views.{view}
 use Rattle.lists.specs.Chain.{In, Runs}
 use Rattle.lists.specs.LinkInvariant.{Chains, chain-distinct, Lists}
 

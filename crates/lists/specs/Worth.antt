@@ -13,16 +13,16 @@ use Rattle.arrival.specs.declared.Shape.{Shape}
 use Rattle.arrival.specs.declared.Worker.{Worker}
 use Rattle.arrival.specs.declared.Response.{Response}
 use Rattle.arrival.specs.declared.Response.the-variants.{Opened, Begun, On, Stored, Took, Empty, Refused}
-use Rattle.calendar.specs.rules.Layout.{Write, link}
-use Rattle.calendar.specs.facts.Views.{View, view, updates}
 use Rattle.laws.specs.Tests.{upd-same, upd-other, upd-cases}
+use Rattle.calendar.specs.rules.Layout.{Write, link}
 use Rattle.calendar.specs.rules.Ranges.{worker}
-use Rattle.calendar.specs.facts.RangeFacts.{RecordRanges}
 use Rattle.calendar.specs.rules.Outcome.{Outcome, withStage, withOwn, withBucket, withSeen, withCurrent}
 use Rattle.calendar.specs.rules.SearchSteps.{leftHolds, unlink}
 use Rattle.calendar.specs.rules.EnqueueSteps.{linkOwn, prepare}
 use Rattle.calendar.specs.rules.DequeueSteps.{linkHolds, markNode, nextCurrent}
 use Rattle.calendar.specs.rules.Snapshot.{hasLinked, hasMarked}
+use Rattle.calendar.specs.facts.Views.{View, view, updates}
+use Rattle.calendar.specs.facts.RangeFacts.{RecordRanges}
 use Rattle.calendar.specs.facts.Inside.{found-writes, settled-writes, walked-writes}
 use Rattle.calendar.specs.facts.Changes.{Found, put-found, take-ends, Settled, at-end, goes-on, Walked, out, out-last, meets, Change, head-read, mark-seen, passed, stopped, unlinked, again-3, prepared, linked, again-5, stored-6, on-7, stored-7, back-6, current-read, first-read, mark-passed, newer, on-11, marked, back-10, advanced, back-12, emptied, back-13}
 use Rattle.lists.specs.Chain.{In, insertAt, removeAt}

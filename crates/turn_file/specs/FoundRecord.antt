@@ -9,9 +9,9 @@ use native.Mathlib.Omega.{arith}
 use lib.Dec.{eqb, leb, ltb}
 use lib.ListN.{length}
 use borrow.Author.Tests.{eqb-false, ltb-false, lt-leb, le-ltb, ne-eqb}
+use Rattle.laws.specs.Tests.{by-test}
 use Rattle.turn_file.specs.declared.Read.{Read}
 use Rattle.turn_file.specs.declared.Read.the-variants.{End, Refused}
-use Rattle.laws.specs.Tests.{by-test}
 use Rattle.turn_file.specs.Fields.{twoAt}
 use Rattle.turn_file.specs.Records.{Record, opens, acts, sizeOf, size-least}
 use Rattle.turn_file.specs.Reading.{fieldsAt, whole, markedAt, recordAt}

@@ -9,12 +9,12 @@ use lib.Dec.{eqb}
 use lib.ListN.{length, take, drop, length-append, length-drop, drop-of-length-le}
 use borrow.Author.Tests.{eqb-false}
 use Rattle.arrival.specs.declared.Response.the-variants as response
-use Rattle.calendar.specs.rules.Operations.{Memory}
 use Rattle.turn_file.specs.declared.Read.the-variants.{Refused}
 use Rattle.turn_file.specs.Reading.{recordAt}
 use Rattle.turn_file.specs.MoreBytes.{Unknown, Cut, at-end, why-refused, unknown-refused, cut-refused, unknown-rest, cut-rest}
 use Rattle.turn_file.specs.Lines.{lineOf, line-most}
 use Rattle.turn_file.specs.Buffer.{written, after, written-length}
+use Rattle.calendar.specs.rules.Operations.{Memory}
 use Rattle.batch.specs.declared.Stop.{Stop}
 use Rattle.batch.specs.declared.Stop.the-variants.{Drained, Full, Halted}
 use Rattle.batch.specs.Batch.{Pool, Progress, Stopped, workedAll}

@@ -8,6 +8,7 @@ use native.Mathlib.Omega.{arith}
 use lib.Dec.{eqb}
 use lib.ListN.{length, take, drop}
 use lib.Seq.{append-snoc}
+use Rattle.laws.specs.Storing.{moved}
 use Rattle.batch.specs.declared.HeldPool.{HeldPool}
 use Rattle.batch.specs.Batch.{Pool}
 use Rattle.batch.specs.TurnFile.{Ran, behind, zeros, turnFile}
@@ -17,7 +18,6 @@ use Rattle.turns.specs.declared.Ended.the-variants.{Finished, Closed, Sp
 use Rattle.turns.specs.declared.Next.{Next}
 use Rattle.turns.specs.declared.Next.the-variants.{More, Read, End, Last}
 use Rattle.turns.specs.declared.Round.{Round}
-use Rattle.laws.specs.Storing.{moved}
 use Rattle.turns.specs.TurnsRun.{lent, Held, Rounded, roundOf, Reads, worked-on, read-on, nextRound, rounds, atFirst, inputOf}
 use Rattle.turns.specs.InPieces.{load, in-pieces}
 use Rattle.turns.specs.BetweenRounds.{inHand, holding, leaves, read-behind, nothing-read}

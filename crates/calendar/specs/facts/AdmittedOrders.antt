@@ -14,9 +14,9 @@ use borrow.Author.Tests.{eq-eqb, ltb-true}
 use Rattle.arrival.specs.declared.Response.{Response}
 use Rattle.arrival.specs.declared.Response.the-variants.{Opened, Begun, On, Stored, Took, Empty, Refused}
 use Rattle.arrival.specs.Queue.{Reply, Items, reply, after, replies}
+use Rattle.laws.specs.Lists.{mem-behind, Once, without, without-in, in-without, without-less, below, below-in, length-below}
 use Rattle.calendar.specs.rules.Ledger.{Ledger}
 use Rattle.calendar.specs.rules.Linearizability.{Finished, EndedBefore, RespectsTime, poolReply, Agree, Linearization}
-use Rattle.laws.specs.Lists.{mem-behind, Once, without, without-in, in-without, without-less, below, below-in, length-below}
 
 -- ── tests ──
 abbrev pub isFinished : Option ℕ → Bool

@@ -1,5 +1,5 @@
 -- The turn as data: what a turn did and what its tests found. One match on it serves every property of turns. Assumes nothing.
-use mathlib.Core.Path.{_≡_, refl}
+use mathlib.Core.Path.{_≡_, refl, ap}
 use mathlib.Core.List.{List, [], _∷_}
 use mathlib.Core.Bool.{true, false}
 use mathlib.Core.Logic.{_≢_}
@@ -134,3 +134,8 @@ step-is sh s w busy l =
   where
     C : Outcome → Type 0
     C o = Change sh s w o
+
+-- At a known stage the turn is that stage's rule.
+pub step-at : (sh : Shape) (s : List ℕ) (w : Worker) (k : ℕ) → w .stage ≡ k → step sh s w ≡ getD rules k no-step sh s w
+unfolding step
+step-at sh s w k e = ap (λ (i : ℕ). getD rules i no-step sh s w) e

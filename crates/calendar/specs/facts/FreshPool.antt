@@ -9,12 +9,13 @@ use lib.ListN.{drop, replicate, getD-replicate, length-replicate, List·getD-app
 use borrow.Author.Tests.{ne-eqb, le-leb, lt-ltb, le-ltb}
 use Rattle.arrival.specs.declared.Shape.{Shape}
 use Rattle.arrival.specs.declared.Worker.{Worker}
-use Rattle.calendar.specs.rules.Layout.{Place, word, cell, field, address, layout, read, word-inside, cell-inside, field-inside}
-use Rattle.calendar.specs.facts.Views.{view}
-use Rattle.calendar.specs.rules.Ranges.{blank, worker}
-use Rattle.calendar.specs.facts.RangeFacts.{StoreRanges, RecordRanges, Limits}
-use Rattle.calendar.specs.rules.Opening.{openWord, openStore, openTable}
 use Rattle.laws.specs.Lists.{wordsFrom, words-at, length-words}
+use Rattle.calendar.specs.rules.Layout.{Place, word, cell, field, address, layout, read}
+use Rattle.calendar.specs.rules.Ranges.{blank, worker}
+use Rattle.calendar.specs.rules.Opening.{openWord, openStore, openTable}
+use Rattle.calendar.specs.facts.Places.{word-inside, cell-inside, field-inside}
+use Rattle.calendar.specs.facts.Views.{view}
+use Rattle.calendar.specs.facts.RangeFacts.{StoreRanges, RecordRanges, Limits}
 
 module _ (sh : Shape) (s : List ℕ) where
   at-place : (p : Place) → address sh p < layout sh → read sh (openStore sh s) p ≡ openWord sh (address sh p)

@@ -10,11 +10,12 @@ use Rattle.arrival.specs.declared.Shape.{Shape}
 use Rattle.arrival.specs.declared.Arrival.{Arrival}
 use Rattle.arrival.specs.declared.Worker.{Worker}
 use Rattle.arrival.specs.Responses.{said}
-use Rattle.calendar.specs.rules.Layout.{field, Write, _≔_, writeAll, write, address, layout, length-write, word-inside, cell-inside, field-inside}
-use Rattle.calendar.specs.facts.Views.{AllInside}
-use Rattle.calendar.specs.facts.RangeFacts.{RecordRanges}
+use Rattle.calendar.specs.rules.Layout.{field, Write, _≔_, writeAll, write, address, layout}
 use Rattle.calendar.specs.rules.Outcome.{Outcome}
 use Rattle.calendar.specs.rules.Starts.{enqueueStart, dequeueStart}
+use Rattle.calendar.specs.facts.Places.{length-write, word-inside, cell-inside, field-inside}
+use Rattle.calendar.specs.facts.Views.{AllInside}
+use Rattle.calendar.specs.facts.RangeFacts.{RecordRanges}
 use Rattle.calendar.specs.facts.Changes.{Found, put-found, take-ends, Settled, at-end, goes-on, Walked, out, out-last, meets, Change, head-read, mark-seen, passed, stopped, unlinked, again-3, prepared, linked, again-5, stored-6, on-7, stored-7, back-6, current-read, first-read, mark-passed, newer, on-11, marked, back-10, advanced, back-12, emptied, back-13}
 
 -- ── the starts ──

@@ -9,9 +9,9 @@ use Rattle.arrival.specs.declared.Response.the-variants.{Stored, Took}
 use Rattle.arrival.specs.Keys.{lower, bucketOf}
 use Rattle.arrival.specs.Energy.{energyOf}
 use Rattle.arrival.specs.Queue.{enqueue, dequeue}
-use Rattle.calendar.specs.rules.Layout.{address, read, write}
 use Rattle.laws.specs.Counting.{every, count}
 use Rattle.laws.specs.Lists.{wordsFrom}
+use Rattle.calendar.specs.rules.Layout.{address, read, write}
 use Rattle.calendar.specs.rules.Ranges.{blank, storeInRange, tableInRange}
 use Rattle.calendar.specs.rules.Reclaim.{isFree, firstFreeOf, firstFree}
 use Rattle.calendar.specs.rules.Opening.{openStore, openTable}

@@ -9,10 +9,10 @@ use borrow.Author.Tests.{eqb-true, leb-true, ltb-true, le-leb, lt-ltb, eq-eqb}
 use Rattle.arrival.specs.declared.Shape.{Shape}
 use Rattle.arrival.specs.declared.Worker.{Worker}
 use Rattle.laws.specs.Tests.{parts, never, both, either, or-left, or-right, inside, within, isnt, is-not}
-use Rattle.calendar.specs.rules.Layout.{current, started, lastNode, head, link, timeAt, ticketAt, pathAt, orderAt, distanceAt, epochAt, standing, bucketIn}
-use Rattle.calendar.specs.facts.Views.{View, view}
 use Rattle.laws.specs.Counting.{every-at, every-all}
+use Rattle.calendar.specs.rules.Layout.{current, started, lastNode, head, link, timeAt, ticketAt, pathAt, orderAt, distanceAt, epochAt, standing, bucketIn}
 use Rattle.calendar.specs.rules.Ranges.{shapeInRange, headInRange, nodeInRange, storeInRange, recordInRange, tableInRange, worker, implies, between}
+use Rattle.calendar.specs.facts.Views.{View, view}
 
 -- ── tests joined by "implies" ──
 follows : (a b : Bool) → implies a b ≡ true → a ≡ true → b ≡ true

@@ -19,9 +19,9 @@ use Rattle.calendar.specs.rules.Reclaim.{startedBy, isFree, nodeAfter, f
 use Rattle.calendar.specs.rules.Layout.{standing}
 use Rattle.calendar.specs.rules.Opening.{openStore, openTable}
 use Rattle.calendar.specs.rules.Refusals.{firstOf, badShape, tooShort, outOfRange, noWorker, badArrival, tooLate, busy, idle, noTicket, noEpoch, noNode, openRefusal, enqueueRefusal, dequeueRefusal, stepRefusal}
+use Rattle.calendar.specs.rules.Operations.{Memory, Result, perform, actor, refusal, outcome, act, open-pool}
 use Rattle.calendar.specs.facts.RangeFacts.{limits}
 use Rattle.calendar.specs.facts.Accepted.{enqueue-accepted, dequeue-accepted, step-accepted}
-use Rattle.calendar.specs.rules.Operations.{Memory, Result, perform, actor, refusal, outcome, act, open-pool}
 
 abbrev pub longer : Memory → List Worker → Memory
 longer m u = record { store = m .store; table = m .table ++ u }

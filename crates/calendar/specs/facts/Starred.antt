@@ -11,9 +11,9 @@ use Rattle.arrival.specs.declared.Response.{Response}
 use Rattle.arrival.specs.declared.Response.the-variants.{Opened, Begun, On, Stored, Took, Empty, Refused}
 use Rattle.arrival.specs.Keys.{lower, bucketOf}
 use Rattle.arrival.specs.Energy.{energyOf}
-use Rattle.calendar.specs.rules.Layout.{address, read, write, current, currentWord}
 use Rattle.laws.specs.Counting.{every}
 use Rattle.laws.specs.Lists.{wordsFrom}
+use Rattle.calendar.specs.rules.Layout.{address, read, write, current, currentWord}
 use Rattle.calendar.specs.rules.Ranges.{blank, storeInRange, tableInRange}
 use Rattle.calendar.specs.rules.Reclaim.{isFree, firstFreeOf, firstFree}
 use Rattle.calendar.specs.rules.Opening.{openStore, openTable}

@@ -16,20 +16,20 @@ use Rattle.arrival.specs.declared.Action.the-variants.{Enqueue, Dequeue, Step}
 use Rattle.arrival.specs.declared.Response.{Response}
 use Rattle.arrival.specs.declared.Response.the-variants.{Opened, Refused}
 use Rattle.arrival.specs.Responses.{said}
+use Rattle.laws.specs.Lists.{wordsFrom, length-words}
 use Rattle.calendar.specs.rules.Layout.{Write, _≔_, write, writeAll, layout, address}
 use Rattle.calendar.specs.rules.Ranges.{blank, worker}
 use Rattle.calendar.specs.rules.Opening.{openWord, openStore, openTable}
-use Rattle.laws.specs.Lists.{wordsFrom, length-words}
 use Rattle.calendar.specs.rules.Reclaim.{firstFree}
-use Rattle.calendar.specs.facts.FirstFree.{first-free-node}
 use Rattle.calendar.specs.rules.Outcome.{Outcome}
 use Rattle.calendar.specs.rules.Starts.{enqueueStart, dequeueStart}
 use Rattle.calendar.specs.rules.Refusals.{openRefusal}
+use Rattle.calendar.specs.rules.Operations.{Memory, Result, unless, perform, open-pool, actor, refusal, outcome, act, run}
+use Rattle.calendar.specs.facts.FirstFree.{first-free-node}
 use Rattle.calendar.specs.facts.Accepted.{open-accepted, enqueue-accepted, dequeue-accepted, step-accepted}
 use Rattle.calendar.specs.facts.Views.{AllInside}
 use Rattle.calendar.specs.facts.Changes.{step-is}
 use Rattle.calendar.specs.facts.Inside.{enqueue-inside, dequeue-inside, change-inside, change-said, length-writeAll}
-use Rattle.calendar.specs.rules.Operations.{Memory, Result, unless, perform, open-pool, actor, refusal, outcome, act, run}
 
 -- ── a refused operation ──
 -- A refusal as response: the memory is as it was.

@@ -9,7 +9,8 @@ use lib.ListN.{length}
 use Rattle.arrival.specs.declared.Shape.{Shape}
 use Rattle.arrival.specs.declared.Item.{Item}
 use Rattle.arrival.specs.Keys.{lower}
-use Rattle.calendar.specs.rules.Layout.{Place, word, cell, field, Write, _≔_, address, layout, read, write, writeAll, same, valid, read-write, length-write}
+use Rattle.calendar.specs.rules.Layout.{Place, word, cell, field, Write, _≔_, address, layout, read, write, writeAll}
+use Rattle.calendar.specs.facts.Places.{same, valid, read-write, length-write}
 
 pub record View : Type 0 where
   pub current : ℕ

@@ -16,22 +16,23 @@ use Rattle.arrival.specs.declared.Action.{Action}
 use Rattle.arrival.specs.declared.Action.the-variants.{Enqueue, Dequeue, Step}
 use Rattle.arrival.specs.declared.Response.{Response}
 use Rattle.arrival.specs.declared.Response.the-variants.{Opened, Refused}
-use Rattle.calendar.specs.rules.Layout.{Place, word, cell, field, Write, _≔_, address, layout, read, write, writeAll, linkCell, itemAt, standing, word-inside, cell-inside, field-inside, length-write}
 use Rattle.laws.specs.Counting.{every-same, each-of}
 use Rattle.laws.specs.Lists.{wordsFrom}
+use Rattle.calendar.specs.rules.Layout.{Place, word, cell, field, Write, _≔_, address, layout, read, write, writeAll, linkCell, itemAt, standing}
 use Rattle.calendar.specs.rules.Ranges.{worker, small, currentInRange, linkInRange, pathInRange, orderInRange, headInRange, nodeInRange, storeInRange}
-use Rattle.calendar.specs.facts.RangeFacts.{RecordRanges}
 use Rattle.calendar.specs.rules.Reclaim.{isFree, nodeAfter, firstFreeOf, firstFree}
-use Rattle.calendar.specs.facts.FirstFree.{after-below}
 use Rattle.calendar.specs.rules.Opening.{openWord, openStore, openTable}
 use Rattle.calendar.specs.rules.Outcome.{Outcome}
 use Rattle.calendar.specs.rules.Starts.{enqueueStart, dequeueStart}
 use Rattle.calendar.specs.rules.Refusals.{openRefusal, enqueueRefusal, dequeueRefusal, stepRefusal}
+use Rattle.calendar.specs.rules.Operations.{Memory, Result, perform, actor, refusal, outcome, act, open-pool, run, responses}
+use Rattle.calendar.specs.facts.Places.{word-inside, cell-inside, field-inside, length-write}
+use Rattle.calendar.specs.facts.RangeFacts.{RecordRanges}
+use Rattle.calendar.specs.facts.FirstFree.{after-below}
 use Rattle.calendar.specs.facts.Accepted.{step-accepted}
 use Rattle.calendar.specs.facts.Views.{AllInside}
 use Rattle.calendar.specs.facts.Untouched.{act-same-size, outcome-inside}
 use Rattle.calendar.specs.facts.OneWord.{current-word, head-word, left-word, right-link, sharedWords, sharedWord, SameSeen, one-shared-word}
-use Rattle.calendar.specs.rules.Operations.{Memory, Result, perform, actor, refusal, outcome, act, open-pool, run, responses}
 
 -- the same memory with words v behind its store
 abbrev pub longer : Memory → List ℕ → Memory

@@ -8,9 +8,9 @@ use Rattle.arrival.specs.declared.Action.{Action}
 use Rattle.arrival.specs.declared.Response.the-variants.{Stored, Took, Empty}
 use Rattle.arrival.specs.Keys.{lower, bucketOf}
 use Rattle.arrival.specs.Energy.{energyOf}
-use Rattle.calendar.specs.rules.Layout.{address, read, write}
 use Rattle.laws.specs.Counting.{every}
 use Rattle.laws.specs.Lists.{wordsFrom, below}
+use Rattle.calendar.specs.rules.Layout.{address, read, write}
 use Rattle.calendar.specs.rules.Ranges.{blank, storeInRange, tableInRange}
 use Rattle.calendar.specs.rules.Reclaim.{isFree, firstFreeOf, firstFree}
 use Rattle.calendar.specs.rules.Opening.{openStore, openTable}

@@ -74,6 +74,7 @@ hears i (Refused k) L = L
 abbrev pub succeeds-11 : Shape → List ℕ → Worker → Bool
 succeeds-11 sh s w = eqb (w .stage) 11 && linkHolds sh s w
 
+-- worker i's turn, before it is made: a successful 11 marks what the node holds
 abbrev pub sees : Shape → Memory → ℕ → Ledger → Ledger
 sees sh m i L =
     let w = worker (m .table) i in

@@ -14,7 +14,7 @@ use Rattle.calendar.specs.rules.Ranges.{blank}
 abbrev pub openWord : Shape → ℕ → ℕ
 openWord sh i = cond (eqb i 2) (sh .nodes - 1) (cond (leb 3 i && ltb i (3 + sh .buckets)) (unmarked (sh .nodes)) 0)
 
--- the layout's words; what lies beyond stays
+-- the layout's words, one by one (laws/Lists: `wordsFrom`); what lies beyond stays
 unfoldable pub openStore : Shape → List ℕ → List ℕ
 openStore sh s = wordsFrom (openWord sh) 0 (layout sh) ++ drop (layout sh) s
 

@@ -4,8 +4,8 @@ use mathlib.Core.List.{List}
 use Prim.Native.Nat.{ℕ, _+_, _≤_, _-_}
 use native.Mathlib.Omega.{arith}
 use lib.ListN.{length, getD, set, length-set}
-use Rattle.laws.specs.Storing.{moved, none-moved, moved-more}
 use borrow.Author.Needs.{needs}
+use Rattle.laws.specs.Storing.{moved, none-moved, moved-more}
 use Rattle.turns.proofs.keep_rest.Statement.{statement}
 use Rattle.turns.proofs.keep_rest.Tie as tie
 

@@ -1,7 +1,7 @@
 -- A batch, what follows it and its last line make up the round. Assumes nothing.
 use native.Mathlib.Omega.{arith}
-use Rattle.turns.specs.BetweenRounds.{round-left}
 use borrow.Author.Needs.{needs}
+use Rattle.turns.specs.BetweenRounds.{round-left}
 use Rattle.turns.proofs.one_round.Statement.{statement}
 use Rattle.turns.proofs.one_round.Tie as tie
 

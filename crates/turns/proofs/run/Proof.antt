@@ -4,11 +4,11 @@ use Prim.Native.Nat.{_≤_}
 use native.Mathlib.Omega.{arith}
 use lib.ListN.{length}
 use lib.Seq.{length-take-le}
+use borrow.Author.Needs.{needs}
 use Rattle.batch.specs.CodeView.{Sound}
 use Rattle.turns.specs.TurnsRun.{lent, Held, atFirst}
 use Rattle.turns.specs.BetweenRounds.{inHand, holding}
 use Rattle.turns.specs.RunFollows.{allRounds, Followed, Ends, at-start, working, reading, closed, finished, spent, first-held, after-read}
-use borrow.Author.Needs.{needs}
 use Rattle.turns.proofs.run.Statement.{statement}
 use Rattle.turns.proofs.run.Tie as tie
 

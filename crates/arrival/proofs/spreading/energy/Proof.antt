@@ -5,8 +5,8 @@ use Prim.Native.Nat.{_+_, _-_, _<_}
 use native.Mathlib.Omega.{arith}
 use borrow.Author.Needs.{needs}
 use borrow.Author.Tests.{eq-eqb}
-use Rattle.laws.specs.Lists.{wordsFrom, words-at}
 use Rattle.arrival.specs.Energy.{energyOf}
+use Rattle.laws.specs.Lists.{wordsFrom, words-at}
 use Rattle.arrival.proofs.spreading.energy.Statement.{statement}
 use Rattle.arrival.proofs.spreading.energy.Tie as tie
 

@@ -6,9 +6,9 @@ use denote.Ref.{now}
 use native.Mathlib.Omega.{arith}
 use lib.ListN.{length, set, length-set}
 use lib.Seq.{sets}
-use Rattle.turn_file.specs.Decimal.{decimal, decimal-one, decimal-more, length-more, decimal-least}
-use Rattle.laws.specs.Storing.{last-first}
 use borrow.Author.Needs.{needs}
+use Rattle.laws.specs.Storing.{last-first}
+use Rattle.turn_file.specs.Decimal.{decimal, decimal-one, decimal-more, length-more, decimal-least}
 use Rattle.turn_file.proofs.lines.put_number.Statement.{statement}
 use Rattle.turn_file.proofs.lines.put_number.Tie as tie
 

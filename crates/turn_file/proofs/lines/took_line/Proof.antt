@@ -6,11 +6,11 @@ use Prim.Native.Nat.{_+_}
 use native.Mathlib.Omega.{arith}
 use lib.Seq.{sets}
 use denote.Ref.{now}
+use borrow.Author.Needs.{needs}
+use Rattle.laws.specs.Storing.{behind, joined}
 use Rattle.turn_file.specs.Decimal.{decimal}
 use Rattle.turn_file.specs.Lines.{values, tookLine, took-size}
 use Rattle.turn_file.specs.Buffer.{cut, stored}
-use Rattle.laws.specs.Storing.{behind, joined}
-use borrow.Author.Needs.{needs}
 use Rattle.turn_file.proofs.lines.took_line.Statement.{statement}
 use Rattle.turn_file.proofs.lines.took_line.Tie as tie
 
