@@ -47,7 +47,8 @@ below a b h = go (ltb (a .time) (b .time)) refl h
   where
     go : (t : Bool) → ltb (a .time) (b .time) ≡ t → (t || (eqb (a .time) (b .time) && ltb (a .ticket) (b .ticket))) ≡ true → Below a b
     go true e h = inl (ltb-true (a .time) (b .time) e)
-    go false e h = let (p, q) = parts (eqb (a .time) (b .time)) (ltb (a .ticket) (b .ticket)) h in inr (eqb-true (a .time) (b .time) p, ltb-true (a .ticket) (b .ticket) q)
+    go false e h =
+        let (p, q) = parts (eqb (a .time) (b .time)) (ltb (a .ticket) (b .ticket)) h in inr (eqb-true (a .time) (b .time) p, ltb-true (a .ticket) (b .ticket) q)
 
 lowered : (a b : Item) → Below a b → lower a b ≡ true
 unfolding lower
@@ -94,8 +95,11 @@ lower-weak a b c h = go (lower a b) refl (lower b c) refl
             split : (t : Bool) → ltb (a .time) (b .time) ≡ t → (u : Bool) → ltb (b .time) (c .time) ≡ u → (v : Bool) → ltb (a .ticket) (b .ticket) ≡ v → ⊥
             split true q u r v z = apart a b e (inl (ltb-true (a .time) (b .time) q))
             split false q true r v z = apart b c f (inl (ltb-true (b .time) (c .time) r))
-            split false q false r true z = apart a b e (inr (omega (arith, ltb-false (a .time) (b .time) q, ltb-false (b .time) (c .time) r), ltb-true (a .ticket) (b .ticket) z))
-            split false q false r false z = apart b c f (inr (omega (arith, ltb-false (a .time) (b .time) q, ltb-false (b .time) (c .time) r), omega (arith, ltb-false (a .ticket) (b .ticket) z)))
+            split false q false r true z =
+                apart a b e (inr (omega (arith, ltb-false (a .time) (b .time) q, ltb-false (b .time) (c .time) r), ltb-true (a .ticket) (b .ticket) z))
+            split false q false r false z =
+                apart b c f
+                (inr (omega (arith, ltb-false (a .time) (b .time) q, ltb-false (b .time) (c .time) r), omega (arith, ltb-false (a .ticket) (b .ticket) z)))
 
 -- and total on different tickets.
 pub lower-total : (a b : Item) → lower a b ≡ false → a .ticket ≢ b .ticket → lower b a ≡ true

@@ -16,9 +16,12 @@ use Rattle.lists.specs.LinkInvariant.{Chains}
 use Rattle.lists.specs.LinkPaths.{Reach}
 
 pub same-item? : (a b : Item) → Dec (a ≡ b)
-same-item? a b = go (ℕ-discrete (a .time) (b .time)) (ℕ-discrete (a .path) (b .path)) (ℕ-discrete (a .order) (b .order)) (ℕ-discrete (a .distance) (b .distance)) (ℕ-discrete (a .ticket) (b .ticket))
+same-item? a b =
+    go (ℕ-discrete (a .time) (b .time)) (ℕ-discrete (a .path) (b .path)) (ℕ-discrete (a .order) (b .order)) (ℕ-discrete (a .distance) (b .distance))
+    (ℕ-discrete (a .ticket) (b .ticket))
   where
-    go : Dec (a .time ≡ b .time) → Dec (a .path ≡ b .path) → Dec (a .order ≡ b .order) → Dec (a .distance ≡ b .distance) → Dec (a .ticket ≡ b .ticket) → Dec (a ≡ b)
+    go : Dec (a .time ≡ b .time) → Dec (a .path ≡ b .path) → Dec (a .order ≡ b .order) → Dec (a .distance ≡ b .distance) → Dec (a .ticket ≡ b .ticket)
+        → Dec (a ≡ b)
     go (yes p) (yes q) (yes r) (yes s) (yes t) = yes (λ i. record { time = p i; path = q i; order = r i; distance = s i; ticket = t i })
     go (no n) q r s t = no (λ e. n (ap (λ (x : Item). x .time) e))
     go (yes p) (no n) r s t = no (λ e. n (ap (λ (x : Item). x .path) e))

@@ -46,7 +46,8 @@ module _ (sh : Shape) where
   pub runs-half : (c d : ℕ → ℕ) (ns : List ℕ) (p q : ℕ) → Runs c p ns → d q / 2 ≡ c p / 2
       → ((m : ℕ) → In m ns → d (sh .buckets + m) / 2 ≡ c (sh .buckets + m) / 2) → Runs d q ns
   runs-half c d [] p q r e h = e ∙ r
-  runs-half c d (n ∷ ns) p q r e h = (e ∙ r .0, runs-half c d ns (sh .buckets + n) (sh .buckets + n) (r .1) (h n (List·Memᴰ·head refl)) (λ m i. h m (List·Memᴰ·tail i)))
+  runs-half c d (n ∷ ns) p q r e h =
+      (e ∙ r .0, runs-half c d ns (sh .buckets + n) (sh .buckets + n) (r .1) (h n (List·Memᴰ·head refl)) (λ m i. h m (List·Memᴰ·tail i)))
 
   pub runs-frame : (c d : ℕ → ℕ) (ns : List ℕ) (p q : ℕ) → Runs c p ns → d q / 2 ≡ c p / 2
       → ((m : ℕ) → In m ns → d (sh .buckets + m) ≡ c (sh .buckets + m)) → Runs d q ns
@@ -72,7 +73,8 @@ module _ (sh : Shape) where
     unfolding insertAt
     insert-runs {p} {ns} (here e) r a po out ds = (
       ap (λ x. d x / 2) e ∙ toOwn,
-      runs-frame c d ns p (sh .buckets + o) r (toRight ∙ ap (λ x. c x / 2) (sym e)) (λ m i. frame (sh .buckets + m) (λ q. a m i (e ∙ sym q)) (λ q. out m i (omega arith))),
+      runs-frame c d ns p (sh .buckets + o) r (toRight ∙ ap (λ x. c x / 2) (sym e))
+          (λ m i. frame (sh .buckets + m) (λ q. a m i (e ∙ sym q)) (λ q. out m i (omega arith))),
     )
     insert-runs {p} (there {n = n} {ns = ns} sp) r a po out ds = (
       ap (λ x. x / 2) (frame p (spot-apart sp a) po) ∙ r .0,

@@ -13,7 +13,8 @@ use Rattle.laws.specs.Tests.{upd-same, upd-other, upd-cases}
 use Rattle.laws.specs.Lists.{Once}
 use Rattle.calendar.specs.rules.Layout.{word, cell, field}
 use Rattle.calendar.specs.facts.Views.{View, update, itemIn, Lt}
-use Rattle.lists.specs.Chain.{In, Runs, Spot, Edge, Apart, insertAt, removeAt, runs-frame, spot-not, insert-runs, edge-of, edge-in, remove-runs, in-insert, insert-in, in-remove, remove-in, removed-ne, in-next, Ascends, distinct, insert-ascends, remove-ascends}
+use Rattle.lists.specs.Chain.{In, Runs, Spot, Edge, Apart, insertAt, removeAt, runs-frame, spot-not, insert-runs, edge-of, edge-in, remove-runs}
+use Rattle.lists.specs.Chain.{in-insert, insert-in, in-remove, remove-in, removed-ne, in-next, Ascends, distinct, insert-ascends, remove-ascends}
 
 -- The chains, as the proof carries them.
 abbrev pub Chains : Type 0
@@ -68,7 +69,8 @@ safe-next sh m ch Live I c n v l (inl i) =
   where
     go : (q : ℕ) → (q ≡ sh .nodes) ⊎ (In q (ch (home sh m n)) × Lt m n q) → (q ≡ sh .nodes) ⊎ Follows sh m ch c n q
     go q (inl e) = inl e
-    go q (inr (j, lt)) = let x = I .member (home sh m n) q j in inr (record { isNode = x .isNode; safe = inl (rw (x .at-home) j); at-home = x .at-home; above = lt })
+    go q (inr (j, lt)) =
+        let x = I .member (home sh m n) q j in inr (record { isNode = x .isNode; safe = inl (rw (x .at-home) j); at-home = x .at-home; above = lt })
 
 -- What a put at 5 whose swap succeeds knows: own is private, left lies in the chain, own's key lies between.
 pub record Linking (sh : Shape) (m : View) (ch : Chains) (b left right own : ℕ) : Type 0 where
@@ -113,7 +115,8 @@ module _ (sh : Shape) (m : View) (ch : Chains) (Live : ℕ → Type 0) (I : List
       (rw (upd-same left left (2 * own) (m .cells left) refl) (omega arith))
       (rw (upd-other left (sh .buckets + own) (2 * own) (m .cells (sh .buckets + own)) own-not-left) (cc (k .was, k .link)))
       (λ x u v. upd-other left x (2 * own) (m .cells x) (λ e. u (sym e)))
-      (k .spot) (I .runs b l) (head-apart sh b (ch b) l) (λ e. omega arith) (λ n i e. k .private b (Memᴰ·cast (sym e) i)) (chain-distinct sh m (ch b) (I .ascends b)))
+      (k .spot) (I .runs b l) (head-apart sh b (ch b) l) (λ e. omega arith) (λ n i e. k .private b (Memᴰ·cast (sym e) i))
+      (chain-distinct sh m (ch b) (I .ascends b)))
       (λ q h l. runs-frame sh (m .cells) _ (ch q) q q (I .runs q l)
       (ap (λ x. x / 2) (upd-other left q (2 * own) (m .cells q) (other-head q h l)))
       (λ n i. upd-other left (sh .buckets + n) (2 * own) (m .cells (sh .buckets + n)) (other-link q n h i)))
@@ -134,7 +137,8 @@ module _ (sh : Shape) (m : View) (ch : Chains) (Live : ℕ → Type 0) (I : List
   pub link-keeps : Lists sh (update (cell left) (2 * own) m) (setChain ch b (insertAt sh own (k .spot))) Live
   link-keeps = record {
     runs = link-runs;
-    member = λ q n. set-cases (λ q ns. In n ns → Member sh m q n) ch b (insertAt sh own (k .spot)) (λ i. old n (in-insert sh (k .spot) i)) (λ q h. I .member q n) q;
+    member = λ q n. set-cases (λ q ns. In n ns → Member sh m q n) ch b (insertAt sh own (k .spot)) (λ i. old n (in-insert sh (k .spot) i))
+        (λ q h. I .member q n) q;
     ascends = set-cases (λ q ns. Ascends (Lt m) ns) ch b (insertAt sh own (k .spot))
         (insert-ascends sh (Lt m) (λ x y z. lower-trans (itemIn m x) (itemIn m y) (itemIn m z)) (λ a. lower-irr (itemIn m a))
         (m .cells) (k .spot) (I .runs b (k .inRange)) (I .ascends b) (λ n i e. omega (arith, I .member b n i .isNode)) (k .low)
@@ -165,7 +169,8 @@ pub record Unlinking (sh : Shape) (m : View) (ch : Chains) (b left right seen : 
 abbrev pub unlinked : Shape → View → ℕ → ℕ → ℕ → View
 unlinked sh m left right seen = update (field 7 right) (2 + m .started) (update (cell left) (2 * (seen / 2)) m)
 
-module _ (sh : Shape) (m : View) (ch : Chains) (Live : ℕ → Type 0) (I : Lists sh m ch Live) (b left right seen : ℕ) (k : Unlinking sh m ch b left right seen) where
+module _ (sh : Shape) (m : View) (ch : Chains) (Live : ℕ → Type 0) (I : Lists sh m ch Live) (b left right seen : ℕ)
+    (k : Unlinking sh m ch b left right seen) where
   pub edge : Edge sh left right b (ch b)
   edge = edge-of sh (m .cells) (k .spot) (I .runs b (k .inRange)) (omega (arith, k .was)) (λ e. omega (arith, k .isNode))
 
@@ -186,7 +191,8 @@ module _ (sh : Shape) (m : View) (ch : Chains) (Live : ℕ → Type 0) (I : List
       edge (I .runs b l) (head-apart sh b (ch b) l) ds)
       (λ q h l. runs-frame sh (m .cells) _ (ch q) q q (I .runs q l)
       (ap (λ x. x / 2) (upd-other left q (2 * (seen / 2)) (m .cells q) (λ e. spot-not sh q (k .spot) h (head-apart sh q (ch b) l) (sym e))))
-      (λ n i. upd-other left (sh .buckets + n) (2 * (seen / 2)) (m .cells (sh .buckets + n)) (λ e. spot-not sh (sh .buckets + n) (k .spot) (λ r. omega (arith, k .inRange))
+      (λ n i. upd-other left (sh .buckets + n) (2 * (seen / 2)) (m .cells (sh .buckets + n)) (λ e. spot-not sh (sh .buckets + n) (k .spot)
+      (λ r. omega (arith, k .inRange))
       (λ j ij r. h (sym (I .member q n i .at-home) ∙ ap (home sh m) (omega arith) ∙ I .member b j ij .at-home)) (sym e))))
 
   -- a node that is not right keeps its standing
@@ -207,7 +213,8 @@ module _ (sh : Shape) (m : View) (ch : Chains) (Live : ℕ → Type 0) (I : List
   un-retired : (n j : ℕ) → n < sh .nodes → (unlinked sh m left right seen) .standing n ≡ 2 + j
       → ((unlinked sh m left right seen) .cells (sh .buckets + n) % 2 ≡ 1) × (j ≤ m .started)
   un-retired n j =
-      upd-cases (λ n x. n < sh .nodes → x ≡ 2 + j → ((unlinked sh m left right seen) .cells (sh .buckets + n) % 2 ≡ 1) × (j ≤ m .started)) (m .standing) right (2 + m .started)
+      upd-cases (λ n x. n < sh .nodes → x ≡ 2 + j → ((unlinked sh m left right seen) .cells (sh .buckets + n) % 2 ≡ 1) × (j ≤ m .started)) (m .standing) right
+      (2 + m .started)
       (λ l s. (rw (marked-cell (sh .buckets + right) right-marked) right-marked, omega arith))
       (λ n h l s. let x = I .retired n j l s in (rw (marked-cell (sh .buckets + n) (x .0)) (x .0), x .1)) n
 
@@ -229,7 +236,8 @@ module _ (sh : Shape) (m : View) (ch : Chains) (Live : ℕ → Type 0) (I : List
   before-step : (c n j : ℕ) → Live c → n < sh .nodes → (unlinked sh m left right seen) .standing n ≡ 2 + j → c ≤ j
       → (m .cells (sh .buckets + n) % 2 ≡ 1) × ((m .cells (sh .buckets + n) / 2 ≡ sh .nodes) ⊎ Follows sh m ch c n (m .cells (sh .buckets + n) / 2))
   before-step c n j v l s h =
-      upd-cases (λ n x. n < sh .nodes → x ≡ 2 + j → (m .cells (sh .buckets + n) % 2 ≡ 1) × ((m .cells (sh .buckets + n) / 2 ≡ sh .nodes) ⊎ Follows sh m ch c n (m .cells (sh .buckets + n) / 2)))
+      upd-cases (λ n x. n < sh .nodes → x ≡ 2 + j → (m .cells (sh .buckets + n) % 2 ≡ 1) × ((m .cells (sh .buckets + n) / 2 ≡ sh .nodes)
+      ⊎ Follows sh m ch c n (m .cells (sh .buckets + n) / 2)))
       (m .standing) right (2 + m .started)
       (λ l s. (right-marked, safe-next sh m ch Live I c right v l (inl (rw (I .member b right (edge-in sh edge) .at-home) (edge-in sh edge)))))
       (λ n u l s. (I .retired n j l s .0, I .frozen c n j v l s h)) n l s
@@ -241,7 +249,8 @@ module _ (sh : Shape) (m : View) (ch : Chains) (Live : ℕ → Type 0) (I : List
       let x = before-step c n j v l s h in
       rw (marked-cell (sh .buckets + n) (x .0)) (go (m .cells (sh .buckets + n) / 2) (x .1))
     where
-      go : (q : ℕ) → (q ≡ sh .nodes) ⊎ Follows sh m ch c n q → (q ≡ sh .nodes) ⊎ Follows sh (unlinked sh m left right seen) (setChain ch b (removeAt sh edge)) c n q
+      go : (q : ℕ) → (q ≡ sh .nodes) ⊎ Follows sh m ch c n q
+          → (q ≡ sh .nodes) ⊎ Follows sh (unlinked sh m left right seen) (setChain ch b (removeAt sh edge)) c n q
       go q (inl e) = inl e
       go q (inr f) = inr (record { isNode = f .isNode; safe = un-safe c q (I .live c v) (f .safe); at-home = f .at-home; above = f .above })
 

@@ -19,7 +19,8 @@ use Rattle.lists.specs.AllCalls.{Knows}
 use Rattle.lists.specs.Searching.{Left}
 
 module _ (sh : Shape) (v : View) (ch : Chains) (w : Worker) (k : Knows sh v ch w) (x : ℕ) (isNode : x < sh .nodes)
-    (stands-off : (b n : ℕ) → w .stage ≢ 0 → Stands sh v ch (w .ticket) b n → n ≢ x) (private-off : w .stage ≢ 0 → Private sh v ch (w .ticket) (w .own) → w .own ≢ x) where
+    (stands-off : (b n : ℕ) → w .stage ≢ 0 → Stands sh v ch (w .ticket) b n → n ≢ x)
+    (private-off : w .stage ≢ 0 → Private sh v ch (w .ticket) (w .own) → w .own ≢ x) where
   own-off : 1 ≤ w .stage → w .stage ≤ 7 → w .own ≢ x
   own-off a b = go (leb (w .stage) 5) refl (k .kinds)
     where

@@ -21,12 +21,14 @@ use Rattle.lists.specs.LinkInvariant.{Chains, chain-distinct, Lists}
 
 -- ── the walk ──
 module _ (sh : Shape) (s : List ℕ) where
-  walk-runs : (fuel p : ℕ) (ns : List ℕ) → length ns < fuel → Runs sh (view sh s .cells) p ns → ((n : ℕ) → In n ns → n < sh .nodes) → nodesFrom sh s fuel p ≡ some ns
+  walk-runs : (fuel p : ℕ) (ns : List ℕ) → length ns < fuel → Runs sh (view sh s .cells) p ns → ((n : ℕ) → In n ns → n < sh .nodes)
+      → nodesFrom sh s fuel p ≡ some ns
   unfolding nodesFrom
   walk-runs zero p ns l r h = absurd (omega arith)
   walk-runs (suc fuel) p [] l r h = rw (eq-eqb (view sh s .cells p / 2) (sh .nodes) r)
   walk-runs (suc fuel) p (n ∷ ns) l r h =
-      let e : eqb (view sh s .cells p / 2) (sh .nodes) ≡ false = ne-eqb (view sh s .cells p / 2) (sh .nodes) (λ q. omega (arith, r .0, h n (List·Memᴰ·head refl))) in
+      let e : eqb (view sh s .cells p / 2) (sh .nodes)
+      ≡ false = ne-eqb (view sh s .cells p / 2) (sh .nodes) (λ q. omega (arith, r .0, h n (List·Memᴰ·head refl))) in
       rw (e, r .0) (ap (onto n) (walk-runs fuel (sh .buckets + n) ns (omega arith) (r .1) (λ m i. h m (List·Memᴰ·tail i))))
 
   -- A BUCKET'S LIST IS ITS CHAIN
@@ -42,13 +44,27 @@ module _ (sh : Shape) (s : List ℕ) where
       let (e, distance) = parts _ _ e in
       let (e, order) = parts _ _ e in
       let (time, path) = parts _ _ e in
-      λ i. record { time = eqb-true (x .time) (y .time) time i; path = eqb-true (x .path) (y .path) path i; order = eqb-true (x .order) (y .order) order i; distance = eqb-true (x .distance) (y .distance) distance i; ticket = eqb-true (x .ticket) (y .ticket) ticket i }
+      λ i. record {
+        time = eqb-true (x .time) (y .time) time i;
+        path = eqb-true (x .path) (y .path) path i;
+        order = eqb-true (x .order) (y .order) order i;
+        distance = eqb-true (x .distance) (y .distance) distance i;
+        ticket = eqb-true (x .ticket) (y .ticket) ticket i;
+      }
 
   item-same : (x : Item) → sameItem x x ≡ true
-  item-same x = rw (eq-eqb (x .time) (x .time) refl, eq-eqb (x .path) (x .path) refl, eq-eqb (x .order) (x .order) refl, eq-eqb (x .distance) (x .distance) refl, eq-eqb (x .ticket) (x .ticket) refl)
+  item-same x =
+      rw (
+        eq-eqb (x .time) (x .time) refl,
+        eq-eqb (x .path) (x .path) refl,
+        eq-eqb (x .order) (x .order) refl,
+        eq-eqb (x .distance) (x .distance) refl,
+        eq-eqb (x .ticket) (x .ticket) refl,
+      )
 
   -- the test at one node
-  holds-not : (x : Item) (n : ℕ) → (view sh s .cells (sh .buckets + n) % 2 ≡ 0 → itemAt sh s n ≢ x) → (not (isMarked (link sh s n)) && sameItem (itemAt sh s n) x) ≡ false
+  holds-not : (x : Item) (n : ℕ) → (view sh s .cells (sh .buckets + n) % 2 ≡ 0 → itemAt sh s n ≢ x)
+      → (not (isMarked (link sh s n)) && sameItem (itemAt sh s n) x) ≡ false
   holds-not x n h = go (isMarked (link sh s n)) refl (sameItem (itemAt sh s n) x) refl
     where
       clean : isMarked (link sh s n) ≡ false → view sh s .cells (sh .buckets + n) % 2 ≡ 0
@@ -59,7 +75,8 @@ module _ (sh : Shape) (s : List ℕ) where
       go false e false f = refl
       go false e true f = absurd (h (clean e) (same-item (itemAt sh s n) x f))
 
-  holds-is : (x : Item) (n : ℕ) → view sh s .cells (sh .buckets + n) % 2 ≡ 0 → itemAt sh s n ≡ x → (not (isMarked (link sh s n)) && sameItem (itemAt sh s n) x) ≡ true
+  holds-is : (x : Item) (n : ℕ) → view sh s .cells (sh .buckets + n) % 2 ≡ 0 → itemAt sh s n ≡ x
+      → (not (isMarked (link sh s n)) && sameItem (itemAt sh s n) x) ≡ true
   holds-is x n c e = rw (ne-eqb (link sh s n % 2) 1 (λ q. omega arith)) (subst (λ y. sameItem (itemAt sh s n) y ≡ true) e (item-same (itemAt sh s n)))
 
   pub unmarked-none : (x : Item) (ns : List ℕ) → ((n : ℕ) → In n ns → view sh s .cells (sh .buckets + n) % 2 ≡ 0 → itemAt sh s n ≢ x) → unmarkedOf sh s x ns ≡ 0
@@ -67,10 +84,12 @@ module _ (sh : Shape) (s : List ℕ) where
   unmarked-none x [] h = refl
   unmarked-none x (n ∷ ns) h = rw (holds-not x n (h n (List·Memᴰ·head refl)), unmarked-none x ns (λ m i. h m (List·Memᴰ·tail i)))
 
-  pub unmarked-once : (x : Item) (k : ℕ) (ns : List ℕ) → Once ns → In k ns → view sh s .cells (sh .buckets + k) % 2 ≡ 0 → itemAt sh s k ≡ x → ((n : ℕ) → In n ns → n ≢ k → itemAt sh s n ≢ x) → unmarkedOf sh s x ns ≡ 1
+  pub unmarked-once : (x : Item) (k : ℕ) (ns : List ℕ) → Once ns → In k ns → view sh s .cells (sh .buckets + k) % 2 ≡ 0 → itemAt sh s k ≡ x
+      → ((n : ℕ) → In n ns → n ≢ k → itemAt sh s n ≢ x) → unmarkedOf sh s x ns ≡ 1
   unfolding unmarkedOf
   unmarked-once x k (n ∷ ns) d (List·Memᴰ·head e) c q h =
-      let p : (not (isMarked (link sh s n)) && sameItem (itemAt sh s n) x) ≡ true = subst (λ y. (not (isMarked (link sh s y)) && sameItem (itemAt sh s y) x) ≡ true) e (holds-is x k c q) in
+      let p : (not (isMarked (link sh s n)) && sameItem (itemAt sh s n) x)
+      ≡ true = subst (λ y. (not (isMarked (link sh s y)) && sameItem (itemAt sh s y) x) ≡ true) e (holds-is x k c q) in
       rw (p, unmarked-none x ns (λ m i y. h m (List·Memᴰ·tail i) (λ z. d .0 m i (sym e ∙ sym z))))
   unmarked-once x k (n ∷ ns) d (List·Memᴰ·tail i) c q h =
       rw (holds-not x n (λ y. h n (List·Memᴰ·head refl) (d .0 k i)), unmarked-once x k ns (d .1) i c q (λ m j. h m (List·Memᴰ·tail j)))

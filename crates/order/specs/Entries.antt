@@ -100,7 +100,8 @@ module _ {K : Keys} where
   without-comm [] x y = refl
   without-comm (p ∷ S) x y = go (same? p x) (same? p y) (without-comm S x y)
     where
-      go : (d : Dec (p ≡ x)) (e : Dec (p ≡ y)) → without (without S y) x ≡ without (without S x) y → without (keep e p (without S y)) x ≡ without (keep d p (without S x)) y
+      go : (d : Dec (p ≡ x)) (e : Dec (p ≡ y)) → without (without S y) x ≡ without (without S x) y
+          → without (keep e p (without S y)) x ≡ without (keep d p (without S x)) y
       go (yes a) (yes b) ih = ih
       go (yes a) (no m) ih = without-yes p (without S y) x a ∙ ih
       go (no n) (yes b) ih = ih ∙ sym (without-yes p (without S x) y b)

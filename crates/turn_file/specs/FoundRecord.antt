@@ -83,9 +83,11 @@ enough s at known room =
 pub refused-by : (s : List ℕ) (at k : ℕ) → recordAt s at ≡ Refused k → (k ≡ 7) ⊎ (k ≡ 8)
 unfolding recordAt markedAt
 refused-by s at k =
-    go (leb (length s) at) (leb (length s) (at + 1)) (eqb (sizeOf (twoAt s at)) 0) (ltb (length s) (at + sizeOf (twoAt s at))) (fieldsAt s at (twoAt s at)) (at + sizeOf (twoAt s at))
+    go (leb (length s) at) (leb (length s) (at + 1)) (eqb (sizeOf (twoAt s at)) 0) (ltb (length s) (at + sizeOf (twoAt s at))) (fieldsAt s at (twoAt s at))
+    (at + sizeOf (twoAt s at))
   where
-    go : (a b c d : Bool) (r : Record) (next : ℕ) → cond a End (cond b (Refused 8) (cond c (Refused 7) (cond d (Refused 8) (whole r next)))) ≡ Refused k → (k ≡ 7) ⊎ (k ≡ 8)
+    go : (a b c d : Bool) (r : Record) (next : ℕ) → cond a End (cond b (Refused 8) (cond c (Refused 7) (cond d (Refused 8) (whole r next)))) ≡ Refused k
+        → (k ≡ 7) ⊎ (k ≡ 8)
     go true b c d r next e = absurd (let z : _≡_ {A = ℕ} 0 1 = cc in omega arith)
     go false true c d r next e = let j : 8 ≡ k = cc in inr (sym j)
     go false false true d r next e = let j : 7 ≡ k = cc in inl (sym j)

@@ -34,7 +34,8 @@ abbrev pub holding : HeldPool → List ℕ → Bool → List ℕ → List ℕ �
 holding d s ended bytes out = record { pool = record { shape = d .shape; memory = lentTo d s }; bytes = bytes; ended = ended; out = out }
 
 abbrev pub leaves : Round → ℕ → List ℕ → List ℕ → List ℕ → Rounded
-leaves r have input out s = record { pool = record { shape = r .pool .shape; memory = lentTo (r .pool) s }; rest = inHand (r .at) have input; out = out; to = r .to; next = r .next }
+leaves r have input out s =
+    record { pool = record { shape = r .pool .shape; memory = lentTo (r .pool) s }; rest = inHand (r .at) have input; out = out; to = r .to; next = r .next }
 
 -- the places within their buffers; of a cut record fewer bytes are kept than any record has
 pub record Placed (r : Round) (have : ℕ) (out : List ℕ) : Type 0 where
@@ -52,7 +53,8 @@ pub in-hand-length : (at have : ℕ) (input : List ℕ) → at ≤ have → have
 in-hand-length at have input h k = length-take-le (have - at) (drop at input) (omega (arith, length-drop at input))
 
 -- what was kept, and behind it what a read handed over
-pub read-behind : (at have more : ℕ) (input kept read : List ℕ) → at ≤ have → have ≤ length input → kept ≡ moved at (have - at) input → take (have - at) read ≡ take (have - at) kept → have - at ≤ more → more ≤ length read
+pub read-behind : (at have more : ℕ) (input kept read : List ℕ) → at ≤ have → have ≤ length input → kept ≡ moved at (have - at) input
+    → take (have - at) read ≡ take (have - at) kept → have - at ≤ more → more ≤ length read
     → inHand 0 more read ≡ inHand at have input ++ take (more - (have - at)) (drop (have - at) read)
 unfolding moved
 read-behind at have more input kept read h k e f l m =
@@ -71,7 +73,10 @@ empty-by-length (b ∷ l) n e = sym (ne-eqb n 0 (λ z. omega arith))
 
 -- a read handed over nothing where there are as many bytes as were kept
 pub nothing-read : (kept more : ℕ) (read : List ℕ) → kept ≤ more → more ≤ length read → eqb more kept ≡ isEmpty (take (more - kept) (drop kept read))
-nothing-read kept more read l m = sym (empty-by-length (take (more - kept) (drop kept read)) (more - kept) (length-take-le (more - kept) (drop kept read) (omega (arith, length-drop kept read))) ∙ same (eqb more kept) refl)
+nothing-read kept more read l m =
+    sym (empty-by-length (take (more - kept) (drop kept read)) (more - kept) (length-take-le (more - kept) (drop kept read)
+    (omega (arith, length-drop kept read)))
+    ∙ same (eqb more kept) refl)
   where
     same : (b : Bool) → eqb more kept ≡ b → eqb (more - kept) 0 ≡ eqb more kept
     same true e = eq-eqb (more - kept) 0 (omega (arith, eqb-true more kept e)) ∙ sym e
@@ -106,10 +111,12 @@ module _ (d : HeldPool) (s : List ℕ) (ended : Bool) (at have : ℕ) (input out
       now = cc (further-on at (p .at) have input)
 
   out-length : length out′ ≡ length out
-  out-length = ap length holds ∙ written-length lines (p .to) (lastLine next) ∙ within b (begins d s 0 out 0) (ends s′ lines p) worked (omega arith) (omega arith) .lines
+  out-length =
+      ap length holds ∙ written-length lines (p .to) (lastLine next) ∙ within b (begins d s 0 out 0) (ends s′ lines p) worked (omega arith) (omega arith) .lines
 
   at-within : at + p .at ≤ have
-  at-within = let w = within b (begins d s 0 out 0) (ends s′ lines p) worked (omega arith) (omega arith) in omega (arith, w .at, in-hand-length at have input h k)
+  at-within =
+      let w = within b (begins d s 0 out 0) (ends s′ lines p) worked (omega arith) (omega arith) in omega (arith, w .at, in-hand-length at have input h k)
 
   placed : Placed r have out′
   placed =
@@ -118,7 +125,9 @@ module _ (d : HeldPool) (s : List ℕ) (ended : Bool) (at have : ℕ) (input out
       record {
         at = at-within;
         to = rw (holds, written-length lines (p .to) (lastLine next), closed) (a .1);
-        few = λ e. let why : Reason b (ends s′ lines p .progress) (ends s′ lines p .stop) = subst⁻¹ (λ (q : Stopped). Reason b (q .progress) (q .stop)) worked (part-of-file b [] (length b + 1) (begins d s 0 out 0) (omega arith) .reason) in let l = few-kept b ended (ends s′ lines p .progress) (p .stop) why (sym follow ∙ e) in omega (arith, in-hand-length at have input h k);
+        few = λ e. let why : Reason b (ends s′ lines p .progress) (ends s′ lines p .stop) = subst⁻¹ (λ (q : Stopped). Reason b (q .progress) (q .stop)) worked
+            (part-of-file b [] (length b + 1) (begins d s 0 out 0) (omega arith) .reason) in
+            let l = few-kept b ended (ends s′ lines p .progress) (p .stop) why (sym follow ∙ e) in omega (arith, in-hand-length at have input h k);
       }
 
   -- THE CODE'S ROUND

@@ -121,7 +121,8 @@ fn close(next: Next, out: &mut [u8], to: usize) -> usize
 // Moves the bytes from `at` to `have` to the front: how many they are.
 fn keep_rest(input: &mut [u8], at: usize, have: usize) -> usize
     requires { ⌜ (at ≤ have) × (have ≤ length (now input)) ⌝ }
-    ensures { λ r. ⌜ (r ≡ have - at) × (length (now (input .exit)) ≡ length (now (input .entry))) × (now (input .exit) ≡ moved at (have - at) (now (input .entry))) ⌝ }
+    ensures { λ r. ⌜ (r ≡ have - at) × (length (now (input .exit)) ≡ length (now (input .entry)))
+        × (now (input .exit) ≡ moved at (have - at) (now (input .entry))) ⌝ }
 {
     let n = have - at;
     let mut i: usize = 0;

@@ -2,7 +2,8 @@
 -- comes next only if no call that is left had ended before it started, and the sequential queue answers as the pool did. The
 -- order of every linearization is in the list; where the list is empty, there is none. Assumes nothing.
 use mathlib.Core.Path.{_≡_, refl, _∙_, subst}
-use mathlib.Core.List.{List, [], _∷_, _++_, map, List·Memᴰ, List·Memᴰ·head, List·Memᴰ·tail, List·Memᴰ·not-nil, List·Memᴰ·cases-cons, Memᴰ·cast, Memᴰ·map, Memᴰ·append-left, Memᴰ·append-right}
+use mathlib.Core.List.{List, [], _∷_, _++_, map, List·Memᴰ, List·Memᴰ·head, List·Memᴰ·tail, List·Memᴰ·not-nil, List·Memᴰ·cases-cons, Memᴰ·cast, Memᴰ·map}
+use mathlib.Core.List.{Memᴰ·append-left, Memᴰ·append-right}
 use mathlib.Core.Bool.{Bool, true, false, cond, not, _&&_, _||_}
 use mathlib.Core.Option.{Option, none, some}
 use mathlib.Core.Logic.{_⊎_, inl, inr}
@@ -62,7 +63,8 @@ mayEnd L rest = all (λ c. not (isFinished (L .ended c))) rest
 
 -- c comes next, the queue holding S
 abbrev pub mayBeNext : Ledger → Items → List ℕ → ℕ → Bool
-mayBeNext L S rest c = all (λ y. not (endedBefore (L .ended y) c)) (without c rest) && (not (isFinished (L .ended c)) || sameReply (reply S (L .asked c)) (poolReply L c))
+mayBeNext L S rest c =
+    all (λ y. not (endedBefore (L .ended y) c)) (without c rest) && (not (isFinished (L .ended c)) || sameReply (reply S (L .asked c)) (poolReply L c))
 
 abbrev gathered : (ℕ → List (List ℕ)) → List ℕ → List (List ℕ)
 gathered f [] = []
@@ -143,13 +145,16 @@ module _ (L : Ledger) where
   stops rest fin = all-true (λ c. not (isFinished (L .ended c))) rest (λ c i. not-finished c (λ f. List·Memᴰ·not-nil (fin c i f)))
 
   -- what stands first may come next
-  comes-next : (S : Items) (rest : List ℕ) (c : ℕ) (o : List ℕ) → ((d : ℕ) → List·Memᴰ d rest → Finished L d → List·Memᴰ d (c ∷ o)) → RespectsTime L (c ∷ o) → (Finished L c → Same (reply S (L .asked c)) (poolReply L c))
+  comes-next : (S : Items) (rest : List ℕ) (c : ℕ) (o : List ℕ) → ((d : ℕ) → List·Memᴰ d rest → Finished L d → List·Memᴰ d (c ∷ o)) → RespectsTime L (c ∷ o)
+      → (Finished L c → Same (reply S (L .asked c)) (poolReply L c))
       → mayBeNext L S rest c ≡ true
   comes-next S rest c o fin time agree =
-      rw (all-true (λ y. not (endedBefore (L .ended y) c)) (without c rest) (λ y i. let (j, apart) = without-in c y rest i in not-ended y c (λ (s, e, l). time .0 y (mem-behind apart (fin y j (s, e))) (s, e, l))))
+      rw (all-true (λ y. not (endedBefore (L .ended y) c)) (without c rest) (λ y i. let (j, apart) = without-in c y rest i in
+      not-ended y c (λ (s, e, l). time .0 y (mem-behind apart (fin y j (s, e))) (s, e, l))))
       (answered c (reply S (L .asked c)) agree)
 
-  listed : (n : ℕ) (S : Items) (rest o : List ℕ) → length rest ≤ n → ((c : ℕ) → List·Memᴰ c o → List·Memᴰ c rest) → Once o → ((c : ℕ) → List·Memᴰ c rest → Finished L c → List·Memᴰ c o)
+  listed : (n : ℕ) (S : Items) (rest o : List ℕ) → length rest ≤ n → ((c : ℕ) → List·Memᴰ c o → List·Memᴰ c rest) → Once o
+      → ((c : ℕ) → List·Memᴰ c rest → Finished L c → List·Memᴰ c o)
       → RespectsTime L o → Agree L o (replies S (map (L .asked) o)) → List·Memᴰ o (ordersOf L n S rest)
   unfolding ordersOf
   listed zero S rest [] fuel sub one fin time agree = rw (stops rest fin) (List·Memᴰ·head refl)

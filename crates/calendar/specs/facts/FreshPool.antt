@@ -51,7 +51,9 @@ module _ (sh : Shape) (s : List ℕ) where
 
   pub open-link : (n : ℕ) → n < sh .nodes → read sh (openStore sh s) (cell (sh .buckets + n)) ≡ 0
   unfolding address
-  open-link n h = at-place (cell (sh .buckets + n)) (cell-inside sh (sh .buckets + n) (omega arith)) ∙ zero-beyond (3 + (sh .buckets + n) + 7 * (sh .buckets + n - sh .buckets)) (omega arith)
+  open-link n h =
+      at-place (cell (sh .buckets + n)) (cell-inside sh (sh .buckets + n) (omega arith))
+      ∙ zero-beyond (3 + (sh .buckets + n) + 7 * (sh .buckets + n - sh .buckets)) (omega arith)
 
   pub open-field : (f n : ℕ) → f < 8 → n < sh .nodes → read sh (openStore sh s) (field f n) ≡ 0
   unfolding address
@@ -60,7 +62,8 @@ module _ (sh : Shape) (s : List ℕ) where
 pub open-worker : (sh : Shape) (t : List Worker) (i : ℕ) → i < sh .workers → worker (openTable sh t) i ≡ blank
 unfolding openTable
 open-worker sh t i h =
-    List·getD-append (replicate (sh .workers) blank) (drop (sh .workers) t) blank i (rw (length-replicate (sh .workers) blank) h) ∙ getD-replicate (sh .workers) i blank blank h
+    List·getD-append (replicate (sh .workers) blank) (drop (sh .workers) t) blank i (rw (length-replicate (sh .workers) blank) h)
+    ∙ getD-replicate (sh .workers) i blank blank h
 
 -- so every field is in its range
 pub open-store-ranged : (sh : Shape) (s : List ℕ) → Limits sh → StoreRanges sh (view sh (openStore sh s))

@@ -16,13 +16,22 @@ use Rattle.calendar.specs.rules.Starts.{enqueueStart, dequeueStart}
 use Rattle.calendar.specs.facts.Places.{length-write, word-inside, cell-inside, field-inside}
 use Rattle.calendar.specs.facts.Views.{AllInside}
 use Rattle.calendar.specs.facts.RangeFacts.{RecordRanges}
-use Rattle.calendar.specs.facts.Changes.{Found, put-found, take-ends, Settled, at-end, goes-on, Walked, out, out-last, meets, Change, head-read, mark-seen, passed, stopped, unlinked, again-3, prepared, linked, again-5, stored-6, on-7, stored-7, back-6, current-read, first-read, mark-passed, newer, on-11, marked, back-10, advanced, back-12, emptied, back-13}
+use Rattle.calendar.specs.facts.Changes.{Found, put-found, take-ends, Settled, at-end, goes-on, Walked, out, out-last, meets, Change, head-read}
+use Rattle.calendar.specs.facts.Changes.{mark-seen, passed, stopped, unlinked, again-3, prepared, linked, again-5, stored-6, on-7, stored-7, back-6}
+use Rattle.calendar.specs.facts.Changes.{current-read, first-read, mark-passed, newer, on-11, marked, back-10, advanced, back-12, emptied, back-13}
 
 -- ── the starts ──
 pub enqueue-inside : (sh : Shape) (s : List ℕ) (n : ℕ) (a : Arrival) (w : Worker) → n < sh .nodes → AllInside sh (enqueueStart sh s n a w .writes)
 unfolding enqueueStart
-enqueue-inside sh s n a w h =
-    (refl, word-inside sh 1 (lit< tt), (refl, word-inside sh 2 (lit< tt), (refl, at 1 (lit< tt), (refl, at 2 (lit< tt), (refl, at 3 (lit< tt), (refl, at 4 (lit< tt), (refl, at 5 (lit< tt), (refl, at 7 (lit< tt), tt))))))))
+enqueue-inside sh s n a w h = (
+  refl,
+  word-inside sh 1 (lit< tt),
+  (
+    refl,
+    word-inside sh 2 (lit< tt),
+    (refl, at 1 (lit< tt), (refl, at 2 (lit< tt), (refl, at 3 (lit< tt), (refl, at 4 (lit< tt), (refl, at 5 (lit< tt), (refl, at 7 (lit< tt), tt)))))),
+  ),
+)
   where
     at : (f : ℕ) → f < 8 → address sh (field f n) < layout sh
     at f l = field-inside sh f n l h
@@ -61,7 +70,8 @@ module _ (sh : Shape) (s : List ℕ) where
     change-inside (unlinked a b c) = rw (settled-writes c)
         (refl, cell-inside sh (w .left) (r .left), (refl, field-inside sh 7 (w .right) (lit< tt) (right-node (r .searches (omega arith) (omega arith))), tt))
     change-inside (again-3 a b) = tt
-    change-inside (prepared a) = (refl, field-inside sh 6 (w .own) (lit< tt) (r .own), (refl, cell-inside sh (sh .buckets + w .own) (omega (arith, r .own)), tt))
+    change-inside (prepared a) =
+        (refl, field-inside sh 6 (w .own) (lit< tt) (r .own), (refl, cell-inside sh (sh .buckets + w .own) (omega (arith, r .own)), tt))
     change-inside (linked a b) = (refl, cell-inside sh (w .left) (r .left), tt)
     change-inside (again-5 a b) = tt
     change-inside (stored-6 a b) = tt

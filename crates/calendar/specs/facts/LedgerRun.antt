@@ -68,5 +68,8 @@ pub ledger-run :
     × (unmarkedIn two-workers (words half) (0 ∷ []) ≡ 0)
     × (workersWith two-workers (run two-workers start half .table) hasMarked ≡ 1)
     × (workersWith two-workers (run two-workers start (put 1 (arrival 5 3) 3) .table) hasLinked ≡ 1)
-unfolding start half whole item after words two-workers arrival turns put take lent address read write every count blank storeInRange tableInRange isFree firstFreeOf firstFree wordsFrom openStore openTable enqueueStart dequeueStart found settle step-1 step-2 step-3 step-4 step-5 step-6 step-7 walk step-8 step-9 step-10 step-11 step-12 step-13 no-step step openRefusal enqueueRefusal dequeueRefusal stepRefusal open-pool act run ledger nodesFrom unmarkedIn unmarkedOf lower bucketOf energyOf
+unfolding start half whole item after words two-workers arrival turns put take lent address read write every count blank storeInRange tableInRange isFree
+    firstFreeOf firstFree wordsFrom openStore openTable enqueueStart dequeueStart found settle step-1 step-2 step-3 step-4 step-5 step-6 step-7 walk step-8
+    step-9 step-10 step-11 step-12 step-13 no-step step openRefusal enqueueRefusal dequeueRefusal stepRefusal open-pool act run ledger nodesFrom unmarkedIn
+    unmarkedOf lower bucketOf energyOf
 ledger-run = (refl, refl, refl, refl, refl, refl, refl, refl, refl, refl, refl, refl, refl, refl, refl, refl, refl, refl, refl, refl, refl, refl)

@@ -10,7 +10,8 @@ use Rattle.arrival.specs.declared.Shape.{Shape}
 use Rattle.arrival.specs.declared.Worker.{Worker}
 use Rattle.laws.specs.Tests.{parts, never, both, either, or-left, or-right, inside, within, isnt, is-not}
 use Rattle.laws.specs.Counting.{every-at, every-all}
-use Rattle.calendar.specs.rules.Layout.{current, started, lastNode, head, link, timeAt, ticketAt, pathAt, orderAt, distanceAt, epochAt, standing, bucketIn}
+use Rattle.calendar.specs.rules.Layout.{current, started, lastNode, head, link, timeAt, ticketAt, pathAt, orderAt, distanceAt, epochAt, standing}
+use Rattle.calendar.specs.rules.Layout.{bucketIn}
 use Rattle.calendar.specs.rules.Ranges.{shapeInRange, headInRange, nodeInRange, storeInRange, recordInRange, tableInRange, worker, implies, between}
 use Rattle.calendar.specs.facts.Views.{View, view}
 
@@ -219,7 +220,8 @@ record-tests sh w r =
     (implied (eqb (w .stage) 12) (not (eqb (w .bucket) (sh .buckets - 1))) (λ e. is-not (w .bucket) (sh .buckets - 1) (r .further (eqb-true (w .stage) 12 e)))))
     (lt-ltb (w .left) (sh .buckets + sh .nodes) (r .left)))
     (le-leb (w .right) (sh .nodes) (r .right)))
-    (implied (between 2 3 (w .stage) || between 10 11 (w .stage)) (not (eqb (w .right) (sh .nodes))) (λ e. is-not (w .right) (sh .nodes) (stands (either _ _ e)))))
+    (implied (between 2 3 (w .stage) || between 10 11 (w .stage)) (not (eqb (w .right) (sh .nodes))) (λ e. is-not (w .right) (sh .nodes)
+    (stands (either _ _ e)))))
     (le-leb (w .seen / 2) (sh .nodes) (r .seen)))
     (lt-ltb (bucketIn (w .current)) (sh .buckets) (r .current)))
     (lt-ltb (w .ticket) 4294967296 (r .ticket)))

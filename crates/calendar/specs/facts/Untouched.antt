@@ -36,7 +36,8 @@ use Rattle.calendar.specs.facts.Inside.{enqueue-inside, dequeue-inside, 
 refused : (k n : ℕ) (m : Memory) (r : Result) → (k ≡ 0 → said (r .response) .number ≡ 0) → unless k m r .response ≡ Refused (suc n) → unless k m r .memory ≡ m
 refused k n m r ok e = go (eqb k 0) refl e
   where
-    go : (t : Bool) → eqb k 0 ≡ t → cond t r (record { memory = m; response = Refused k }) .response ≡ Refused (suc n) → cond t r (record { memory = m; response = Refused k }) .memory ≡ m
+    go : (t : Bool) → eqb k 0 ≡ t → cond t r (record { memory = m; response = Refused k }) .response ≡ Refused (suc n)
+        → cond t r (record { memory = m; response = Refused k }) .memory ≡ m
     go true q e = absurd (omega (arith, ok (eqb-true k 0 q), ap (λ (x : Response). said x .number) e))
     go false q e = refl
 
@@ -54,7 +55,9 @@ act-refused-untouched sh m a n e = refused (refusal sh m a) n m (perform sh m (a
 
 pub open-refused-untouched : (sh : Shape) (m : Memory) (n : ℕ) → open-pool sh m .response ≡ Refused (suc n) → open-pool sh m .memory ≡ m
 unfolding open-pool
-open-refused-untouched sh m n e = refused (openRefusal sh (m .store) (m .table)) n m (record { memory = record { store = openStore sh (m .store); table = openTable sh (m .table) }; response = Opened }) (λ q. refl) e
+open-refused-untouched sh m n e =
+    refused (openRefusal sh (m .store) (m .table)) n m
+    (record { memory = record { store = openStore sh (m .store); table = openTable sh (m .table) }; response = Opened }) (λ q. refl) e
 
 -- ── lengths, and what lies beyond ──
 pub record SameSize (m m′ : Memory) : Type 0 where
@@ -87,13 +90,17 @@ perform-beyond sh m i o l h = record { store = writeAll-beyond sh (m .store) (o 
 pub act-same-size : (sh : Shape) (m : Memory) (a : Action) → SameSize m (act sh m a .memory)
 unfolding act
 act-same-size sh m a =
-    by-refusal (SameSize m) (refusal sh m a) m (perform sh m (actor a) (outcome sh m a)) (record { store = refl; table = refl }) (λ e. perform-size sh m (actor a) (outcome sh m a))
+    by-refusal (SameSize m) (refusal sh m a) m (perform sh m (actor a) (outcome sh m a)) (record { store = refl; table = refl })
+    (λ e. perform-size sh m (actor a) (outcome sh m a))
 
 -- an accepted action acts for a worker of the shape, and writes inside the layout
 pub outcome-inside : (sh : Shape) (m : Memory) (a : Action) → refusal sh m a ≡ 0 → (actor a < sh .workers) × AllInside sh (outcome sh m a .writes)
 outcome-inside sh m (Enqueue i a) e =
-    let A = enqueue-accepted sh (m .store) (m .table) i a e in
-    (A .usable .exists, enqueue-inside sh (m .store) (firstFree sh (m .store) (m .table)) a (worker (m .table) i) (first-free-node sh (m .store) (m .table) (A .usable .store .last) (A .node)))
+    let A = enqueue-accepted sh (m .store) (m .table) i a e in (
+      A .usable .exists,
+      enqueue-inside sh (m .store) (firstFree sh (m .store) (m .table)) a (worker (m .table) i)
+          (first-free-node sh (m .store) (m .table) (A .usable .store .last) (A .node)),
+    )
 outcome-inside sh m (Dequeue i) e = (dequeue-accepted sh (m .store) (m .table) i e .usable .exists, dequeue-inside sh (m .store) (worker (m .table) i))
 outcome-inside sh m (Step i) e =
     let A = step-accepted sh (m .store) (m .table) i e in
@@ -120,8 +127,10 @@ open-same-size sh m =
     by-refusal (SameSize m) (openRefusal sh (m .store) (m .table)) m _ (record { store = refl; table = refl })
     (λ e. let A = open-accepted sh (m .store) (m .table) e in
     record {
-      store = length-append (wordsFrom (openWord sh) 0 (layout sh)) (drop (layout sh) (m .store)) ∙ omega (arith, length-words (openWord sh) 0 (layout sh), length-drop (layout sh) (m .store), A .store);
-      table = length-append (replicate (sh .workers) blank) (drop (sh .workers) (m .table)) ∙ omega (arith, length-replicate (sh .workers) blank, length-drop (sh .workers) (m .table), A .table);
+      store = length-append (wordsFrom (openWord sh) 0 (layout sh)) (drop (layout sh) (m .store))
+          ∙ omega (arith, length-words (openWord sh) 0 (layout sh), length-drop (layout sh) (m .store), A .store);
+      table = length-append (replicate (sh .workers) blank) (drop (sh .workers) (m .table))
+          ∙ omega (arith, length-replicate (sh .workers) blank, length-drop (sh .workers) (m .table), A .table);
     })
 
 pub open-same-beyond : (sh : Shape) (m : Memory) → SameBeyond sh m (open-pool sh m .memory)

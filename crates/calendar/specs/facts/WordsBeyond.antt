@@ -120,8 +120,37 @@ module _ (sh : Shape) (s v : List ℕ) (long : layout sh ≤ length s) where
     -- the shared word of a record in range lies in the layout
     shared-inside : (w : Worker) → RecordRanges sh w → address sh (sharedWord sh w) < layout sh
     shared-inside w r =
-        each-of (λ k p. w .stage ≡ k → address sh p < layout sh) (sharedWords sh w) current-word
-        (λ q. current, (λ q. bucket, (λ q. searched q, (λ q. left, (λ q. current, (λ q. left, (λ q. current, (λ q. current, (λ q. current, (λ q. bucket, (λ q. walked (omega arith) (omega arith), (λ q. walked (omega arith) (omega arith), (λ q. current, (λ q. current, tt))))))))))))))
+        each-of (λ k p. w .stage ≡ k → address sh p < layout sh) (sharedWords sh w) current-word (
+          λ q. current,
+          (
+            λ q. bucket,
+            (
+              λ q. searched q,
+              (
+                λ q. left,
+                (
+                  λ q. current,
+                  (
+                    λ q. left,
+                    (
+                      λ q. current,
+                      (
+                        λ q. current,
+                        (
+                          λ q. current,
+                          (
+                            λ q. bucket,
+                            (λ q. walked (omega arith) (omega arith), (λ q. walked (omega arith) (omega arith), (λ q. current, (λ q. current, tt)))),
+                          ),
+                        ),
+                      ),
+                    ),
+                  ),
+                ),
+              ),
+            ),
+          ),
+        )
         (w .stage) (omega (arith, r .stage)) refl
       where
         current : address sh current-word < layout sh
@@ -149,7 +178,8 @@ module _ (sh : Shape) (s v : List ℕ) (long : layout sh ≤ length s) where
       epoch = λ q. same-field 6 (w .right) (lit< tt) (omega (arith, r .right, r .walks (omega arith) (omega arith)));
     }
 
-    outcome-same : (a : Action) → refusal sh (record { store = s; table = t }) a ≡ 0 → outcome sh (longer (record { store = s; table = t }) v) a ≡ outcome sh (record { store = s; table = t }) a
+    outcome-same : (a : Action) → refusal sh (record { store = s; table = t }) a ≡ 0
+        → outcome sh (longer (record { store = s; table = t }) v) a ≡ outcome sh (record { store = s; table = t }) a
     unfolding enqueueStart dequeueStart
     outcome-same (Enqueue i x) e = rw (first-same, same-word 1 (lit< tt))
     outcome-same (Dequeue i) e = rw (same-word 1 (lit< tt))
@@ -170,8 +200,12 @@ module _ (sh : Shape) (s v : List ℕ) (long : layout sh ≤ length s) where
   act-same t a = rw (refusal-same t a) (go (eqb (refusal sh (m t) a) 0) refl)
     where
       go : (b : Bool) → eqb (refusal sh (record { store = s; table = t }) a) 0 ≡ b
-          → cond b (perform sh (longer (record { store = s; table = t }) v) (actor a) (outcome sh (longer (record { store = s; table = t }) v) a)) (record { memory = longer (record { store = s; table = t }) v; response = Refused (refusal sh (record { store = s; table = t }) a) })
-          ≡ keeping (cond b (perform sh (record { store = s; table = t }) (actor a) (outcome sh (record { store = s; table = t }) a)) (record { memory = record { store = s; table = t }; response = Refused (refusal sh (record { store = s; table = t }) a) })) v
+          → cond b (perform sh (longer (record { store = s; table = t }) v) (actor a) (outcome sh (longer (record { store = s; table = t }) v) a)) (record {
+            memory = longer (record { store = s; table = t }) v;
+            response = Refused (refusal sh (record { store = s; table = t }) a);
+          })
+          ≡ keeping (cond b (perform sh (record { store = s; table = t }) (actor a) (outcome sh (record { store = s; table = t }) a))
+          (record { memory = record { store = s; table = t }; response = Refused (refusal sh (record { store = s; table = t }) a) })) v
       go true e =
           let z = eqb-true (refusal sh (m t) a) 0 e in
           let o = outcome sh (m t) a in
@@ -185,11 +219,18 @@ module _ (sh : Shape) (s v : List ℕ) (long : layout sh ≤ length s) where
   open-same t = rw long-enough (go (eqb (openRefusal sh s t) 0))
     where
       go : (b : Bool)
-          → cond b (record { memory = record { store = wordsFrom (openWord sh) 0 (layout sh) ++ drop (layout sh) (s ++ v); table = openTable sh t }; response = Opened }) (record { memory = record { store = s ++ v; table = t }; response = Refused (openRefusal sh s t) })
-          ≡ keeping (cond b (record { memory = record { store = wordsFrom (openWord sh) 0 (layout sh) ++ drop (layout sh) s; table = openTable sh t }; response = Opened }) (record { memory = record { store = s; table = t }; response = Refused (openRefusal sh s t) })) v
+          → cond b (record {
+            memory = record { store = wordsFrom (openWord sh) 0 (layout sh) ++ drop (layout sh) (s ++ v); table = openTable sh t };
+            response = Opened;
+          }) (record { memory = record { store = s ++ v; table = t }; response = Refused (openRefusal sh s t) })
+          ≡ keeping (cond b (record {
+            memory = record { store = wordsFrom (openWord sh) 0 (layout sh) ++ drop (layout sh) s; table = openTable sh t };
+            response = Opened;
+          }) (record { memory = record { store = s; table = t }; response = Refused (openRefusal sh s t) })) v
       go true =
           ap (λ (x : List ℕ). record { memory = record { store = x; table = openTable sh t }; response = Opened })
-          (ap (λ (y : List ℕ). wordsFrom (openWord sh) 0 (layout sh) ++ y) (drop-append-le (layout sh) s v long) ∙ sym (append-assoc (wordsFrom (openWord sh) 0 (layout sh)) (drop (layout sh) s) v))
+          (ap (λ (y : List ℕ). wordsFrom (openWord sh) 0 (layout sh) ++ y) (drop-append-le (layout sh) s v long)
+          ∙ sym (append-assoc (wordsFrom (openWord sh) 0 (layout sh)) (drop (layout sh) s) v))
       go false = refl
 
 -- ── along a history ──

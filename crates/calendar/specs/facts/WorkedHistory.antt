@@ -52,10 +52,14 @@ pub answers :
     × (seen .ended 3 ≡ some 3)
     × (seen .ended 4 ≡ some 4)
     × (seen .ended 5 ≡ some 5)
-unfolding one-bucket history start seen arrival turns put take lent address read write every blank storeInRange tableInRange isFree firstFreeOf firstFree wordsFrom openStore openTable enqueueStart dequeueStart found settle step-1 step-2 step-3 step-4 step-5 step-6 step-7 walk step-8 step-9 step-10 step-11 step-12 step-13 no-step step openRefusal enqueueRefusal dequeueRefusal stepRefusal open-pool act run ledger lower bucketOf energyOf
+unfolding one-bucket history start seen arrival turns put take lent address read write every blank storeInRange tableInRange isFree firstFreeOf firstFree
+    wordsFrom openStore openTable enqueueStart dequeueStart found settle step-1 step-2 step-3 step-4 step-5 step-6 step-7 walk step-8 step-9 step-10 step-11
+    step-12 step-13 no-step step openRefusal enqueueRefusal dequeueRefusal stepRefusal open-pool act run ledger lower bucketOf energyOf
 answers = (refl, refl, refl, refl, refl, refl, refl, refl, refl, refl, refl)
 
 -- THE ORDER IS FORCED
 pub order-forced : (X : Linearization seen) → X .order ≡ 1 ∷ 2 ∷ 3 ∷ 4 ∷ 5 ∷ []
-unfolding one-bucket history start seen arrival turns put take lent address read write every blank storeInRange tableInRange isFree firstFreeOf firstFree wordsFrom openStore openTable enqueueStart dequeueStart found settle step-1 step-2 step-3 step-4 step-5 step-6 step-7 walk step-8 step-9 step-10 step-11 step-12 step-13 no-step step openRefusal enqueueRefusal dequeueRefusal stepRefusal open-pool act run ledger lower bucketOf energyOf ordersOf below
+unfolding one-bucket history start seen arrival turns put take lent address read write every blank storeInRange tableInRange isFree firstFreeOf firstFree
+    wordsFrom openStore openTable enqueueStart dequeueStart found settle step-1 step-2 step-3 step-4 step-5 step-6 step-7 walk step-8 step-9 step-10 step-11
+    step-12 step-13 no-step step openRefusal enqueueRefusal dequeueRefusal stepRefusal open-pool act run ledger lower bucketOf energyOf ordersOf below
 order-forced = forced seen _ refl

@@ -47,18 +47,45 @@ at k v f n = cond (eqb k n) v (f n)
 abbrev pub begins : ℕ → queue.Call → Ledger → Ledger
 begins i call L =
     let c = L .started + 1 in
-    record { started = c; asked = at c call (L .asked); callOf = at i c (L .callOf); ended = L .ended; response = L .response; marked = L .marked; stored = L .stored; took = L .took }
+    record {
+      started = c;
+      asked = at c call (L .asked);
+      callOf = at i c (L .callOf);
+      ended = L .ended;
+      response = L .response;
+      marked = L .marked;
+      stored = L .stored;
+      took = L .took;
+    }
 
 -- worker i's call is answered r; it is one more stored, or one more taken
 abbrev pub ends : ℕ → Response → ℕ → ℕ → Ledger → Ledger
 ends i r more-stored more-taken L =
     let c = L .callOf i in
-    record { started = L .started; asked = L .asked; callOf = L .callOf; ended = at c (some (L .started)) (L .ended); response = at c r (L .response); marked = L .marked; stored = more-stored + L .stored; took = more-taken + L .took }
+    record {
+      started = L .started;
+      asked = L .asked;
+      callOf = L .callOf;
+      ended = at c (some (L .started)) (L .ended);
+      response = at c r (L .response);
+      marked = L .marked;
+      stored = more-stored + L .stored;
+      took = more-taken + L .took;
+    }
 
 -- worker i's take marks an item
 abbrev pub marks : ℕ → Item → Ledger → Ledger
 marks i x L =
-    record { started = L .started; asked = L .asked; callOf = L .callOf; ended = L .ended; response = L .response; marked = at (L .callOf i) (some x) (L .marked); stored = L .stored; took = L .took }
+    record {
+      started = L .started;
+      asked = L .asked;
+      callOf = L .callOf;
+      ended = L .ended;
+      response = L .response;
+      marked = at (L .callOf i) (some x) (L .marked);
+      stored = L .stored;
+      took = L .took;
+    }
 
 -- A turn answers a call by stored, empty or an arrival; any other response leaves it in progress.
 abbrev pub hears : ℕ → Response → Ledger → Ledger

@@ -63,7 +63,8 @@ pub record Linearization (L : Ledger) : Type 0 where
 -- ── items and nodes ──
 -- the take d is in progress at some worker and holds x
 abbrev pub HeldBy : Shape → Memory → Ledger → ℕ → Item → Type 0
-HeldBy sh m L d x = (i : ℕ) × (i < sh .workers) × (L .callOf i ≡ d) × (hasMarked (worker (m .table) i) ≡ true) × (itemAt sh (m .store) (worker (m .table) i .own) ≡ x)
+HeldBy sh m L d x =
+    (i : ℕ) × (i < sh .workers) × (L .callOf i ≡ d) × (hasMarked (worker (m .table) i) ≡ true) × (itemAt sh (m .store) (worker (m .table) i .own) ≡ x)
 
 abbrev pub AnsweredBy : Ledger → ℕ → Item → Type 0
 AnsweredBy L d x = Finished L d × (L .response d ≡ taken x)
@@ -94,4 +95,6 @@ pub record Correct (sh : Shape) (m : Memory) (L : Ledger) : Type 0 where
 
 -- DEMAND 3: after any opening that is not refused, any history of starts and turns, refused ones included.
 unfoldable pub Demand3 : Type 0
-Demand3 = (sh : Shape) (m : Memory) → open-pool sh m .response ≡ Opened → (h : List Action) → Correct sh (run sh (open-pool sh m .memory) h) (ledger sh (open-pool sh m .memory) h new)
+Demand3 =
+    (sh : Shape) (m : Memory) → open-pool sh m .response ≡ Opened → (h : List Action)
+    → Correct sh (run sh (open-pool sh m .memory) h) (ledger sh (open-pool sh m .memory) h new)

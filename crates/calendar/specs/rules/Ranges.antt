@@ -7,7 +7,8 @@ use lib.ListN.{getD}
 use Rattle.arrival.specs.declared.Shape.{Shape}
 use Rattle.arrival.specs.declared.Worker.{Worker}
 use Rattle.laws.specs.Counting.{every}
-use Rattle.calendar.specs.rules.Layout.{current, started, lastNode, head, link, timeAt, ticketAt, pathAt, orderAt, distanceAt, epochAt, standing, successor, bucketIn}
+use Rattle.calendar.specs.rules.Layout.{current, started, lastNode, head, link, timeAt, ticketAt, pathAt, orderAt, distanceAt, epochAt, standing}
+use Rattle.calendar.specs.rules.Layout.{successor, bucketIn}
 
 -- workers 1 to 64, nodes 1 to 4,096, buckets 1 to 256, width 1 to 65,535
 abbrev pub shapeInRange : Shape → Bool
