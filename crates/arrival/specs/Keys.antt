@@ -1,5 +1,12 @@
 -- The order of keys and the bucket of a time, with their laws: what all proofs use. Outside this file only the functions
--- that compute them and runs that are computed open either. Assumes nothing.
+-- that compute them and runs that are computed open either.
+--     lower                                 the order of keys: by time, then ticket
+--     SameKey, lower-by-key                 one key; the order looks at nothing else
+--     bucketOf, itemBucket, item-bucket     the bucket of a time, and of an item
+--     lower-irr, lower-trans                the order is strict
+--     lower-weak, lower-total               weak, and total on different tickets
+--     bucket-mono, bucket-below             a lower key lies in no higher bucket; an allowed time lies in one of the buckets
+-- Assumes nothing.
 use mathlib.Core.Path.{_≡_, refl, sym, _∙_}
 use mathlib.Core.Bool.{Bool, true, false, _&&_, _||_}
 use mathlib.Core.Logic.{_≢_, _⊎_, inl, inr}

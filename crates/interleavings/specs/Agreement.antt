@@ -1,4 +1,10 @@
--- The proof's own account of a history and the onlooker's ledger agree, start by start and turn by turn. Assumes nothing.
+-- The proof's own account of a history and the onlooker's ledger agree, start by start and turn by turn.
+--     itemAsked, endedAt, Same, MarkOf            what the two accounts say of a call
+--     Agrees                                      they agree
+--     agrees-start                                past a start
+--     after, same-mark, agrees-on, agrees-end     past a turn: in general; that ends nothing; that ends its call
+--     agrees-step                                 past every turn
+-- Assumes nothing.
 use mathlib.Core.Path.{_≡_, refl, sym, ap, _∙_, subst, subst⁻¹}
 use mathlib.Core.Bool.{Bool, true, false, cond, _&&_}
 use mathlib.Core.Logic.{_≢_, _⊎_, inl, inr}
@@ -62,8 +68,8 @@ Agrees sh wd v T g L = record {
   said : (c s : ℕ) → g .hist .end c ≡ ended s → Same sh wd (g .said c) (L .response c) (L .marked c);
   calls : (j : ℕ) → j < sh .workers → (T j) .stage ≢ 0 → L .callOf j ≡ (T j) .ticket;
   marks : (j : ℕ) → j < sh .workers → (T j) .stage ≢ 0 → MarkOf v (T j) (L .marked ((T j) .ticket));
-  status : (d : ℕ) (x : Item) → L .marked d ≡ some x → ((j : ℕ) × (j < sh .workers) × ((T j) .stage ≢ 0) × ((T j) .ticket ≡ d))
-      ⊎ ((s : ℕ) × (g .hist .end d ≡ ended s));
+  status : (d : ℕ) (x : Item) → L .marked d ≡ some x
+      → ((j : ℕ) × (j < sh .workers) × ((T j) .stage ≢ 0) × ((T j) .ticket ≡ d)) ⊎ ((s : ℕ) × (g .hist .end d ≡ ended s));
   fresh : (c : ℕ) → v .started < c → L .marked c ≡ none;
 }
 
@@ -152,8 +158,8 @@ module _ (sh : Shape) (wd : 1 ≤ sh .width) (v : View) (T : ℕ → Worker) (g 
       fresh = λ c h. other c (λ q. omega (arith, start)) ∙ A .fresh c (omega (arith, start));
     }
       where
-        still-there : (d : ℕ) → d ≢ (T i) .ticket → ((j : ℕ) × (j < sh .workers) × ((T j) .stage ≢ 0) × ((T j) .ticket ≡ d))
-            ⊎ ((t : ℕ) × (g .hist .end d ≡ ended t))
+        still-there : (d : ℕ) → d ≢ (T i) .ticket
+            → ((j : ℕ) × (j < sh .workers) × ((T j) .stage ≢ 0) × ((T j) .ticket ≡ d)) ⊎ ((t : ℕ) × (g .hist .end d ≡ ended t))
             → ((j : ℕ) × (j < sh .workers) × ((with-record T i (o .worker) j) .stage ≢ 0) × ((with-record T i (o .worker) j) .ticket ≡ d))
             ⊎ ((t : ℕ) × (g′ .hist .end d ≡ ended t))
         still-there d u (inr (t, e)) = inr (t, kept d t e)
@@ -275,8 +281,8 @@ agrees-step sh wd m g L A i l busy small apart runs kind puts takes o E g′ z t
 
     -- the same role: by the response
     by-response : SameRole (worker (m .table) i) (o .worker) → (r : Response) → o .response ≡ r → Answered (worker (m .table) i) r
-        → Tells sh wd g g′ (updates (o .writes) (view sh (m .store)) .started) (worker (m .table) i .ticket) (itemIn (updates (o .writes) (view sh (m .store)))
-        (worker (m .table) i .own)) r
+        → Tells sh wd g g′ (updates (o .writes) (view sh (m .store)) .started) (worker (m .table) i .ticket)
+        (itemIn (updates (o .writes) (view sh (m .store))) (worker (m .table) i .own)) r
         → Agrees sh wd (updates (o .writes) (view sh (m .store))) (with-record (worker (m .table)) i (o .worker)) g′ (hears i r L)
     by-response same Opened e a t = absurd a
     by-response same (Begun k) e a t = absurd a
@@ -296,10 +302,10 @@ agrees-step sh wd m g L A i l busy small apart runs kind puts takes o E g′ z t
 
     -- a mark: the call goes on
     by-mark : Marks sh (m .store) (worker (m .table) i) (o .worker) → (r : Response) → o .response ≡ r → Answered (worker (m .table) i) r
-        → Tells sh wd g g′ (updates (o .writes) (view sh (m .store)) .started) (worker (m .table) i .ticket) (itemIn (updates (o .writes) (view sh (m .store)))
-        (worker (m .table) i .own)) r
-        → Agrees sh wd (updates (o .writes) (view sh (m .store))) (with-record (worker (m .table)) i (o .worker)) g′ (hears i r
-        (marks i (itemAt sh (m .store) (worker (m .table) i .right)) L))
+        → Tells sh wd g g′ (updates (o .writes) (view sh (m .store)) .started) (worker (m .table) i .ticket)
+        (itemIn (updates (o .writes) (view sh (m .store))) (worker (m .table) i .own)) r
+        → Agrees sh wd (updates (o .writes) (view sh (m .store))) (with-record (worker (m .table)) i (o .worker)) g′
+        (hears i r (marks i (itemAt sh (m .store) (worker (m .table) i .right)) L))
     by-mark K Opened e a t = absurd a
     by-mark K (Begun k) e a t = absurd a
     by-mark K On e a t =

@@ -1,4 +1,7 @@
--- Along every history from an opening the joint invariant holds and agrees with the ledger. Assumes nothing.
+-- Along every history from an opening the joint invariant holds and agrees with the ledger.
+--     Followed     the joint invariant, and that it agrees with the ledger
+--     followed     after every history from an opening
+-- Assumes nothing.
 use mathlib.Core.Path.{_≡_, refl, sym, ap, subst, subst⁻¹}
 use mathlib.Core.Option.{none, some}
 use mathlib.Core.List.{List, [], _∷_}

@@ -1,4 +1,10 @@
--- The calls that end: a take's search, an enqueue stored, an empty dequeue. And an update of current. Assumes nothing.
+-- The calls that end: a take's search, an enqueue stored, an empty dequeue. And an update of current.
+--     current-moved                   current is written
+--     search-ended                    a take's search ends
+--     stored-marked, stored-clean     a put is stored: its arrival is taken already; it is not
+--     out-of                          past a walk to the end of the bucket nothing is left there
+--     emptied                         a take is answered empty
+-- Assumes nothing.
 use mathlib.Core.Path.{_≡_, refl, sym, ap, _∙_, subst}
 use mathlib.Core.Logic.{_≢_, _⊎_, inl, inr}
 use mathlib.Core.Option.{none, some, Option·none-ne-some, Option·some-injective}

@@ -1,5 +1,9 @@
 -- What a turn does to what an onlooker sees: items and tickets stay, a call goes on or ends, a take comes to hold an item only
--- at 11. One match over the changes. Assumes nothing.
+-- at 11. One match over the changes.
+--     SameRole, Marks     a record that keeps its role; a take that has marked
+--     Answered            by which stage and kind a call is answered
+--     Effect, effect      what a turn does, and that every turn does
+-- Assumes nothing.
 use mathlib.Core.Path.{_≡_, refl, sym, _∙_, subst}
 use mathlib.Core.Bool.{true, false}
 use mathlib.Core.Logic.{_≢_, _⊎_, inl, inr}

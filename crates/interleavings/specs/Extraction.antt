@@ -1,4 +1,8 @@
--- From the joint invariant to the linearization: the order's calls without its scans. Assumes nothing.
+-- From the joint invariant to the linearization: the order's calls without its scans.
+--     one-entry, asked-put, end-known     of entries, calls and ends
+--     tickets                             the calls of an order
+--     linearized                          they are a linearization
+-- Assumes nothing.
 use mathlib.Core.Path.{_≡_, refl, sym, _∙_, ap, subst}
 use mathlib.Core.Bool.{Bool, true, false}
 use mathlib.Core.Logic.{_⊎_, inl, inr}
@@ -164,8 +168,8 @@ module _ (sh : Shape) (wd : 1 ≤ sh .width) where
         real-time = real-time v T g M A (g .order) (O .orderly .timely);
         agrees =
             subst (λ rs. Agree M (tickets (g .order)) rs) (sym (plain sh wd [] (g .order) apart (O .orderly .legal))
-            ∙ ap (queue.replies []) (sym (asked-are v T g M A (g .order) (O .entries)))) (agree v T g M A (g .order) (O .distinct) (O .finished) (g .order)
-            (λ e k. k));
+            ∙ ap (queue.replies []) (sym (asked-are v T g M A (g .order) (O .entries))))
+            (agree v T g M A (g .order) (O .distinct) (O .finished) (g .order) (λ e k. k));
       }
     where
       log : (x : Element (keys sh wd)) → Mem (enqueue x) (F .ghost .order) → F .ghost .what (ticket x) ≡ some (x .it)

@@ -1,4 +1,12 @@
--- The joint invariant of the pool and its order, and what carries it past a change. Assumes nothing.
+-- The joint invariant of the pool and its order, and what carries it past a change.
+--     Ghost, Absent, Rises, Logged             the proof's own account; no entry of a call; current has risen; what an entry puts
+--     Marked, Clean                            the mark on a node
+--     Part, Holder                             what the order says of a call; a take holds an element
+--     walks, Whole, Ord, Joint                 the order's share, and the joint invariant
+--     Leaves, part-left                        what a change leaves to another worker's call
+--     orderly-shift                            the order past a change of the store
+--     parts-close, scans-close, held-close     all from the others and the new record
+-- Assumes nothing.
 use mathlib.Core.Path.{_≡_, refl, sym, _∙_, subst}
 use mathlib.Core.Logic.{_≢_, _⊎_, inl, inr}
 use mathlib.Core.Option.{Option, none, some}
@@ -110,8 +118,8 @@ module _ (sh : Shape) (wd : 0 < sh .width) where
     absent : ((1 ≤ w .stage) × (w .stage ≤ 5) × (w .kind ≡ 0)) ⊎ (8 ≤ w .stage) → Absent (w .ticket) (g .order) → Absent (w .ticket) (g′ .order);
     own : ((1 ≤ w .stage) × (w .stage ≤ 3) × (w .kind ≡ 1)) ⊎ ((6 ≤ w .stage) × (w .stage ≤ 7)) → itemIn m′ (w .own) ≡ itemIn m (w .own);
     mark : 6 ≤ w .stage → w .stage ≤ 7 → Marked m′ (w .own) → Marked m (w .own) ⊎ Mem (enqueue (arr sh wd m (w .own))) (g′ .order);
-    epoch : w .stage ≡ 5 → (c s : ℕ) → g′ .hist .end c ≡ ended s → s < w .ticket → (g .hist .end c ≡ ended s) × (g′ .hist .late c ≡ g .hist .late c)
-        × (m′ .epoch (w .own) ≡ m .epoch (w .own));
+    epoch : w .stage ≡ 5 → (c s : ℕ) → g′ .hist .end c ≡ ended s → s < w .ticket
+        → (g .hist .end c ≡ ended s) × (g′ .hist .late c ≡ g .hist .late c) × (m′ .epoch (w .own) ≡ m .epoch (w .own));
     scan : 9 ≤ w .stage → Mem (scan v) (g .order) → Mem (scan v) (g′ .order);
     rise : 9 ≤ w .stage → Rises (w .current) (m .current) → Rises (w .current) (m′ .current);
   }

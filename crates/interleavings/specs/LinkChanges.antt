@@ -1,4 +1,9 @@
--- Changes of the links with the table as it is: 5, 3 and 4. Assumes nothing.
+-- Changes of the links with the table as it is: 5, 3 and 4.
+--     orderly-store                        the order where only the store changes
+--     link-view, link-chain, linked-in     5: a node is linked in
+--     out-view, out-chain, taken-out       3: one is taken out
+--     own-view, own-written                4: own node is prepared
+-- Assumes nothing.
 use mathlib.Core.Path.{_≡_, refl, sym, ap, _∙_, subst}
 use mathlib.Core.Bool.{cond}
 use mathlib.Core.Logic.{_≢_, _⊎_, inl, inr}

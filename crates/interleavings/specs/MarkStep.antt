@@ -1,4 +1,8 @@
--- Step 11's success: the node is marked, and its dequeue goes into the order. Assumes nothing.
+-- Step 11's success: the node is marked, and its dequeue goes into the order.
+--     inserted                the order with the dequeue
+--     marked, next, grown     the store, the record and the account after it
+--     after-11                the order's share of the invariant then
+-- Assumes nothing.
 use mathlib.Core.Path.{_≡_, refl, sym, ap, _∙_, subst}
 use mathlib.Core.Bool.{Bool, true, false}
 use mathlib.Core.Logic.{_≢_, _⊎_, inl, inr}

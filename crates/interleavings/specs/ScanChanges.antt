@@ -1,4 +1,11 @@
--- Changes of the order that leave the store: scans set and removed, calls that end. Assumes nothing.
+-- Changes of the order that leave the store: scans set and removed, calls that end.
+--     Tickets, tickets-of            the tickets of calls and of nodes
+--     ordered, restyle               another order; where only scans differ
+--     quiet                          only a record changes
+--     unscanned, rescanned           a scan is removed; is set to the end
+--     over, ends-over, ended-inj     a call ends
+--     closed, settled                the account then, and the invariant
+-- Assumes nothing.
 use mathlib.Core.Path.{_≡_, refl, sym, ap, _∙_, subst}
 use mathlib.Core.Bool.{cond}
 use mathlib.Core.Logic.{_≢_, _⊎_, inl, inr}
@@ -248,8 +255,8 @@ module _ (sh : Shape) (wd : 0 < sh .width) (m : View) (ch : Chains) (T : ℕ →
       parts = parts-close sh wd m T closed i w′ mine others;
     }
       where
-        into′ : (b n s : ℕ) → In n (ch b) → Clean sh wd m n → ((m .ticket n ≡ (T i) .ticket) × (s ≡ m .started))
-            ⊎ ((m .ticket n ≢ (T i) .ticket) × (g .hist .end (m .ticket n) ≡ ended s)) → Mem (arr sh wd m n) (run [] L)
+        into′ : (b n s : ℕ) → In n (ch b) → Clean sh wd m n → ((m .ticket n ≡ (T i) .ticket) × (s ≡ m .started)) ⊎ ((m .ticket n ≢ (T i) .ticket)
+            × (g .hist .end (m .ticket n) ≡ ended s)) → Mem (arr sh wd m n) (run [] L)
         into′ b n s j c (inl (e, f)) = into b n j c e
         into′ b n s j c (inr (u, e)) = grow (arr sh wd m n) (O .whole .into b n s j c e)
 

@@ -1,4 +1,8 @@
--- The sequential queue, fed an order's calls, gives the order's answers. Assumes nothing.
+-- The sequential queue, fed an order's calls, gives the order's answers.
+--     asks, answers, items     an order as calls and as replies; a queue as items
+--     Apart                    elements differ, and by their tickets
+--     plain                    the queue, fed the calls, gives the replies
+-- Assumes nothing.
 use mathlib.Core.Path.{_≡_, refl, sym, _∙_, ap, subst}
 use mathlib.Core.Bool.{Bool, true, false, cond}
 use mathlib.Core.Logic.{_⊎_, inl, inr}

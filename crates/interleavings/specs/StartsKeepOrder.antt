@@ -1,4 +1,9 @@
--- Starts and the opening. Assumes nothing.
+-- Starts and the opening.
+--     logs                           a call is written down
+--     joint-dequeue                  a take begins
+--     filled-view, joint-enqueue     a put begins
+--     blank, joint-open              the opening
+-- Assumes nothing.
 use mathlib.Core.Path.{_≡_, refl, sym, ap, _∙_, subst}
 use mathlib.Core.Bool.{cond}
 use mathlib.Core.Logic.{_≢_, _⊎_, inl, inr}

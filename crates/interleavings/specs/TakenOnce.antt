@@ -1,11 +1,18 @@
 -- What becomes of an item: one take marks it, and holds or has answered it; until then a put that has ended has it unmarked
--- in its bucket's list, once. Assumes nothing.
+-- in its bucket's list, once.
+--     marked-put      what is marked was put
+--     marked-once     no two takes mark one arrival
+--     marked-kept     whoever marked it holds it or has answered it
+--     marks-new       a take marks at most once
+--     not-lost        a put that ended: unmarked in its list once, or marked
+-- Assumes nothing.
 use mathlib.Core.Path.{_≡_, refl, sym, ap, _∙_, subst}
 use mathlib.Core.Bool.{Bool, true, false}
 use mathlib.Core.Logic.{_≢_, _⊎_, inl, inr}
 use mathlib.Core.Option.{none, some, Option·none-ne-some, Option·some-injective}
 use mathlib.Core.List.{[], List·Memᴰ as Mem}
 use Prim.Native.Nat.{ℕ, _≤_, _<_}
+use native.Mathlib.Nat.{pos-of-ne-zero}
 use native.Mathlib.Omega.{arith}
 use lib.Dec.{eqb, leb}
 use borrow.Author.Tests.{eqb-true, eq-eqb, leb-true, leb-false, le-leb}
@@ -58,15 +65,13 @@ module _ (sh : Shape) (wd : 1 ≤ sh .width) (m : Memory) (L : Ledger) (F : Foll
       M : Rattle.interleavings.specs.Agreement.MarkOf (view sh (m .store)) (worker (m .table) j) (L .marked ((worker (m .table) j) .ticket))
       M = F .agrees .marks j h b
 
-      by-stage : (worker (m .table) j) .kind ≡ 1 → (c : Bool) → leb ((worker (m .table) j) .stage) 7 ≡ c → ((worker (m .table) j) .kind ≡ 1)
-          × (1 ≤ (worker (m .table) j) .stage) × ((worker (m .table) j) .stage ≤ 3) × (itemIn (view sh (m .store)) ((worker (m .table) j) .own) ≡ x)
+      by-stage : (worker (m .table) j) .kind ≡ 1 → (c : Bool) → leb ((worker (m .table) j) .stage) 7 ≡ c
+          → ((worker (m .table) j) .kind ≡ 1) × (1 ≤ (worker (m .table) j) .stage) × ((worker (m .table) j) .stage ≤ 3)
+          × (itemIn (view sh (m .store)) ((worker (m .table) j) .own) ≡ x)
       by-stage z true q =
           let hi = F .reached .inv .knows j h .dequeues z (leb-true (T j .stage) 7 q) in
-          let lo : 1 ≤ (T j) .stage = positive (T j .stage) b in
+          let lo : 1 ≤ (T j) .stage = pos-of-ne-zero b in
           (z, lo, hi, Option·some-injective _ _ (sym (M .holding z lo hi) ∙ mark))
-        where
-          positive : (n : ℕ) → n ≢ 0 → 1 ≤ n
-          positive n u = omega arith
       by-stage z false q = absurd (Option·none-ne-some _ (sym (M .clear (inr (leb-false (T j .stage) 7 q))) ∙ mark))
 
       by-kind : ((worker (m .table) j) .kind ≡ 0) ⊎ ((worker (m .table) j) .kind ≡ 1) → ((worker (m .table) j) .kind ≡ 1) × (1 ≤ (worker (m .table) j) .stage)
@@ -166,8 +171,8 @@ module _ (sh : Shape) (wd : 1 ≤ sh .width) (m : Memory) (L : Ledger) (F : Foll
       go (empty n) (k, b, t) = absurd (Option·none-ne-some _ (sym (F .ord .whole .entries (empty n) k) ∙ ap (F .ghost .what) t ∙ what))
       go (scan w) (k, b, t) = absurd b
 
-  in-queue-once : (x : Item) → Mem (elem x) (run [] order) → (unmarkedOf sh (m .store) x (F .chains (bucketOf sh (x .time))) ≡ 1)
-      × ((d : ℕ) → L .marked d ≢ some x)
+  in-queue-once : (x : Item) → Mem (elem x) (run [] order)
+      → (unmarkedOf sh (m .store) x (F .chains (bucketOf sh (x .time))) ≡ 1) × ((d : ℕ) → L .marked d ≢ some x)
   in-queue-once x k =
       let (n, H) = F .ord .whole .from (elem x) k in
       let I = F .reached .inv in

@@ -1,4 +1,8 @@
--- Every turn keeps the joint invariant, and what it answers is what the order says: one match over the changes. Assumes nothing.
+-- Every turn keeps the joint invariant, and what it answers is what the order says: one match over the changes.
+--     Still, Closes, Tells     nothing ended; a call ended; what a response says of it
+--     Share                    the order's share of the invariant after an outcome
+--     Stepped, joint-step      all of it after a turn, for every turn
+-- Assumes nothing.
 use mathlib.Core.Path.{_≡_, refl, sym, ap, _∙_, subst}
 use mathlib.Core.Bool.{Bool, true, false, cond}
 use mathlib.Core.Logic.{_≢_, _⊎_, inl, inr}
@@ -461,11 +465,8 @@ module _ (sh : Shape) (wd : 1 ≤ sh .width) (s : List ℕ) (T : ℕ → Worker)
         pick (inr (e, r)) = absurd (omega (arith, P .knows v lv .walk (O .whole .scans v j .1) .1))
 
     share-7 : (T i) .stage ≡ 7 → current sh s ≡ (T i) .current → (T i) .current % 4294967296 ≢ 4294967295
-        → Share (updates (renewCurrent (T i)) (view sh s)) ch (record {
-          writes = renewCurrent (T i);
-          worker = withStage 0 (T i);
-          response = Stored ((T i) .ticket);
-        })
+        → Share (updates (renewCurrent (T i)) (view sh s)) ch
+        (record { writes = renewCurrent (T i); worker = withStage 0 (T i); response = Stored ((T i) .ticket) })
     share-7 a same top =
         let x : ℕ = renewed (T i) in
         let m′ : View = updates (renewCurrent (T i)) m₀ in

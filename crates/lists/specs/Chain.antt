@@ -1,5 +1,18 @@
 -- Chains of nodes, over any function `c` from cells to link words: the list met from a cell, a cell's spot on it, what
--- inserting a node behind a cell and taking one out do to it. No store. Assumes nothing.
+-- inserting a node behind a cell and taking one out do to it. No store.
+--     In, Runs                                    in a list; the links run through a list to the end
+--     Spot, Edge, Apart                           a cell of the chain; with the node behind it; no cell of it
+--     spot-of                                     a node's link is a spot
+--     insertAt, removeAt                          a node set behind a spot; the node of an edge taken out
+--     runs-half, runs-frame                       a run goes on where what it reads stays
+--     spot-apart, spot-not                        what is no spot
+--     insert-runs, remove-runs                    the runs after both
+--     edge-of, edge-spot, edge-in                 the edge behind a spot
+--     in-insert, insert-own, insert-in            who is in the list with the new node
+--     in-remove, remove-in, removed-ne            who is in the list without the old one
+--     Ascends, ascends-map, distinct              a list that ascends; it has each node once
+--     insert-ascends, remove-ascends, in-next     both keep it; behind a node comes the end or a higher node
+-- Assumes nothing.
 use mathlib.Core.Path.{_≡_, refl, ap, sym, _∙_}
 use mathlib.Core.List.{List, [], _∷_, List·Memᴰ, List·Memᴰ·head, List·Memᴰ·tail}
 use mathlib.Core.Logic.{_≢_, _⊎_, inl, inr}

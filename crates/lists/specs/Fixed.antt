@@ -1,5 +1,9 @@
 -- Over every history from an opening: while a call stands on a node, the arrival in it stays, and so does its epoch, but where
--- the call itself prepares it at 4. Assumes nothing.
+-- the call itself prepares it at 4.
+--     kept                                   what one action leaves of a node that a call stands on
+--     Throughout, StandsOn, OnlyStandsOn     before each action of a history; on the node; and not preparing it
+--     arrival-fixed, epoch-fixed             its arrival stays, and its epoch
+-- Assumes nothing.
 use mathlib.Core.Path.{_≡_, refl, sym, ap, _∙_, subst⁻¹}
 use mathlib.Core.List.{List, [], _∷_, Memᴰ·cast}
 use mathlib.Core.Bool.{true, false}

@@ -1,4 +1,12 @@
--- What every history from an opening reaches: lengths, ranges, and the invariant of lists and records. Assumes nothing.
+-- What every history from an opening reaches: lengths, ranges, and the invariant of lists and records.
+--     Reached                                            lengths, ranges and the invariant
+--     table-set                                          a table with one record changed
+--     reached-open                                       the opening reaches it
+--     performed                                          what an outcome must bring
+--     free-node                                          a free node, in the words of the invariant
+--     reached-enqueue, reached-dequeue, reached-step     starts and turns keep it
+--     tight                                              the leak of ranges does not occur
+-- Assumes nothing.
 use mathlib.Core.Path.{_≡_, refl, sym, ap, subst⁻¹}
 use mathlib.Core.List.{List, []}
 use mathlib.Core.Bool.{Bool, true, false, cond, not, _&&_, _||_}

@@ -1,5 +1,12 @@
 -- What a call's record knows of the lists while it searches, that it is kept by any change that is `Stable` for the call,
--- and that linking and unlinking by another call are. Assumes nothing.
+-- and that linking and unlinking by another call are.
+--     Private, Stands                             a put's own node before it is linked; a node that a call may stand on
+--     Searches                                    what a search knows
+--     spot-left, linking-at-5                     a swap of the left word acts inside the chain; at 5 it may link
+--     Stable                                      what a change leaves to a call
+--     link-stable, unlink-stable, mark-stable     other calls' links, unlinks and marks are stable
+--     not-private, private-stable                 what is safe is nobody's private node; writing to one is stable
+-- Assumes nothing.
 use mathlib.Core.Path.{_≡_, refl, sym, ap, _∙_}
 use mathlib.Core.List.{Memᴰ·cast}
 use mathlib.Core.Logic.{_≢_, _⊎_, inl, inr}

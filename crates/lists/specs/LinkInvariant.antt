@@ -1,4 +1,15 @@
--- The invariants of the lists, over views, and that linking a node in and taking one out keep them. Assumes nothing.
+-- The invariants of the lists, over views, and that linking a node in and taking one out keep them.
+--     Chains, setChain, set-cases, home                          the chains by bucket, one changed; the bucket of a node
+--     Member, Safe, Follows                                      a node of a chain; safe for a call; what follows a safe node
+--     Lists                                                      the invariant of the lists
+--     current-keeps, epoch-keeps                                 writing current or an epoch keeps it
+--     safe-next                                                  what is safe is followed by the end or something safe
+--     Linking                                                    what a put at 5 knows whose swap succeeds
+--     out-not-left, chain-distinct                               what is no spot of a chain; a chain has each node once
+--     own-not-left, link-in, link-safe, link-keeps               the node is linked in
+--     Unlinking, unlinked, edge                                  what a search at 3 knows whose swap succeeds
+--     marked-cell, un-standing, un-in, un-safe, unlink-keeps     the node is taken out
+-- Assumes nothing.
 use mathlib.Core.Path.{_≡_, refl, sym, ap, _∙_}
 use mathlib.Core.List.{List, Memᴰ·cast}
 use mathlib.Core.Bool.{Bool, true, false, cond}

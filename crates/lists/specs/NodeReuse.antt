@@ -1,5 +1,12 @@
 -- Over every history from an opening: fields stay in range, so 1, 2 and 3 never occur, and no put gets a node that another
--- call in progress stands on. Assumes nothing.
+-- call in progress stands on.
+--     SomeReached, opened, open-reaches, act-reaches     what openings and actions reach
+--     history-reaches                                    every history from an opening reaches it
+--     reached-in-range, always-in-range                  so every field is in its range
+--     not-1-to-3, refused-by, never-refused-1-to-3       and 1, 2 and 3 never occur
+--     free-not-stood-on                                  nobody stands on a free node
+--     reached-not-held, no-put-gets-a-held-node          no put gets a node that another call stands on
+-- Assumes nothing.
 use mathlib.Core.Path.{_≡_, refl, sym, ap, _∙_, subst}
 use mathlib.Core.List.{List, [], _∷_}
 use mathlib.Core.Bool.{Bool, true, false, cond}
@@ -175,8 +182,8 @@ free-not-stood-on sh v ch T I x isNode free j l =
 
 -- the node that a put gets is the first free one
 put-gets : (sh : Shape) (m : Memory) (i c : ℕ) (a : Arrival) → act sh m (Enqueue i a) .response ≡ Begun c
-    → (enqueueRefusal sh (m .store) (m .table) i a ≡ 0) × (sh .workers ≤ length (m .table) → i < sh .workers
-    → worker (act sh m (Enqueue i a) .memory .table) i .own ≡ firstFree sh (m .store) (m .table))
+    → (enqueueRefusal sh (m .store) (m .table) i a ≡ 0)
+    × (sh .workers ≤ length (m .table) → i < sh .workers → worker (act sh m (Enqueue i a) .memory .table) i .own ≡ firstFree sh (m .store) (m .table))
 unfolding act enqueueStart
 put-gets sh m i c a e = go (eqb (enqueueRefusal sh (m .store) (m .table) i a) 0) refl e
   where

@@ -1,4 +1,8 @@
--- Starts keep the invariant of lists and records. Assumes nothing.
+-- Starts keep the invariant of lists and records.
+--     inv-dequeue                      a take begins
+--     here-key, begun, inv-enqueue     a put begins
+--     inv-open                         the opening
+-- Assumes nothing.
 use mathlib.Core.Path.{_≡_, refl, sym, ap, _∙_}
 use mathlib.Core.List.{[]}
 use mathlib.Core.Logic.{_≢_, _⊎_, inl, inr}

@@ -1,4 +1,8 @@
--- The sum of document 01 holds after every history from an opening. Assumes nothing.
+-- The sum of document 01 holds after every history from an opening.
+--     Balanced, Summed     the sum in the words of the invariant; with what is reached
+--     summed               after every history
+--     sum-balances         in the words of the statement
+-- Assumes nothing.
 use mathlib.Core.Path.{_≡_, refl, sym, ap, _∙_, subst⁻¹}
 use mathlib.Core.Bool.{Bool, true, false, cond}
 use mathlib.Core.Option.{some, Option·some-injective}
@@ -85,8 +89,8 @@ module _ (sh : Shape) where
   performed : (m : Memory) (i : ℕ) (o : Outcome) (ch ch′ : Chains) (L L′ : Ledger) → Reached sh m ch → i < sh .workers → AllInside sh (o .writes)
       → Balanced sh (view sh (m .store)) ch (worker (m .table)) L
       → L′ .stored ≡ storedIn (o .response) + L .stored → L′ .took ≡ tookIn (o .response) + L .took
-      → Worth (worker (m .table) i) (total sh (view sh (m .store) .cells) ch (sh .buckets)) (total sh (updates (o .writes) (view sh (m .store)) .cells) ch′
-      (sh .buckets)) o
+      → Worth (worker (m .table) i) (total sh (view sh (m .store) .cells) ch (sh .buckets))
+      (total sh (updates (o .writes) (view sh (m .store)) .cells) ch′ (sh .buckets)) o
       → Balanced sh (view sh (perform sh m i o .memory .store)) ch′ (worker (perform sh m i o .memory .table)) L′
   performed m i o ch ch′ L L′ K l ins B st tk w =
       let v = view-writeAll sh (m .store) (o .writes) (K .lent .store) ins in

@@ -1,4 +1,10 @@
--- Every turn keeps the invariant of lists and records: one match over the changes. Assumes nothing.
+-- Every turn keeps the invariant of lists and records: one match over the changes.
+--     R, k, enqueues, dequeues        what is known of the call and of the others
+--     unlinking, chains-3, rest-3     3 whose swap succeeds
+--     linking-5, chains-5             5 whose swap succeeds
+--     in-chain-11                     11 whose swap succeeds marks a node of a chain
+--     chains-after, inv-step          the chains after a turn, and the invariant
+-- Assumes nothing.
 use mathlib.Core.Path.{_≡_, refl, sym, ap, _∙_, subst}
 use mathlib.Core.List.{List, [], _∷_, List·Memᴰ·head, Memᴰ·cast}
 use mathlib.Core.Bool.{Bool, true, false}

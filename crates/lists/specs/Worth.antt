@@ -1,5 +1,10 @@
 -- The sum of document 01 over every history: stored and puts at 6 and 7, arrivals answered, takes at 1 to 3, unmarked nodes.
--- One match over the changes. Assumes nothing.
+-- One match over the changes.
+--     linkedBit, markedBit                                              a record's share of the sum
+--     linked-low, linked-high, marked-put, marked-high, marked-idle     where it is none
+--     storedIn, tookIn                                                  a response's share
+--     Worth, worth                                                      what a turn moves from one term to another, and that every turn does
+-- Assumes nothing.
 use mathlib.Core.Path.{_≡_, refl, sym, ap, _∙_, subst}
 use mathlib.Core.Bool.{Bool, true, false, cond, _&&_, and-false}
 use mathlib.Core.Logic.{_≢_, _⊎_, inl, inr}

@@ -1,4 +1,12 @@
--- The other changes of the order: a call ends, an entry is appended, a scan is set to the end, a walk goes on. Assumes nothing.
+-- The other changes of the order: a call ends, an entry is appended, a scan is set to the end, a walk goes on.
+--     Ends, Past                                                              a call ends; nothing is over later
+--     settled-late, not-settled, settled-kept, done-kept, not-before-kept     what an end keeps
+--     walk-map, Anew, marks-map                                               walks and scans carried to other tables
+--     Longer, marks-snoc                                                      scans where an entry is appended
+--     inv-end, inv-enqueue, inv-empty                                         a call ends; its enqueue, or its empty dequeue, is appended
+--     unscan-mem, inv-scan                                                    a scan is set to the end
+--     inv-walk, walked-out, inv-shift                                         a walk goes on; comes to the end of its bucket; the store changes
+-- Assumes nothing.
 use mathlib.Core.Path.{_≡_, refl, sym, _∙_, ap, subst}
 use mathlib.Core.Logic.{_⊎_, inl, inr}
 use mathlib.Core.List.{List, [], _∷_, _++_, List·Memᴰ as Mem, List·Memᴰ·head as here, List·Memᴰ·tail as there, List·Memᴰ·append-cases as mem-append}

@@ -1,4 +1,11 @@
--- CALLS: each call has at most one entry; what inserting a dequeue at the last place does to the entries, and to the scans' number. Assumes nothing.
+-- CALLS: each call has at most one entry; what inserting a dequeue at the last place does to the entries, and to the scans' number.
+--     one-if, one-if-no                                                          1 where something holds, 0 where it does not
+--     Call, Apart, Distinct                                                      an entry of a call; of two calls; each call once
+--     strip-own, mem-strip                                                       what is left without the enqueue of x
+--     there-yet                                                                  what was enqueued and not taken is there
+--     distinct-a, distinct-b                                                     each call once after a dequeue goes in, and with its enqueue
+--     scans, scans-append, scans-strip, scans-staying, scans-unscan, scans-a     how many scans a worker has, after each change
+-- Assumes nothing.
 use mathlib.Core.Path.{_≡_, refl, sym, _∙_, ap, subst}
 use mathlib.Core.Logic.{_⊎_, inl, inr}
 use mathlib.Core.List.{[], _∷_, _++_, List·Memᴰ as Mem, List·Memᴰ·head as here, List·Memᴰ·tail as there, List·Memᴰ·cases-cons as mem-cons}

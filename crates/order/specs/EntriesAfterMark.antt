@@ -1,4 +1,9 @@
--- The order after step 11's success, entry by entry. Assumes nothing.
+-- The order after step 11's success, entry by entry.
+--     alike-distinct, alike-call                 orders that differ in scans only have the same calls
+--     scans-in, scans-out, scans-b               scans, by membership and number
+--     still-once, taken-gone, taken-enqueued     what was enqueued once and taken is gone; what is taken was enqueued
+--     Found, found                               the order after the step, and that there is one
+-- Assumes nothing.
 use mathlib.Core.Path.{_≡_, refl, sym, ap, subst}
 use mathlib.Core.Logic.{_⊎_, inl, inr}
 use mathlib.Core.List.{[], _∷_, _++_, List·Memᴰ as Mem, List·Memᴰ·head as here, List·Memᴰ·tail as there, List·Memᴰ·append-cases as mem-append}

@@ -1,4 +1,6 @@
--- The laws can be met: an instance on numbers, a legal order, an illegal one, and a taking whose facts all hold. Assumes nothing.
+-- The laws can be met: an instance on numbers, a legal order, an illegal one, and a taking whose facts all hold.
+--     weak, K₀, a     numbers as keys and elements
+-- Assumes nothing.
 use mathlib.Core.Path.{_≡_, refl, ap}
 use mathlib.Core.Logic.{_⊎_, inl, inr, ite, if-pos, if-neg}
 use mathlib.Core.List.{[], _∷_, List·Memᴰ as Mem, List·Memᴰ·head as here, List·Memᴰ·tail as there}

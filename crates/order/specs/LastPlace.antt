@@ -1,4 +1,10 @@
--- The last place of x in an order, and what stands behind it. Assumes nothing.
+-- The last place of x in an order, and what stands behind it.
+--     Place, last, last-place, place-behind     the last place, that there is one, and that it lies behind a point
+--     busy-prefix                               something is below x behind each part
+--     Own, own?, Calm, calm                     the enqueue of x; what takes only what is below x
+--     step-own, step-less, ok-less              a step on the queue less x
+--     strip, legal-less, run-less               an order without the enqueue of x: LEGAL, and its queue
+-- Assumes nothing.
 use mathlib.Core.Path.{_≡_, refl, _∙_, ap, subst}
 use mathlib.Core.Logic.{_⊎_, inl, inr}
 use mathlib.Core.List.{[], _∷_, _++_, append-assoc, List·Memᴰ as Mem, Memᴰ·append-right as mem-right}

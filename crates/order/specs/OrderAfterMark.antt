@@ -1,4 +1,11 @@
--- Step 11's success on x by the walker w: the order after it, and that it keeps LEGAL, AGE, REAL TIME and SCAN. Assumes nothing.
+-- Step 11's success on x by the walker w: the order after it, and that it keeps LEGAL, AGE, REAL TIME and SCAN.
+--     Inv                                          LEGAL, AGE, REAL TIME and SCAN
+--     came, inv-alike, inv-unscan                  what is in the queue came into it; scans apart; less a scan
+--     Taking, Where, place                         what is known when the swap succeeds, and the place for the dequeue
+--     rest, after-a, after-b, alike-a, alike-b     the order after it, with the dequeue, and with the enqueue too
+--     queue-a, queue-b                             its queue is the old one without x
+--     inv-a, inv-b, taken                          it keeps the invariants; both cases in one
+-- Assumes nothing.
 use mathlib.Core.Path.{_≡_, refl, sym, _∙_, ap, subst}
 use mathlib.Core.Logic.{_⊎_, inl, inr}
 use mathlib.Core.List.{[], _∷_, _++_, List·Memᴰ as Mem, List·Memᴰ·head as here, List·Memᴰ·tail as there, Memᴰ·append-right as mem-right}

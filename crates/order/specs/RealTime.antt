@@ -1,4 +1,13 @@
--- REAL TIME and AGE of an order, and what inserting a dequeue at the last place keeps of them. Assumes nothing.
+-- REAL TIME and AGE of an order, and what inserting a dequeue at the last place keeps of them.
+--     End, Hist, NotBefore, Settled                                              when calls ended, and who before whom
+--     settled-open, not-before-settled, ticket-of, end-of                        of ends and of entries
+--     strip-mem                                                                  who is left without the enqueue of x
+--     Pairs, pairs-right, pairs-cross, pairs-insert, pairs-strip, pairs-snoc     a relation of each entry to those behind it
+--     InTime, Timely                                                             REAL TIME
+--     Elder, AgeAt, Aged, Done                                                   AGE; every enqueue in the queue is over
+--     aged-less, done-at-place, after-ticket, elder-behind                       what stands behind the place
+--     aged-a, aged-b, timely-a, timely-b                                         both after a dequeue goes in, and with its enqueue
+-- Assumes nothing.
 use mathlib.Core.Path.{_≡_, refl, sym, _∙_, ap, subst}
 use mathlib.Core.Logic.{_⊎_, inl, inr}
 use mathlib.Core.List.{[], _∷_, _++_, List·Memᴰ as Mem, List·Memᴰ·head as here, List·Memᴰ·tail as there, List·Memᴰ·cases-cons as mem-cons}

@@ -1,4 +1,18 @@
--- Scans: places of the order that are no entries. Orders that differ in scans only; SCAN's invariant and what keeps it. Assumes nothing.
+-- Scans: places of the order that are no entries. Orders that differ in scans only; SCAN's invariant and what keeps it.
+--     never-early                                                                 nothing is over before call 0
+--     Walker                                                                      what is known of a worker whose scan it is
+--     running-ended                                                               no call is running and over
+--     Alike, alike-refl, alike-sym, alike-append                                  orders that differ in scans only
+--     alike-run, alike-walk, alike-mem, alike-each, alike-pairs, alike-timely     what is the same of them
+--     Sees, sees?, staying, only, moving                                          scans that see x, those that stay and those that move
+--     alike-staying, alike-moving, unscan, alike-unscan                           the orders without them
+--     Sight, At, Marks                                                            SCAN: what is known at a scan, and at each
+--     marks-right, marks-find                                                     of a part; of one scan
+--     From, scan-from, from-append                                                what stood there, or is new and open
+--     sight-lost, marks-back, marks-staying                                       scans that stay, where the queue has lost x
+--     marks-moving, sight-moved                                                   scans that move
+--     sight-alike, marks-unscan                                                   a scan taken out
+-- Assumes nothing.
 use mathlib.Core.Path.{_≡_, refl, sym, _∙_, ap, subst}
 use mathlib.Core.Logic.{_⊎_, inl, inr}
 use mathlib.Core.List.{[], _∷_, _++_, List·Memᴰ as Mem, List·Memᴰ·head as here, List·Memᴰ·tail as there, List·Memᴰ·append-cases as mem-append}

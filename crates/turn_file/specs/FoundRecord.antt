@@ -5,6 +5,7 @@ use mathlib.Core.List.{List}
 use mathlib.Core.Bool.{Bool, true, false, cond}
 use mathlib.Core.Logic.{_⊎_, inl, inr}
 use Prim.Native.Nat.{ℕ, _+_, _<_, _≤_}
+use native.Mathlib.Nat.{pos-of-ne-zero}
 use native.Mathlib.Omega.{arith}
 use lib.Dec.{eqb, leb, ltb}
 use lib.ListN.{length}
@@ -54,7 +55,7 @@ found s at r next =
     let ends : next ≡ at + sizeOf mark = same-next r (fieldsAt s at mark) next (at + sizeOf mark) (sym e) in
     let room : at + sizeOf mark ≤ length s = ltb-false (length s) (at + sizeOf mark) enough in
     record {
-      known = positive (sizeOf mark) (eqb-false (sizeOf mark) 0 unknown);
+      known = pos-of-ne-zero (eqb-false (sizeOf mark) 0 unknown);
       fields = same-record r (fieldsAt s at mark) next (at + sizeOf mark) (sym e);
       place = ends;
       within = omega arith;
@@ -62,9 +63,6 @@ found s at r next =
   where
     Told : Read → Type 0
     Told answer = answer ≡ whole r next → Found s at r next
-
-    positive : (n : ℕ) → (n ≡ 0 → ⊥) → 0 < n
-    positive n h = omega (arith, h)
 
 -- The other way: a known mark and enough bytes are answered with a record.
 pub enough : (s : List ℕ) (at : ℕ) → 0 < sizeOf (twoAt s at) → at + sizeOf (twoAt s at) ≤ length s

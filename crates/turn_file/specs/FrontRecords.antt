@@ -1,4 +1,10 @@
 -- At the front of a list: bytes with a known mark are those of the record read, and a record's bytes are read as that record.
+--
+--     Bytes                                   each element is a byte
+--     front-encoded                           bytes with a known mark are those of the record read
+--     markOf, encoded-size, encoded-least     the mark and the size of an encoded record
+--     encoded-mark, encoded-fields            it is read as that record
+--     encoded-bytes                           it is bytes
 -- Assumes nothing.
 use mathlib.Core.Path.{_≡_, refl}
 use mathlib.Core.List.{List, [], _∷_, _++_}

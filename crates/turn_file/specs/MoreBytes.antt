@@ -1,4 +1,10 @@
 -- What is read at a position is read at the front of the bytes from there on, also where more bytes follow; only what is cut may be read otherwise then.
+--
+--     Unknown, Cut                          an unknown mark; too few bytes
+--     at-end, why-refused                   what no record and a refusal tell
+--     unknown-refused, cut-refused          the other way
+--     read-rest, unknown-rest, cut-rest     the same at the front of the rest
+--     cut-short                             a cut record is shorter than any record can be
 -- Assumes nothing.
 use mathlib.Core.Path.{_≡_, refl, sym, ap, _∙_}
 use mathlib.Core.List.{List, _++_}

@@ -1,4 +1,10 @@
--- Worked through in rounds, cut anywhere, a turn file gives the lines, memory and shape that it gives in one piece. Assumes nothing.
+-- Worked through in rounds, cut anywhere, a turn file gives the lines, memory and shape that it gives in one piece.
+--     ahead                        what is still to come
+--     Step, round-step             what a round does to the file; every round
+--     round-room, rest-less        the buffer stays, and no more is left than was held
+--     load, weight, all-rounds     how much is to come; enough rounds work through it
+--     in-pieces                    cut anywhere, the file is the same
+-- Assumes nothing.
 use mathlib.Core.Path.{_≡_, refl, sym, ap, _∙_}
 use mathlib.Core.Bool.{Bool, true, false, cond}
 use mathlib.Core.List.{List, [], _∷_, _++_, append-assoc, append-nil}

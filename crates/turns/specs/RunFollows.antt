@@ -1,5 +1,12 @@
 -- The loop follows the rounds: what has been done, and what is done from here on, is what the rounds do on what was read; where a round
--- ends the run, that is what the turn file does. Assumes nothing.
+-- ends the run, that is what the turn file does.
+--     allRounds                              as many as a run may take
+--     Followed, at-start                     what has been done, and what is to come
+--     Whole, After, Interrupted, Outcome     what a run left, by why it ended
+--     working, reading                       the loop goes on; reads on
+--     closed, Ends, finished, spent          it is closed; the file has ended; the rounds are spent
+--     first-held, after-read                 before the first round; after a read
+-- Assumes nothing.
 use mathlib.Core.Path.{_≡_, refl, sym, ap, _∙_, subst, subst⁻¹}
 use mathlib.Core.List.{List, [], _∷_, _++_}
 use mathlib.Core.Bool.{false}

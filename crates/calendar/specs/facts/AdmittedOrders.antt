@@ -1,6 +1,11 @@
 -- All orders of a ledger's calls that may be a linearization, listed by a search: an order is built from the front, and a call
 -- comes next only if no call that is left had ended before it started, and the sequential queue answers as the pool did. The
--- order of every linearization is in the list; where the list is empty, there is none. Assumes nothing.
+-- order of every linearization is in the list; where the list is empty, there is none.
+--     isFinished, endedBefore, sameReply, all     tests on calls
+--     mayEnd, mayBeNext                           what is left may be left out; a call may come next
+--     ordersOf, upTo, admitted                    the orders found; of the calls 1 to n; of a ledger
+--     linearization-admitted                      the order of every linearization is among them
+-- Assumes nothing.
 use mathlib.Core.Path.{_≡_, refl, _∙_, subst}
 use mathlib.Core.List.{List, [], _∷_, _++_, map, List·Memᴰ, List·Memᴰ·head, List·Memᴰ·tail, List·Memᴰ·not-nil, List·Memᴰ·cases-cons, Memᴰ·cast, Memᴰ·map}
 use mathlib.Core.List.{Memᴰ·append-left, Memᴰ·append-right}

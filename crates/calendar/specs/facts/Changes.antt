@@ -1,4 +1,9 @@
--- The turn as data: what a turn did and what its tests found. One match on it serves every property of turns. Assumes nothing.
+-- The turn as data: what a turn did and what its tests found. One match on it serves every property of turns.
+--     Found, Settled, Walked     a search at its end; right set in a search, and in a take's walk
+--     Change                     what a turn did, stage by stage
+--     by-stage, step-is          a property of every rule; every turn is one of the changes
+--     step-at                    at a known stage the turn is that stage's rule
+-- Assumes nothing.
 use mathlib.Core.Path.{_≡_, refl, ap}
 use mathlib.Core.List.{List, [], _∷_}
 use mathlib.Core.Bool.{true, false}

@@ -1,4 +1,9 @@
--- The first free node is a node, free, and the first; where there is none no node is free. Assumes nothing.
+-- The first free node is a node, free, and the first; where there is none no node is free.
+--     after-below                          the node after a node is a node
+--     Before                               on the way round
+--     first-free-node, first-free-free     the node handed out is a node, and free
+--     none-before, none-free               none before it is free; where there is none, no node is free
+-- Assumes nothing.
 use mathlib.Core.Path.{_≡_, refl}
 use mathlib.Core.List.{List}
 use mathlib.Core.Bool.{Bool, true, false, cond}

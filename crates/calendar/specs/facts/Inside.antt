@@ -1,4 +1,10 @@
--- Every word that a start or turn writes lies in the layout, and none of them answers a refusal. Assumes nothing.
+-- Every word that a start or turn writes lies in the layout, and none of them answers a refusal.
+--     enqueue-inside, dequeue-inside                  what starts write lies in the layout
+--     found-writes, settled-writes, walked-writes     what the ends of a search and of a walk write
+--     change-inside                                   what turns write lies in the layout
+--     change-said                                     no turn answers a refusal
+--     length-writeAll                                 writing keeps the length
+-- Assumes nothing.
 use mathlib.Core.Path.{_≡_, refl, _∙_}
 use mathlib.Core.List.{List, [], _∷_}
 use mathlib.Core.Logic.{_≢_}

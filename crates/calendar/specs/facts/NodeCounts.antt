@@ -30,8 +30,8 @@ one-of-three sh t x = go (eqb x 0) refl (leb 2 x) refl (eqb x 1) refl (every (sh
 
 -- FREE + RETIRED + IN USE = NODES
 pub nodes-shared-out : (sh : Shape) (s : List ℕ) (t : List Worker)
-    → count (sh .nodes) (λ n. isFree sh t (standing sh s n)) + count (sh .nodes) (λ n. isRetired sh t (standing sh s n)) + count (sh .nodes)
-    (λ n. isInUse (standing sh s n)) ≡ sh .nodes
+    → count (sh .nodes) (λ n. isFree sh t (standing sh s n)) + count (sh .nodes) (λ n. isRetired sh t (standing sh s n))
+    + count (sh .nodes) (λ n. isInUse (standing sh s n)) ≡ sh .nodes
 nodes-shared-out sh s t =
     count-three (sh .nodes) (λ n. isFree sh t (standing sh s n)) (λ n. isRetired sh t (standing sh s n)) (λ n. isInUse (standing sh s n))
     (λ n. one-of-three sh t (standing sh s n))

@@ -1,5 +1,11 @@
 -- One shared word a turn: the word that each stage reads or changes, that a turn depends on no other shared word, and that it
--- writes to no other. Assumes nothing.
+-- writes to no other.
+--     current-word, head-word, left-word, right-link     the words that calls share
+--     sharedWords, sharedWord                            the one that the turn of each stage reads or changes
+--     SameSeen, one-shared-word                          two stores that agree on it; a turn does the same on both
+--     bookkeepingAt, OneWord, AllTo                      what a turn may write: its shared word and bookkeeping
+--     one-word-written                                   it writes nothing else
+-- Assumes nothing.
 use mathlib.Core.Path.{_≡_, refl, sym, ap, _∙_, subst}
 use mathlib.Core.List.{List, [], _∷_, List·Memᴰ, List·Memᴰ·head, List·Memᴰ·tail}
 use mathlib.Core.Bool.{Bool, true, false, cond}

@@ -1,4 +1,10 @@
--- The range tests as facts on numbers, in both directions. Assumes nothing.
+-- The range tests as facts on numbers, in both directions.
+--     Limits, limits                                     the shape
+--     NodeWords, NodeRanges, HeadRanges, StoreRanges     the store
+--     store-ranges, store-tests                          its test tells the facts; the facts tell the test
+--     RecordRanges, record-ranges, record-tests          a record, both ways
+--     table-ranges, table-tests                          the table, both ways
+-- Assumes nothing.
 use mathlib.Core.Path.{_≡_, refl}
 use mathlib.Core.List.{List}
 use mathlib.Core.Bool.{Bool, true, false, _||_, not}

@@ -1,4 +1,8 @@
--- Starts and turns keep every field in its range, but for one leak: a turn at 3 that unlinks a node of distance 0. Assumes nothing.
+-- Starts and turns keep every field in its range, but for one leak: a turn at 3 that unlinks a node of distance 0.
+--     enqueue-ranged, dequeue-ranged     starts keep every field in its range
+--     leaks                              the node that 3 unlinks has distance 0
+--     step-ranged                        a turn keeps the ranges, but for that leak
+-- Assumes nothing.
 use mathlib.Core.Path.{_≡_, refl, sym, _∙_, subst}
 use mathlib.Core.List.{List, []}
 use mathlib.Core.Bool.{Bool, true, false, cond, _&&_}

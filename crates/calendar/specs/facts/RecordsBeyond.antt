@@ -1,4 +1,8 @@
--- Records beyond the workers are not read: on a longer table an operation does the same, and keeps the rest. Assumes nothing.
+-- Records beyond the workers are not read: on a longer table an operation does the same, and keeps the rest.
+--     longer, keeping                                  records behind the table; a result that keeps them
+--     act-same, open-same                              where the table has a record for each worker they do not matter, and are kept
+--     act-beyond, open-refusal-beyond, open-beyond     so it is with 64 records, for any shape
+-- Assumes nothing.
 use mathlib.Core.Path.{_≡_, refl, sym, ap, _∙_}
 use mathlib.Core.List.{List, [], _∷_, _++_, append-assoc}
 use mathlib.Core.Bool.{Bool, true, false, cond, not}
@@ -96,10 +100,8 @@ module _ (sh : Shape) (s : List ℕ) (t u : List Worker) (long : sh .workers ≤
   act-same a = rw (refusal-same a) (go (eqb (refusal sh m a) 0) refl)
     where
       go : (b : Bool) → eqb (refusal sh (record { store = s; table = t }) a) 0 ≡ b
-          → cond b (perform sh (record { store = s; table = t ++ u }) (actor a) (outcome sh (record { store = s; table = t ++ u }) a)) (record {
-            memory = record { store = s; table = t ++ u };
-            response = Refused (refusal sh (record { store = s; table = t }) a);
-          })
+          → cond b (perform sh (record { store = s; table = t ++ u }) (actor a) (outcome sh (record { store = s; table = t ++ u }) a))
+          (record { memory = record { store = s; table = t ++ u }; response = Refused (refusal sh (record { store = s; table = t }) a) })
           ≡ keeping (cond b (perform sh (record { store = s; table = t }) (actor a) (outcome sh (record { store = s; table = t }) a))
           (record { memory = record { store = s; table = t }; response = Refused (refusal sh (record { store = s; table = t }) a) })) u
       go true e =

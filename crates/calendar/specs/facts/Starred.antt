@@ -1,4 +1,10 @@
--- The starred cases of "Arrivals to check by hand", as one table under one theorem: computed, entry by entry. Assumes nothing.
+-- The starred cases of "Arrivals to check by hand", as one table under one theorem: computed, entry by entry.
+--     Case                                             a history after an opening, its responses, and current at its end
+--     two-workers, arrival, turns, put, take, lent     what the cases are made of
+--     table                                            the thirteen cases
+--     Holds, All, starred-cases                        every case holds
+--     words-after                                      every word after a put and a take
+-- Assumes nothing.
 use mathlib.Core.Path.{_≡_, refl}
 use mathlib.Core.List.{List, [], _∷_, _++_}
 use Prim.Native.Nat.{ℕ}

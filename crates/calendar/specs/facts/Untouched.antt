@@ -1,5 +1,14 @@
 -- What no operation changes: a refused one changes nothing; words beyond the layout, records beyond the workers and the
--- records of other workers stay; lengths stay. Assumes nothing.
+-- records of other workers stay; lengths stay.
+--     outcome-said                                      what is accepted answers no refusal
+--     act-refused-untouched, open-refused-untouched     what is refused changes nothing
+--     SameSize, SameBeyond                              as long; the same beyond the layout and the workers
+--     act-same-size, act-same-beyond                    starts and turns keep both
+--     outcome-inside                                    an accepted action acts for a worker of the shape, and writes in the layout
+--     others-untouched                                  other workers' records stay
+--     open-same-size, open-same-beyond                  the opening keeps both
+--     run-same-size, run-same-beyond                    so does a history
+-- Assumes nothing.
 use mathlib.Core.Path.{_≡_, refl, ap, _∙_}
 use mathlib.Core.List.{List, [], _∷_}
 use mathlib.Core.Bool.{Bool, true, false, cond}

@@ -1,4 +1,8 @@
--- Words beyond the layout are not read: on a longer store an operation does the same, and keeps the rest. Assumes nothing.
+-- Words beyond the layout are not read: on a longer store an operation does the same, and keeps the rest.
+--     longer, keeping              words behind the store; a result that keeps them
+--     act-same, open-same          on a longer store the operations do the same, and keep the rest
+--     run-same, responses-same     so does a history
+-- Assumes nothing.
 use mathlib.Core.Path.{_≡_, refl, sym, ap, _∙_}
 use mathlib.Core.List.{List, [], _∷_, _++_, append-assoc}
 use mathlib.Core.Bool.{Bool, true, false, cond, _&&_, _||_}
@@ -200,10 +204,8 @@ module _ (sh : Shape) (s v : List ℕ) (long : layout sh ≤ length s) where
   act-same t a = rw (refusal-same t a) (go (eqb (refusal sh (m t) a) 0) refl)
     where
       go : (b : Bool) → eqb (refusal sh (record { store = s; table = t }) a) 0 ≡ b
-          → cond b (perform sh (longer (record { store = s; table = t }) v) (actor a) (outcome sh (longer (record { store = s; table = t }) v) a)) (record {
-            memory = longer (record { store = s; table = t }) v;
-            response = Refused (refusal sh (record { store = s; table = t }) a);
-          })
+          → cond b (perform sh (longer (record { store = s; table = t }) v) (actor a) (outcome sh (longer (record { store = s; table = t }) v) a))
+          (record { memory = longer (record { store = s; table = t }) v; response = Refused (refusal sh (record { store = s; table = t }) a) })
           ≡ keeping (cond b (perform sh (record { store = s; table = t }) (actor a) (outcome sh (record { store = s; table = t }) a))
           (record { memory = record { store = s; table = t }; response = Refused (refusal sh (record { store = s; table = t }) a) })) v
       go true e =

@@ -1,4 +1,11 @@
--- The lent store as a list of words: its places, their addresses, and what the words say. Assumes nothing.
+-- The lent store as a list of words: its places, their addresses, and what the words say.
+--     Place, address, layout                        the places, their addresses, and how many words there are
+--     read, write, Write, writeAll                  reading, writing, and writing several
+--     current, started, lastNode, head, link ..     the words by name
+--     successor, isMarked, unmarked, marked         what a head or link says
+--     bucketIn, epochIn, currentWord                what current says
+--     inUse, unlinkedAt                             what a standing says
+-- Assumes nothing.
 use mathlib.Core.List.{List, [], _∷_}
 use mathlib.Core.Bool.{Bool}
 use Prim.Native.Nat.{ℕ, _+_, _*_, _-_, _/_, _%_}

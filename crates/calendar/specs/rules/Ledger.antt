@@ -1,4 +1,9 @@
--- What an onlooker writes down while reading a history: the calls, their ends and answers, and what each take marked. Assumes nothing.
+-- What an onlooker writes down while reading a history: the calls, their ends and answers, and what each take marked.
+--     Ledger, new                  what is written down; nothing yet
+--     begins, ends, marks          a call begins; it is answered; a take marks
+--     hears, succeeds-11, sees     what a response tells of a call; what a turn at 11 shows
+--     notes, reads, ledger         an action that was not refused; any action; a history
+-- Assumes nothing.
 use mathlib.Core.List.{List, [], _∷_}
 use mathlib.Core.Bool.{Bool, cond, _&&_}
 use mathlib.Core.Option.{Option, none, some}

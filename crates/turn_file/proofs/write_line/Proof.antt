@@ -1,4 +1,6 @@
 -- Each arm writes the line of its response; the values that it prints are words, so the line is short.
+--
+--     write-line-spec     `write_line` meets its contract
 -- Assumes nothing.
 use native.Mathlib.Omega.{arith}
 use borrow.Author.Needs.{needs}

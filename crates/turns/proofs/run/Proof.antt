@@ -1,4 +1,6 @@
--- The loop follows the rounds, and its places lie within their buffers. Assumes nothing.
+-- The loop follows the rounds, and its places lie within their buffers.
+--     run-spec     `run` meets its contract
+-- Assumes nothing.
 use mathlib.Core.Path.{_≡_, refl, sym, subst, subst⁻¹}
 use Prim.Native.Nat.{_≤_}
 use native.Mathlib.Omega.{arith}

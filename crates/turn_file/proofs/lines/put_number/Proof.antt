@@ -1,4 +1,6 @@
 -- Storing the digits of the rest would finish the number: the loop keeps this, and the last digit is the rest.
+--
+--     put-number-spec     `put_number` meets its contract
 -- Assumes nothing.
 use mathlib.Core.Path.{_≡_, refl, sym, ap, _∙_}
 use Prim.Native.Nat.{_+_, _-_, _/_, _%_, _<_, _≤_}

@@ -1,4 +1,6 @@
 -- The word and the four numbers are stored one behind the other: the runs are joined from the last.
+--
+--     took-line-spec     `took_line` meets its contract
 -- Assumes nothing.
 use mathlib.Core.Path.{ap, _∙_}
 use mathlib.Core.List.{_∷_, [], _++_}
