@@ -13,10 +13,10 @@ use Rattle.arrival.specs.declared.Shape.{Shape}
 use Rattle.arrival.specs.declared.Arrival.{Arrival}
 use Rattle.arrival.specs.declared.Worker.{Worker}
 use Rattle.arrival.specs.declared.Action.the-variants.{Enqueue, Dequeue, Step}
-use Rattle.laws.specs.Tests.{parts}
+use Rattle.laws.specs.Tests.{parts, upd-same}
 use Rattle.arrival.specs.Queue.{taken}
 use Rattle.calendar.specs.rules.Layout.{Write, writeAll, itemAt}
-use Rattle.calendar.specs.facts.Views.{view, updates, AllInside, view-writeAll, upd-same}
+use Rattle.calendar.specs.facts.Views.{view, updates, AllInside, view-writeAll}
 use Rattle.calendar.specs.rules.Ranges.{blank, worker, storeInRange, tableInRange}
 use Rattle.calendar.specs.facts.RangeFacts.{Limits, StoreRanges, RecordRanges, store-ranges, store-tests, table-tests}
 use Rattle.calendar.specs.rules.Opening.{openStore, openTable}
@@ -25,8 +25,8 @@ use Rattle.calendar.specs.rules.Outcome.{Outcome, on, answer}
 use Rattle.calendar.specs.rules.Reclaim.{firstFree}
 use Rattle.calendar.specs.facts.FirstFree.{first-free-node}
 use Rattle.calendar.specs.rules.SearchSteps.{leftHolds, unlink, found, settle, step-3}
-use Rattle.calendar.specs.rules.Steps.{step, step-at}
-use Rattle.calendar.specs.facts.Changes.{step-is}
+use Rattle.calendar.specs.rules.Steps.{step}
+use Rattle.calendar.specs.facts.Changes.{step-is, step-at}
 use Rattle.calendar.specs.facts.Inside.{enqueue-inside, dequeue-inside, change-inside}
 use Rattle.calendar.specs.facts.Accepted.{Lent, Usable, EnqueueAccepted, DequeueAccepted, StepAccepted}
 use Rattle.calendar.specs.facts.RangesKept.{leaks, enqueue-ranged, dequeue-ranged, step-ranged}

@@ -1,7 +1,7 @@
 // Document 01's ranges as tests: of the shape, of the lent store, of one worker's record.
 ghost use mathlib.Core.Path.{_≡_};
 ghost use Prim.Native.Nat.{_+_, _<_, _≤_};
-ghost use Rattle.laws.specs.Every.{every};
+ghost use Rattle.laws.specs.Counting.{every};
 ghost use Rattle.calendar.specs.rules.Ranges.{shapeInRange, headInRange, nodeInRange, storeInRange, recordInRange};
 ghost use Rattle.words.specs.Laid.{Laid};
 use arrival::Shape;

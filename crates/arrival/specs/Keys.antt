@@ -1,12 +1,19 @@
 -- The order of keys and the bucket of a time, with their laws: what all proofs use. Outside this file only the functions
--- that compute them and runs that are computed open either. Assumes nothing.
-use mathlib.Core.Path.{_≡_, refl, sym, ap, _∙_}
+-- that compute them and runs that are computed open either.
+--     lower                                 the order of keys: by time, then ticket
+--     SameKey, lower-by-key                 one key; the order looks at nothing else
+--     bucketOf, itemBucket, item-bucket     the bucket of a time, and of an item
+--     lower-irr, lower-trans                the order is strict
+--     lower-weak, lower-total               weak, and total on different tickets
+--     bucket-mono, bucket-below             a lower key lies in no higher bucket; an allowed time lies in one of the buckets
+-- Assumes nothing.
+use mathlib.Core.Path.{_≡_, refl, sym, _∙_}
 use mathlib.Core.Bool.{Bool, true, false, _&&_, _||_}
 use mathlib.Core.Logic.{_≢_, _⊎_, inl, inr}
-use Prim.Native.Nat.{ℕ, zero, suc, _+_, _*_, _/_, _≤_, _<_}
+use Prim.Native.Nat.{ℕ, _*_, _/_, _≤_, _<_}
 use native.Mathlib.Nat.{le-div-iff-mul-le, div-mul-le-self, div-lt-iff-lt-mul}
 use native.Mathlib.Omega.{arith}
-use lib.Dec.{eqb, leb, ltb}
+use lib.Dec.{eqb, ltb}
 use borrow.Author.Tests.{eqb-true, eq-eqb, ltb-true, ltb-false, lt-ltb, le-ltb}
 use Rattle.arrival.specs.declared.Shape.{Shape}
 use Rattle.arrival.specs.declared.Item.{Item}
@@ -47,7 +54,8 @@ below a b h = go (ltb (a .time) (b .time)) refl h
   where
     go : (t : Bool) → ltb (a .time) (b .time) ≡ t → (t || (eqb (a .time) (b .time) && ltb (a .ticket) (b .ticket))) ≡ true → Below a b
     go true e h = inl (ltb-true (a .time) (b .time) e)
-    go false e h = let (p, q) = parts (eqb (a .time) (b .time)) (ltb (a .ticket) (b .ticket)) h in inr (eqb-true (a .time) (b .time) p, ltb-true (a .ticket) (b .ticket) q)
+    go false e h =
+        let (p, q) = parts (eqb (a .time) (b .time)) (ltb (a .ticket) (b .ticket)) h in inr (eqb-true (a .time) (b .time) p, ltb-true (a .ticket) (b .ticket) q)
 
 lowered : (a b : Item) → Below a b → lower a b ≡ true
 unfolding lower
@@ -94,8 +102,11 @@ lower-weak a b c h = go (lower a b) refl (lower b c) refl
             split : (t : Bool) → ltb (a .time) (b .time) ≡ t → (u : Bool) → ltb (b .time) (c .time) ≡ u → (v : Bool) → ltb (a .ticket) (b .ticket) ≡ v → ⊥
             split true q u r v z = apart a b e (inl (ltb-true (a .time) (b .time) q))
             split false q true r v z = apart b c f (inl (ltb-true (b .time) (c .time) r))
-            split false q false r true z = apart a b e (inr (omega (arith, ltb-false (a .time) (b .time) q, ltb-false (b .time) (c .time) r), ltb-true (a .ticket) (b .ticket) z))
-            split false q false r false z = apart b c f (inr (omega (arith, ltb-false (a .time) (b .time) q, ltb-false (b .time) (c .time) r), omega (arith, ltb-false (a .ticket) (b .ticket) z)))
+            split false q false r true z =
+                apart a b e (inr (omega (arith, ltb-false (a .time) (b .time) q, ltb-false (b .time) (c .time) r), ltb-true (a .ticket) (b .ticket) z))
+            split false q false r false z =
+                apart b c f
+                (inr (omega (arith, ltb-false (a .time) (b .time) q, ltb-false (b .time) (c .time) r), omega (arith, ltb-false (a .ticket) (b .ticket) z)))
 
 -- and total on different tickets.
 pub lower-total : (a b : Item) → lower a b ≡ false → a .ticket ≢ b .ticket → lower b a ≡ true

@@ -8,10 +8,11 @@ use Rattle.arrival.specs.declared.Response.the-variants.{Opened, Begun, On, Sto
 use Rattle.arrival.specs.Keys.{lower, bucketOf}
 use Rattle.arrival.specs.Energy.{energyOf}
 use Rattle.calendar.specs.rules.Layout.{address, read, write}
-use Rattle.laws.specs.Every.{every}
+use Rattle.laws.specs.Counting.{every}
+use Rattle.laws.specs.Lists.{wordsFrom}
 use Rattle.calendar.specs.rules.Ranges.{blank, storeInRange, tableInRange}
 use Rattle.calendar.specs.rules.Reclaim.{isFree, firstFreeOf, firstFree}
-use Rattle.calendar.specs.rules.Opening.{wordsFrom, openStore, openTable}
+use Rattle.calendar.specs.rules.Opening.{openStore, openTable}
 use Rattle.calendar.specs.rules.Starts.{enqueueStart, dequeueStart}
 use Rattle.calendar.specs.rules.SearchSteps.{found, settle, step-1, step-2, step-3}
 use Rattle.calendar.specs.rules.EnqueueSteps.{step-4, step-5, step-6, step-7}

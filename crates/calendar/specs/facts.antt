@@ -1,3 +1,5 @@
+-- What is proved of the rules, and the definitions that only proofs use.
+pub mod Places
 pub mod FirstOf
 pub mod Views
 pub mod RangeFacts
@@ -5,6 +7,7 @@ pub mod Accepted
 pub mod Changes
 pub mod Inside
 pub mod FirstFree
+pub mod NodeCounts
 pub mod Untouched
 pub mod Starred
 pub mod RangesKept

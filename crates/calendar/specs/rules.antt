@@ -1,7 +1,8 @@
+-- What a reader must believe: definitions only, in the order of document 01. What is proved of them stands in facts.
 pub mod Layout
 pub mod Ranges
-pub mod Reclaim
 pub mod Opening
+pub mod Reclaim
 pub mod Outcome
 pub mod Starts
 pub mod SearchSteps

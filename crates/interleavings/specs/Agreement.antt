@@ -1,4 +1,10 @@
--- The proof's own account of a history and the onlooker's ledger agree, start by start and turn by turn. Assumes nothing.
+-- The proof's own account of a history and the onlooker's ledger agree, start by start and turn by turn.
+--     itemAsked, endedAt, Same, MarkOf            what the two accounts say of a call
+--     Agrees                                      they agree
+--     agrees-start                                past a start
+--     after, same-mark, agrees-on, agrees-end     past a turn: in general; that ends nothing; that ends its call
+--     agrees-step                                 past every turn
+-- Assumes nothing.
 use mathlib.Core.Path.{_≡_, refl, sym, ap, _∙_, subst, subst⁻¹}
 use mathlib.Core.Bool.{Bool, true, false, cond, _&&_}
 use mathlib.Core.Logic.{_≢_, _⊎_, inl, inr}
@@ -14,16 +20,17 @@ use Rattle.arrival.specs.declared.Worker.{Worker}
 use Rattle.arrival.specs.declared.Response.{Response}
 use Rattle.arrival.specs.declared.Response.the-variants.{Opened, Begun, On, Stored, Took, Empty, Refused}
 use Rattle.arrival.specs.Queue as queue
+use Rattle.laws.specs.Tests.{upd-same, upd-other, upd-cases}
 use Rattle.calendar.specs.rules.Layout.{itemAt}
-use Rattle.calendar.specs.facts.Views.{View, view, updates, itemIn, upd-same, upd-other, upd-cases}
 use Rattle.calendar.specs.rules.Ranges.{worker}
 use Rattle.calendar.specs.rules.Outcome.{Outcome}
 use Rattle.calendar.specs.rules.Operations.{Memory}
 use Rattle.calendar.specs.rules.DequeueSteps.{linkHolds}
 use Rattle.calendar.specs.rules.Ledger.{Ledger, begins, ends, marks, hears, sees}
-use Rattle.lists.specs.AllCalls.{with-record}
+use Rattle.calendar.specs.facts.Views.{View, view, updates, itemIn}
 use Rattle.order.specs.Entries.{Entry, enqueue, dequeue, empty, scan, ticket}
 use Rattle.order.specs.RealTime.{End, running, ended}
+use Rattle.lists.specs.AllCalls.{with-record}
 use Rattle.interleavings.specs.ItemKeys.{keys}
 use Rattle.interleavings.specs.Joint.{Ghost}
 use Rattle.interleavings.specs.StartsKeepOrder.{logs}
@@ -61,18 +68,19 @@ Agrees sh wd v T g L = record {
   said : (c s : ℕ) → g .hist .end c ≡ ended s → Same sh wd (g .said c) (L .response c) (L .marked c);
   calls : (j : ℕ) → j < sh .workers → (T j) .stage ≢ 0 → L .callOf j ≡ (T j) .ticket;
   marks : (j : ℕ) → j < sh .workers → (T j) .stage ≢ 0 → MarkOf v (T j) (L .marked ((T j) .ticket));
-  status : (d : ℕ) (x : Item) → L .marked d ≡ some x → ((j : ℕ) × (j < sh .workers) × ((T j) .stage ≢ 0) × ((T j) .ticket ≡ d)) ⊎ ((s : ℕ) × (g .hist .end d ≡ ended s));
+  status : (d : ℕ) (x : Item) → L .marked d ≡ some x
+      → ((j : ℕ) × (j < sh .workers) × ((T j) .stage ≢ 0) × ((T j) .ticket ≡ d)) ⊎ ((s : ℕ) × (g .hist .end d ≡ ended s));
   fresh : (c : ℕ) → v .started < c → L .marked c ≡ none;
 }
 
-none-is-some : {A B : Type 0} (x : A) → none ≡ some x → B
-none-is-some x e = absurd (let z : _≡_ {A = ℕ} 0 1 = cc in omega arith)
-
-module _ (sh : Shape) (wd : 1 ≤ sh .width) (v : View) (T : ℕ → Worker) (g : Ghost (keys sh wd)) (L : Ledger) (A : Agrees sh wd v T g L) (i : ℕ) (l : i < sh .workers) where
+module _ (sh : Shape) (wd : 1 ≤ sh .width) (v : View) (T : ℕ → Worker) (g : Ghost (keys sh wd)) (L : Ledger) (A : Agrees sh wd v T g L) (i : ℕ)
+    (l : i < sh .workers) where
   -- ── a start: worker i was idle, no call has the new ticket, other calls' items stay ──
-  pub agrees-start : (v′ : View) (w : Worker) (call : queue.Call) (d : Option Item) → itemAsked call ≡ d → (T i) .stage ≡ 0 → w .ticket ≡ v .started + 1 → v′ .started ≡ v .started + 1
+  pub agrees-start : (v′ : View) (w : Worker) (call : queue.Call) (d : Option Item) → itemAsked call ≡ d → (T i) .stage ≡ 0 → w .ticket ≡ v .started + 1
+      → v′ .started ≡ v .started + 1
       → (w .kind ≡ 1 → 1 ≤ w .stage → w .stage ≤ 3 → ⊥)
-      → ((j : ℕ) → j < sh .workers → (T j) .stage ≢ 0 → ((T j) .ticket ≤ v .started) × ((T j) .kind ≡ 1 → 1 ≤ (T j) .stage → (T j) .stage ≤ 3 → itemIn v′ ((T j) .own) ≡ itemIn v ((T j) .own)))
+      → ((j : ℕ) → j < sh .workers → (T j) .stage ≢ 0 → ((T j) .ticket ≤ v .started) × ((T j) .kind ≡ 1 → 1 ≤ (T j) .stage → (T j) .stage ≤ 3
+      → itemIn v′ ((T j) .own) ≡ itemIn v ((T j) .own)))
       → Agrees sh wd v′ (with-record T i w) (logs g (v .started + 1) d) (begins i call L)
   agrees-start v′ w call d e idle new up not-holding others = record {
     started = up ∙ ap (λ n. n + 1) (A .started);
@@ -110,8 +118,10 @@ module _ (sh : Shape) (wd : 1 ≤ sh .width) (v : View) (T : ℕ → Worker) (g 
           same j b = upd-other i j w (T j) (λ q. b (ap (λ n. (T n) .stage) (sym q) ∙ idle))
 
   -- ── a turn of worker i, whose call has the ticket c ──
-  module _ (busy : (T i) .stage ≢ 0) (small : (T i) .ticket ≤ v .started) (apart : (j : ℕ) → j < sh .workers → j ≢ i → (T j) .stage ≢ 0 → (T j) .ticket ≢ (T i) .ticket) (runs : g .hist .end ((T i) .ticket) ≡ running)
-      (s : List ℕ) (v-is : v ≡ view sh s) (o : Outcome) (E : Effect sh s (T i) o) (g′ : Ghost (keys sh wd)) (same-start : updates (o .writes) (view sh s) .started ≡ view sh s .started) where
+  module _ (busy : (T i) .stage ≢ 0) (small : (T i) .ticket ≤ v .started)
+      (apart : (j : ℕ) → j < sh .workers → j ≢ i → (T j) .stage ≢ 0 → (T j) .ticket ≢ (T i) .ticket) (runs : g .hist .end ((T i) .ticket) ≡ running)
+      (s : List ℕ) (v-is : v ≡ view sh s) (o : Outcome) (E : Effect sh s (T i) o) (g′ : Ghost (keys sh wd))
+      (same-start : updates (o .writes) (view sh s) .started ≡ view sh s .started) where
     abbrev v′ : View
     v′ = updates (o .writes) (view sh s)
 
@@ -125,8 +135,10 @@ module _ (sh : Shape) (wd : 1 ≤ sh .width) (v : View) (T : ℕ → Worker) (g 
     start = same-start ∙ ap (λ (x : View). x .started) (sym v-is)
 
     -- the agreement after the turn, from what the turn did to the two accounts
-    pub after : (L′ : Ledger) → L′ .started ≡ L .started → L′ .asked ≡ L .asked → L′ .callOf ≡ L .callOf → g′ .what ≡ g .what → ((c : ℕ) → L′ .ended c ≡ endedAt (g′ .hist .end c))
-        → ((c t : ℕ) → g′ .hist .end c ≡ ended t → Same sh wd (g′ .said c) (L′ .response c) (L′ .marked c)) → ((c : ℕ) → c ≢ (T i) .ticket → L′ .marked c ≡ L .marked c)
+    pub after : (L′ : Ledger) → L′ .started ≡ L .started → L′ .asked ≡ L .asked → L′ .callOf ≡ L .callOf → g′ .what ≡ g .what
+        → ((c : ℕ) → L′ .ended c ≡ endedAt (g′ .hist .end c))
+        → ((c t : ℕ) → g′ .hist .end c ≡ ended t → Same sh wd (g′ .said c) (L′ .response c) (L′ .marked c))
+        → ((c : ℕ) → c ≢ (T i) .ticket → L′ .marked c ≡ L .marked c)
         → (o .worker .stage ≢ 0 → MarkOf (updates (o .writes) (view sh s)) (o .worker) (L′ .marked (o .worker .ticket)))
         → (o .worker .stage ≢ 0) ⊎ ((t : ℕ) × (g′ .hist .end ((T i) .ticket) ≡ ended t)) → ((c t : ℕ) → g .hist .end c ≡ ended t → g′ .hist .end c ≡ ended t)
         → Agrees sh wd (updates (o .writes) (view sh s)) (with-record T i (o .worker)) g′ L′
@@ -135,7 +147,10 @@ module _ (sh : Shape) (wd : 1 ≤ sh .width) (v : View) (T : ℕ → Worker) (g 
       what = λ c. ap (λ (f : ℕ → Option Item). f c) e-what ∙ A .what c ∙ ap (λ (f : ℕ → queue.Call). itemAsked (f c)) (sym e-asked);
       finish = finish;
       said = said;
-      calls = upd-cases (λ j u. j < sh .workers → u .stage ≢ 0 → L′ .callOf j ≡ u .ticket) T i w′ (λ h b. ap (λ (f : ℕ → ℕ). f i) e-call ∙ A .calls i l busy ∙ sym (E .ticket)) (λ j u h b. ap (λ (f : ℕ → ℕ). f j) e-call ∙ A .calls j h b);
+      calls =
+          upd-cases (λ j u. j < sh .workers → u .stage ≢ 0 → L′ .callOf j ≡ u .ticket) T i w′
+          (λ h b. ap (λ (f : ℕ → ℕ). f i) e-call ∙ A .calls i l busy ∙ sym (E .ticket)) (λ j u h b. ap (λ (f : ℕ → ℕ). f j) e-call
+          ∙ A .calls j h b);
       marks = upd-cases (λ j u. j < sh .workers → u .stage ≢ 0 → MarkOf v′ u (L′ .marked (u .ticket))) T i w′ (λ h b. mine b)
           (λ j u h b. let m = A .marks j h b in let q = other ((T j) .ticket) (apart j h u b) in
           record { holding = λ z x y. q ∙ m .holding z x y ∙ ap some (sym (items ((T j) .own))); clear = λ z. q ∙ m .clear z });
@@ -143,8 +158,10 @@ module _ (sh : Shape) (wd : 1 ≤ sh .width) (v : View) (T : ℕ → Worker) (g 
       fresh = λ c h. other c (λ q. omega (arith, start)) ∙ A .fresh c (omega (arith, start));
     }
       where
-        still-there : (d : ℕ) → d ≢ (T i) .ticket → ((j : ℕ) × (j < sh .workers) × ((T j) .stage ≢ 0) × ((T j) .ticket ≡ d)) ⊎ ((t : ℕ) × (g .hist .end d ≡ ended t))
-            → ((j : ℕ) × (j < sh .workers) × ((with-record T i (o .worker) j) .stage ≢ 0) × ((with-record T i (o .worker) j) .ticket ≡ d)) ⊎ ((t : ℕ) × (g′ .hist .end d ≡ ended t))
+        still-there : (d : ℕ) → d ≢ (T i) .ticket
+            → ((j : ℕ) × (j < sh .workers) × ((T j) .stage ≢ 0) × ((T j) .ticket ≡ d)) ⊎ ((t : ℕ) × (g .hist .end d ≡ ended t))
+            → ((j : ℕ) × (j < sh .workers) × ((with-record T i (o .worker) j) .stage ≢ 0) × ((with-record T i (o .worker) j) .ticket ≡ d))
+            ⊎ ((t : ℕ) × (g′ .hist .end d ≡ ended t))
         still-there d u (inr (t, e)) = inr (t, kept d t e)
         still-there d u (inl (j, h, b, q)) =
             let same : with-record T i (o .worker) j ≡ T j = upd-other i j (o .worker) (T j) (λ e. u (sym q ∙ ap (λ n. (T n) .ticket) (sym e))) in
@@ -154,19 +171,23 @@ module _ (sh : Shape) (wd : 1 ≤ sh .width) (v : View) (T : ℕ → Worker) (g 
         here-now = upd-same i i (o .worker) (T i) refl
 
         own : (d : ℕ) → (T i) .ticket ≡ d → (o .worker .stage ≢ 0) ⊎ ((t : ℕ) × (g′ .hist .end ((T i) .ticket) ≡ ended t))
-            → ((j : ℕ) × (j < sh .workers) × ((with-record T i (o .worker) j) .stage ≢ 0) × ((with-record T i (o .worker) j) .ticket ≡ d)) ⊎ ((t : ℕ) × (g′ .hist .end d ≡ ended t))
+            → ((j : ℕ) × (j < sh .workers) × ((with-record T i (o .worker) j) .stage ≢ 0) × ((with-record T i (o .worker) j) .ticket ≡ d))
+            ⊎ ((t : ℕ) × (g′ .hist .end d ≡ ended t))
         own d q (inl b) = inl (i, l, subst (λ (y : Worker). y .stage ≢ 0) (sym here-now) b, ap (λ (y : Worker). y .ticket) here-now ∙ E .ticket ∙ q)
         own d q (inr (t, e)) = inr (t, subst (λ n. g′ .hist .end n ≡ ended t) q e)
 
         status : (d : ℕ) (x : Item) → L′ .marked d ≡ some x → (b : Bool) → eqb ((T i) .ticket) d ≡ b
-            → ((j : ℕ) × (j < sh .workers) × ((with-record T i (o .worker) j) .stage ≢ 0) × ((with-record T i (o .worker) j) .ticket ≡ d)) ⊎ ((t : ℕ) × (g′ .hist .end d ≡ ended t))
+            → ((j : ℕ) × (j < sh .workers) × ((with-record T i (o .worker) j) .stage ≢ 0) × ((with-record T i (o .worker) j) .ticket ≡ d))
+            ⊎ ((t : ℕ) × (g′ .hist .end d ≡ ended t))
         status d x e true q = own d (eqb-true ((T i) .ticket) d q) goes
         status d x e false q = let u : d ≢ (T i) .ticket = λ z. eqb-false ((T i) .ticket) d q (sym z) in still-there d u (A .status d x (sym (other d u) ∙ e))
 
     -- a record of the same role has the same mark
     pub same-mark : SameRole (T i) (o .worker) → MarkOf (updates (o .writes) (view sh s)) (o .worker) (L .marked (o .worker .ticket))
     same-mark r = record {
-      holding = λ z p q. let (a, b) = r .search (sym (r .kind) ∙ z) p q in ap (L .marked) (E .ticket) ∙ A .marks i l busy .holding (sym (r .kind) ∙ z) a b ∙ ap (λ n. some (itemIn v n)) (sym (r .own)) ∙ ap some (sym (items (w′ .own)));
+      holding = λ z p q. let (a, b) = r .search (sym (r .kind) ∙ z) p q in
+          ap (L .marked) (E .ticket) ∙ A .marks i l busy .holding (sym (r .kind) ∙ z) a b ∙ ap (λ n. some (itemIn v n)) (sym (r .own)) ∙ ap some
+          (sym (items (w′ .own)));
       clear = λ z. ap (L .marked) (E .ticket) ∙ A .marks i l busy .clear (role z);
     }
       where
@@ -178,8 +199,10 @@ module _ (sh : Shape) (wd : 1 ≤ sh .width) (v : View) (T : ℕ → Worker) (g 
     still {c} e q = ap (λ (f : ℕ → End). f c) e ∙ q
 
     -- nothing ended
-    pub agrees-on : (L′ : Ledger) → L′ .started ≡ L .started → L′ .asked ≡ L .asked → L′ .callOf ≡ L .callOf → L′ .ended ≡ L .ended → L′ .response ≡ L .response → o .response ≡ On → Still g g′ → ((c : ℕ) → c ≢ (T i) .ticket → L′ .marked c ≡ L .marked c)
-        → MarkOf (updates (o .writes) (view sh s)) (o .worker) (L′ .marked (o .worker .ticket)) → Agrees sh wd (updates (o .writes) (view sh s)) (with-record T i (o .worker)) g′ L′
+    pub agrees-on : (L′ : Ledger) → L′ .started ≡ L .started → L′ .asked ≡ L .asked → L′ .callOf ≡ L .callOf → L′ .ended ≡ L .ended → L′ .response ≡ L .response
+        → o .response ≡ On → Still g g′ → ((c : ℕ) → c ≢ (T i) .ticket → L′ .marked c ≡ L .marked c)
+        → MarkOf (updates (o .writes) (view sh s)) (o .worker) (L′ .marked (o .worker .ticket))
+        → Agrees sh wd (updates (o .writes) (view sh s)) (with-record T i (o .worker)) g′ L′
     agrees-on L′ e1 e2 e3 e4 e5 on (e, w, sd) other mine =
         after L′ e1 e2 e3 w (λ c. ap (λ (f : ℕ → Option ℕ). f c) e4 ∙ A .finish c ∙ ap (λ (f : ℕ → End). endedAt (f c)) (sym e))
         (λ c t h. said c t (ap (λ (f : ℕ → End). f c) (sym e) ∙ h)) other (λ b. mine) (inl (E .goes-on on)) (λ c t q. still e q)
@@ -195,43 +218,58 @@ module _ (sh : Shape) (wd : 1 ≤ sh .width) (v : View) (T : ℕ → Worker) (g 
             (subst (λ k. Same sh wd (g .said c) (L .response c) k) (sym (other c (not-this c t h))) (A .said c t h)))
 
     -- the call ended with the entry ent
-    pub agrees-end : (ent : Entry (keys sh wd)) (r : Response) (more-stored more-taken : ℕ) → Closes g g′ (updates (o .writes) (view sh s) .started) ((T i) .ticket) ent → Same sh wd ent r (L .marked ((T i) .ticket))
+    pub agrees-end : (ent : Entry (keys sh wd)) (r : Response) (more-stored more-taken : ℕ)
+        → Closes g g′ (updates (o .writes) (view sh s) .started) ((T i) .ticket) ent → Same sh wd ent r (L .marked ((T i) .ticket))
         → SameRole (T i) (o .worker) → Agrees sh wd (updates (o .writes) (view sh s)) (with-record T i (o .worker)) g′ (ends i r more-stored more-taken L)
     agrees-end ent r n₁ n₂ (e, w, sd) fine role =
         after (ends i r n₁ n₂ L) refl refl refl w
         (λ c. rw (A .calls i l busy) (finish c (eqb ((T i) .ticket) c)) ∙ ap (λ (f : ℕ → End). endedAt (f c)) (sym e))
-        (λ c t h. rw (A .calls i l busy) (subst (λ (f : ℕ → Entry (keys sh wd)). Same sh wd (f c) (cond (eqb ((T i) .ticket) c) r (L .response c)) (L .marked c)) (sym sd) (said c t (eqb ((T i) .ticket) c) refl (ap (λ (f : ℕ → End). f c) (sym e) ∙ h))))
-        (λ c u. refl) (λ b. same-mark role) (inr (v′ .started, ap (λ (f : ℕ → End). f ((T i) .ticket)) e ∙ upd-same ((T i) .ticket) ((T i) .ticket) (ended (v′ .started)) (g .hist .end ((T i) .ticket)) refl))
+        (λ c t h. rw (A .calls i l busy) (subst (λ (f : ℕ → Entry (keys sh wd)). Same sh wd (f c) (cond (eqb ((T i) .ticket) c) r (L .response c))
+        (L .marked c)) (sym sd) (said c t (eqb ((T i) .ticket) c) refl (ap (λ (f : ℕ → End). f c) (sym e) ∙ h))))
+        (λ c u. refl) (λ b. same-mark role) (inr (
+          v′ .started,
+          ap (λ (f : ℕ → End). f ((T i) .ticket)) e ∙ upd-same ((T i) .ticket) ((T i) .ticket) (ended (v′ .started)) (g .hist .end ((T i) .ticket)) refl,
+        ))
         (λ c t h. ap (λ (f : ℕ → End). f c) e ∙ kept c t h (eqb ((T i) .ticket) c) refl)
       where
-        finish : (c : ℕ) (b : Bool) → cond b (some (L .started)) (L .ended c) ≡ endedAt (cond b (ended (updates (o .writes) (view sh s) .started)) (g .hist .end c))
+        finish : (c : ℕ) (b : Bool) → cond b (some (L .started)) (L .ended c) ≡ endedAt (cond b (ended (updates (o .writes) (view sh s) .started))
+            (g .hist .end c))
         finish c true = ap some (sym (start ∙ A .started))
         finish c false = A .finish c
 
-        said : (c t : ℕ) (b : Bool) → eqb ((T i) .ticket) c ≡ b → cond b (ended (updates (o .writes) (view sh s) .started)) (g .hist .end c) ≡ ended t → Same sh wd (cond b ent (g .said c)) (cond b r (L .response c)) (L .marked c)
+        said : (c t : ℕ) (b : Bool) → eqb ((T i) .ticket) c ≡ b → cond b (ended (updates (o .writes) (view sh s) .started)) (g .hist .end c) ≡ ended t
+            → Same sh wd (cond b ent (g .said c)) (cond b r (L .response c)) (L .marked c)
         said c t true q h = subst (λ n. Same sh wd ent r (L .marked n)) (eqb-true ((T i) .ticket) c q) fine
         said c t false q h = A .said c t h
 
-        kept : (c t : ℕ) → g .hist .end c ≡ ended t → (b : Bool) → eqb ((T i) .ticket) c ≡ b → cond b (ended (updates (o .writes) (view sh s) .started)) (g .hist .end c) ≡ ended t
-        kept c t h true q = absurd (let z : running ≡ ended t = sym runs ∙ ap (g .hist .end) (eqb-true ((T i) .ticket) c q) ∙ h in let y : _≡_ {A = ℕ} 0 1 = cc in omega arith)
+        kept : (c t : ℕ) → g .hist .end c ≡ ended t → (b : Bool) → eqb ((T i) .ticket) c ≡ b
+            → cond b (ended (updates (o .writes) (view sh s) .started)) (g .hist .end c) ≡ ended t
+        kept c t h true q =
+            absurd (let z : running ≡ ended t = sym runs ∙ ap (g .hist .end) (eqb-true ((T i) .ticket) c q) ∙ h in let y : _≡_ {A = ℕ} 0 1 = cc in omega arith)
         kept c t h false q = h
 
 -- what sees says, by the test
-not-seen : (sh : Shape) (m : Memory) (i : ℕ) (L : Ledger) → (worker (m .table) i .stage ≡ 11 → linkHolds sh (m .store) (worker (m .table) i) ≡ false) → sees sh m i L ≡ L
+not-seen : (sh : Shape) (m : Memory) (i : ℕ) (L : Ledger) → (worker (m .table) i .stage ≡ 11 → linkHolds sh (m .store) (worker (m .table) i) ≡ false)
+    → sees sh m i L ≡ L
 not-seen sh m i L h = go (eqb (worker (m .table) i .stage) 11) refl
   where
-    go : (b : Bool) → eqb (worker (m .table) i .stage) 11 ≡ b → cond (b && linkHolds sh (m .store) (worker (m .table) i)) (marks i (itemAt sh (m .store) (worker (m .table) i .right)) L) L ≡ L
+    go : (b : Bool) → eqb (worker (m .table) i .stage) 11 ≡ b
+        → cond (b && linkHolds sh (m .store) (worker (m .table) i)) (marks i (itemAt sh (m .store) (worker (m .table) i .right)) L) L ≡ L
     go true e = rw (h (eqb-true (worker (m .table) i .stage) 11 e))
     go false e = refl
 
-seen : (sh : Shape) (m : Memory) (i : ℕ) (L : Ledger) → worker (m .table) i .stage ≡ 11 → linkHolds sh (m .store) (worker (m .table) i) ≡ true → sees sh m i L ≡ marks i (itemAt sh (m .store) (worker (m .table) i .right)) L
+seen : (sh : Shape) (m : Memory) (i : ℕ) (L : Ledger) → worker (m .table) i .stage ≡ 11 → linkHolds sh (m .store) (worker (m .table) i) ≡ true
+    → sees sh m i L ≡ marks i (itemAt sh (m .store) (worker (m .table) i .right)) L
 seen sh m i L e h = rw (eq-eqb (worker (m .table) i .stage) 11 e, h)
 
 -- A TURN KEEPS THE AGREEMENT
-pub agrees-step : (sh : Shape) (wd : 1 ≤ sh .width) (m : Memory) (g : Ghost (keys sh wd)) (L : Ledger) → let T = worker (m .table) in let v = view sh (m .store) in
-    Agrees sh wd v T g L → (i : ℕ) → i < sh .workers → (T i) .stage ≢ 0 → (T i) .ticket ≤ v .started → ((j : ℕ) → j < sh .workers → j ≢ i → (T j) .stage ≢ 0 → (T j) .ticket ≢ (T i) .ticket) → g .hist .end ((T i) .ticket) ≡ running
+pub agrees-step : (sh : Shape) (wd : 1 ≤ sh .width) (m : Memory) (g : Ghost (keys sh wd)) (L : Ledger) → let T = worker (m .table) in
+    let v = view sh (m .store) in
+    Agrees sh wd v T g L → (i : ℕ) → i < sh .workers → (T i) .stage ≢ 0 → (T i) .ticket ≤ v .started
+    → ((j : ℕ) → j < sh .workers → j ≢ i → (T j) .stage ≢ 0 → (T j) .ticket ≢ (T i) .ticket) → g .hist .end ((T i) .ticket) ≡ running
     → (T i) .kind ≤ 1 → (4 ≤ (T i) .stage → (T i) .stage ≤ 7 → (T i) .kind ≡ 0) → (8 ≤ (T i) .stage → (T i) .kind ≡ 1)
-    → (o : Outcome) → Effect sh (m .store) (T i) o → (g′ : Ghost (keys sh wd)) → updates (o .writes) v .started ≡ v .started → Tells sh wd g g′ (updates (o .writes) v .started) ((T i) .ticket) (itemIn (updates (o .writes) v) ((T i) .own)) (o .response)
+    → (o : Outcome) → Effect sh (m .store) (T i) o → (g′ : Ghost (keys sh wd)) → updates (o .writes) v .started ≡ v .started
+    → Tells sh wd g g′ (updates (o .writes) v .started) ((T i) .ticket) (itemIn (updates (o .writes) v) ((T i) .own)) (o .response)
     → Agrees sh wd (updates (o .writes) v) (with-record T i (o .worker)) g′ (hears i (o .response) (sees sh m i L))
 agrees-step sh wd m g L A i l busy small apart runs kind puts takes o E g′ z tells = role (E .role)
   where
@@ -242,22 +280,32 @@ agrees-step sh wd m g L A i l busy small apart runs kind puts takes o E g′ z t
     v = view sh (m .store)
 
     -- the same role: by the response
-    by-response : SameRole (worker (m .table) i) (o .worker) → (r : Response) → o .response ≡ r → Answered (worker (m .table) i) r → Tells sh wd g g′ (updates (o .writes) (view sh (m .store)) .started) (worker (m .table) i .ticket) (itemIn (updates (o .writes) (view sh (m .store))) (worker (m .table) i .own)) r
+    by-response : SameRole (worker (m .table) i) (o .worker) → (r : Response) → o .response ≡ r → Answered (worker (m .table) i) r
+        → Tells sh wd g g′ (updates (o .writes) (view sh (m .store)) .started) (worker (m .table) i .ticket)
+        (itemIn (updates (o .writes) (view sh (m .store))) (worker (m .table) i .own)) r
         → Agrees sh wd (updates (o .writes) (view sh (m .store))) (with-record (worker (m .table)) i (o .worker)) g′ (hears i r L)
     by-response same Opened e a t = absurd a
     by-response same (Begun k) e a t = absurd a
-    by-response same On e a t = agrees-on sh wd v T g L A i l busy small apart runs (m .store) refl o E g′ z L refl refl refl refl refl e t (λ c u. refl) (same-mark sh wd v T g L A i l busy small apart runs (m .store) refl o E g′ z same)
+    by-response same On e a t =
+        agrees-on sh wd v T g L A i l busy small apart runs (m .store) refl o E g′ z L refl refl refl refl refl e t (λ c u. refl)
+        (same-mark sh wd v T g L A i l busy small apart runs (m .store) refl o E g′ z same)
     by-response same (Stored k) e (a, b) (q, d, closes) =
-        agrees-end sh wd v T g L A i l busy small apart runs (m .store) refl o E g′ z _ (Stored k) 1 0 closes (ap Stored (q ∙ sym d), A .marks i l busy .clear (inl (puts (omega arith) b))) same
+        agrees-end sh wd v T g L A i l busy small apart runs (m .store) refl o E g′ z _ (Stored k) 1 0 closes
+        (ap Stored (q ∙ sym d), A .marks i l busy .clear (inl (puts (omega arith) b))) same
     by-response same (Took time path order distance energy) e (n, a, b) (q, closes) =
         agrees-end sh wd v T g L A i l busy small apart runs (m .store) refl o E g′ z _ (Took time path order distance energy) 0 1 closes
         (q, A .marks i l busy .holding (omega arith) a b ∙ ap some (sym (E .items (T i .own)))) same
-    by-response same Empty e a closes = agrees-end sh wd v T g L A i l busy small apart runs (m .store) refl o E g′ z _ Empty 0 0 closes (refl, A .marks i l busy .clear (inr (omega arith))) same
+    by-response same Empty e a closes =
+        agrees-end sh wd v T g L A i l busy small apart runs (m .store) refl o E g′ z _ Empty 0 0 closes
+        (refl, A .marks i l busy .clear (inr (omega arith))) same
     by-response same (Refused k) e a t = absurd a
 
     -- a mark: the call goes on
-    by-mark : Marks sh (m .store) (worker (m .table) i) (o .worker) → (r : Response) → o .response ≡ r → Answered (worker (m .table) i) r → Tells sh wd g g′ (updates (o .writes) (view sh (m .store)) .started) (worker (m .table) i .ticket) (itemIn (updates (o .writes) (view sh (m .store))) (worker (m .table) i .own)) r
-        → Agrees sh wd (updates (o .writes) (view sh (m .store))) (with-record (worker (m .table)) i (o .worker)) g′ (hears i r (marks i (itemAt sh (m .store) (worker (m .table) i .right)) L))
+    by-mark : Marks sh (m .store) (worker (m .table) i) (o .worker) → (r : Response) → o .response ≡ r → Answered (worker (m .table) i) r
+        → Tells sh wd g g′ (updates (o .writes) (view sh (m .store)) .started) (worker (m .table) i .ticket)
+        (itemIn (updates (o .writes) (view sh (m .store))) (worker (m .table) i .own)) r
+        → Agrees sh wd (updates (o .writes) (view sh (m .store))) (with-record (worker (m .table)) i (o .worker)) g′
+        (hears i r (marks i (itemAt sh (m .store) (worker (m .table) i .right)) L))
     by-mark K Opened e a t = absurd a
     by-mark K (Begun k) e a t = absurd a
     by-mark K On e a t =
@@ -265,7 +313,9 @@ agrees-step sh wd m g L A i l busy small apart runs kind puts takes o E g′ z t
         agrees-on sh wd v T g L A i l busy small apart runs (m .store) refl o E g′ z (marks i x L) refl refl refl refl refl e t
         (λ c u. upd-other (L .callOf i) c (some x) (L .marked c) (λ q. u (sym q ∙ A .calls i l busy)))
         (record {
-          holding = λ y p q. upd-same (L .callOf i) (o .worker .ticket) (some x) (L .marked (o .worker .ticket)) (A .calls i l busy ∙ sym (E .ticket)) ∙ ap (λ n. some (itemIn v n)) (sym (K .own)) ∙ ap some (sym (E .items (o .worker .own)));
+          holding = λ y p q. upd-same (L .callOf i) (o .worker .ticket) (some x) (L .marked (o .worker .ticket)) (A .calls i l busy ∙ sym (E .ticket))
+              ∙ ap (λ n. some (itemIn v n)) (sym (K .own))
+              ∙ ap some (sym (E .items (o .worker .own)));
           clear = λ y. absurd (neither y);
         })
       where
@@ -277,7 +327,12 @@ agrees-step sh wd m g L A i l busy small apart runs kind puts takes o E g′ z t
     by-mark K Empty e a t = absurd (omega (arith, K .eleven))
     by-mark K (Refused k) e a t = absurd a
 
-    role : (SameRole (worker (m .table) i) (o .worker) × (worker (m .table) i .stage ≡ 11 → linkHolds sh (m .store) (worker (m .table) i) ≡ false)) ⊎ Marks sh (m .store) (worker (m .table) i) (o .worker)
+    role : (SameRole (worker (m .table) i) (o .worker) × (worker (m .table) i .stage ≡ 11 → linkHolds sh (m .store) (worker (m .table) i) ≡ false))
+        ⊎ Marks sh (m .store) (worker (m .table) i) (o .worker)
         → Agrees sh wd (updates (o .writes) (view sh (m .store))) (with-record (worker (m .table)) i (o .worker)) g′ (hears i (o .response) (sees sh m i L))
-    role (inl (same, off)) = subst⁻¹ (λ (y : Ledger). Agrees sh wd (updates (o .writes) v) (with-record T i (o .worker)) g′ (hears i (o .response) y)) (not-seen sh m i L off) (by-response same (o .response) refl (E .answer) tells)
-    role (inr K) = subst⁻¹ (λ (y : Ledger). Agrees sh wd (updates (o .writes) v) (with-record T i (o .worker)) g′ (hears i (o .response) y)) (seen sh m i L (K .eleven) (K .holds)) (by-mark K (o .response) refl (E .answer) tells)
+    role (inl (same, off)) =
+        subst⁻¹ (λ (y : Ledger). Agrees sh wd (updates (o .writes) v) (with-record T i (o .worker)) g′ (hears i (o .response) y)) (not-seen sh m i L off)
+        (by-response same (o .response) refl (E .answer) tells)
+    role (inr K) =
+        subst⁻¹ (λ (y : Ledger). Agrees sh wd (updates (o .writes) v) (with-record T i (o .worker)) g′ (hears i (o .response) y))
+        (seen sh m i L (K .eleven) (K .holds)) (by-mark K (o .response) refl (E .answer) tells)

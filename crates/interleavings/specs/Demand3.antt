@@ -1,10 +1,10 @@
 -- DEMAND 3, whole: every history from an opening. Assumes nothing.
 use Prim.Native.Nat.{_≤_}
 use Rattle.calendar.specs.rules.Ranges.{worker}
-use Rattle.calendar.specs.facts.Accepted.{open-accepted}
 use Rattle.calendar.specs.rules.Operations.{open-pool, run}
 use Rattle.calendar.specs.rules.Ledger.{new, ledger}
 use Rattle.calendar.specs.rules.Linearizability.{Demand3}
+use Rattle.calendar.specs.facts.Accepted.{open-accepted}
 use Rattle.lists.specs.AllCalls.{Live}
 use Rattle.lists.specs.NodeReuse.{opened, reached-in-range, reached-not-held}
 use Rattle.lists.specs.Walks.{walk-meets}

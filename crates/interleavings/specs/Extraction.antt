@@ -1,8 +1,12 @@
--- From the joint invariant to the linearization: the order's calls without its scans. Assumes nothing.
+-- From the joint invariant to the linearization: the order's calls without its scans.
+--     one-entry, asked-put, end-known     of entries, calls and ends
+--     tickets                             the calls of an order
+--     linearized                          they are a linearization
+-- Assumes nothing.
 use mathlib.Core.Path.{_≡_, refl, sym, _∙_, ap, subst}
 use mathlib.Core.Bool.{Bool, true, false}
 use mathlib.Core.Logic.{_⊎_, inl, inr}
-use mathlib.Core.Option.{none, some}
+use mathlib.Core.Option.{none, some, Option·none-ne-some, Option·some-injective}
 use mathlib.Core.List.{List, [], _∷_, map, List·Memᴰ as Mem, List·Memᴰ·head as here, List·Memᴰ·tail as there}
 use Prim.Native.Nat.{ℕ, _≤_}
 use native.Mathlib.Omega.{arith}
@@ -11,11 +15,12 @@ use Rattle.arrival.specs.declared.Shape.{Shape}
 use Rattle.arrival.specs.declared.Item.{Item}
 use Rattle.arrival.specs.Keys.{lower, lower-total}
 use Rattle.arrival.specs.Queue as queue
-use Rattle.calendar.specs.facts.Views.{View, view}
+use Rattle.laws.specs.Lists.{Once}
 use Rattle.calendar.specs.rules.Ranges.{worker}
 use Rattle.calendar.specs.rules.Operations.{Memory}
 use Rattle.calendar.specs.rules.Ledger.{Ledger}
-use Rattle.calendar.specs.rules.Linearizability.{Finished, EndedBefore, Once, RespectsTime, markTicket, Agree, Linearization}
+use Rattle.calendar.specs.rules.Linearizability.{Finished, EndedBefore, RespectsTime, markTicket, Agree, Linearization}
+use Rattle.calendar.specs.facts.Views.{View, view}
 use Rattle.order.specs.Entries.{Keys, Element, Entry, enqueue, dequeue, empty, scan, Order, _≺_, ticket}
 use Rattle.order.specs.RealTime.{End, running, ended, NotBefore, ticket-of, end-of, Timely}
 use Rattle.order.specs.Calls.{Call, Distinct}
@@ -24,9 +29,6 @@ use Rattle.interleavings.specs.Joint.{Ghost, Logged}
 use Rattle.interleavings.specs.Agreement.{itemAsked, endedAt, Same, Agrees}
 use Rattle.interleavings.specs.Sequential.{asks, answers, plain}
 use Rattle.interleavings.specs.AlongHistory.{Followed}
-
-clash : {x : Item} {B : Type 0} → none ≡ some x → B
-clash {x} e = absurd (let z : _≡_ {A = ℕ} 0 1 = cc in omega arith)
 
 -- two entries of one ticket are one
 pub one-entry : {K : Keys} (L : Order K) (e f : Entry K) → Distinct L → Mem e L → Mem f L → Call e → Call f → ticket-of e ≡ ticket-of f → e ≡ f
@@ -38,10 +40,10 @@ one-entry (g ∷ L) e f D (there p) (there q) a b t = one-entry L e f (D .1) p q
 -- a call that puts x
 pub asked-put : (c : queue.Call) (x : Item) → itemAsked c ≡ some x → c ≡ queue.enqueue x
 asked-put (queue.enqueue y) x e = let z : y ≡ x = cc in ap queue.enqueue z
-asked-put queue.dequeue x e = clash e
+asked-put queue.dequeue x e = absurd (Option·none-ne-some _ e)
 
 asked-take : (c : queue.Call) → itemAsked c ≡ none → c ≡ queue.dequeue
-asked-take (queue.enqueue y) e = clash (sym e)
+asked-take (queue.enqueue y) e = absurd (Option·none-ne-some _ (sym e))
 asked-take queue.dequeue e = refl
 
 -- a finished call's end
@@ -99,7 +101,8 @@ module _ (sh : Shape) (wd : 1 ≤ sh .width) where
     end-is (empty n) c = refl
     end-is (scan w) c = absurd c
 
-    later : (n : ℕ) (L : Order (keys sh wd)) → ((f : Entry (keys sh wd)) → Mem f L → NotBefore n (end-of (g .hist) f)) → (y : ℕ) → Mem y (tickets L) → EndedBefore M y n → ⊥
+    later : (n : ℕ) (L : Order (keys sh wd)) → ((f : Entry (keys sh wd)) → Mem f L → NotBefore n (end-of (g .hist) f)) → (y : ℕ) → Mem y (tickets L)
+        → EndedBefore M y n → ⊥
     later n L h y m q =
         let (e, k, c, t) = tickets-out L y m in
         not-before n y (subst (λ d. NotBefore n (g .hist .end d)) t (subst (λ x. NotBefore n x) (end-is e c) (h e k))) q
@@ -112,26 +115,39 @@ module _ (sh : Shape) (wd : 1 ≤ sh .width) where
     real-time (scan w ∷ L) t = real-time L (t .1)
 
     -- the calls are those that were asked
-    asked-are : (L : Order (keys sh wd)) → ((e : Entry (keys sh wd)) → Mem e L → Logged {K = keys sh wd} (g .what) e) → map (M .asked) (tickets L) ≡ asks sh wd L
+    asked-are : (L : Order (keys sh wd)) → ((e : Entry (keys sh wd)) → Mem e L → Logged {K = keys sh wd} (g .what) e)
+        → map (M .asked) (tickets L) ≡ asks sh wd L
     asked-are [] h = refl
-    asked-are (enqueue x ∷ L) h = λ i. asked-put (M .asked (ticket x)) (x .it) (sym (A .what (ticket x)) ∙ h (enqueue x) (here refl)) i ∷ asked-are L (λ e k. h e (there k)) i
+    asked-are (enqueue x ∷ L) h =
+        λ i. asked-put (M .asked (ticket x)) (x .it) (sym (A .what (ticket x)) ∙ h (enqueue x) (here refl)) i ∷ asked-are L (λ e k. h e (there k)) i
     asked-are (dequeue z n ∷ L) h = λ i. asked-take (M .asked n) (sym (A .what n) ∙ h (dequeue z n) (here refl)) i ∷ asked-are L (λ e k. h e (there k)) i
     asked-are (empty n ∷ L) h = λ i. asked-take (M .asked n) (sym (A .what n) ∙ h (empty n) (here refl)) i ∷ asked-are L (λ e k. h e (there k)) i
     asked-are (scan w ∷ L) h = asked-are L (λ e k. h e (there k))
 
     -- the answer of a finished call is its entry's
-    module _ (W : Order (keys sh wd)) (D : Distinct W) (finished : (c s : ℕ) → g .hist .end c ≡ ended s → Mem (g .said c) W × Call (g .said c) × (ticket-of (g .said c) ≡ c)) where
+    module _ (W : Order (keys sh wd)) (D : Distinct W)
+        (finished : (c s : ℕ) → g .hist .end c ≡ ended s → Mem (g .said c) W × Call (g .said c) × (ticket-of (g .said c) ≡ c)) where
       said-is : (e : Entry (keys sh wd)) → Call e → Mem e W → Finished M (ticket-of e) → Same sh wd e (M .response (ticket-of e)) (M .marked (ticket-of e))
       said-is e c m (s, q) =
           let h = end-known (g .hist .end (ticket-of e)) s (sym (A .finish (ticket-of e)) ∙ q) in
           let (k, b, t) = finished (ticket-of e) s h in
-          subst (λ f. Same sh wd f (M .response (ticket-of e)) (M .marked (ticket-of e))) (one-entry W (g .said (ticket-of e)) e D k m b c t) (A .said (ticket-of e) s h)
+          subst (λ f. Same sh wd f (M .response (ticket-of e)) (M .marked (ticket-of e))) (one-entry W (g .said (ticket-of e)) e D k m b c t)
+          (A .said (ticket-of e) s h)
 
       agree : (L : Order (keys sh wd)) → ((e : Entry (keys sh wd)) → Mem e L → Mem e W) → Agree M (tickets L) (answers sh wd L)
       agree [] h = tt
-      agree (enqueue x ∷ L) h = (λ f. let (r, k) = said-is (enqueue x) tt (h (enqueue x) (here refl)) f in λ i. record { response = sym r i; ticket = ap markTicket (sym k) i }, agree L (λ e m. h e (there m)))
-      agree (dequeue z n ∷ L) h = (λ f. let (r, k) = said-is (dequeue z n) tt (h (dequeue z n) (here refl)) f in λ i. record { response = sym r i; ticket = ap markTicket (sym k) i }, agree L (λ e m. h e (there m)))
-      agree (empty n ∷ L) h = (λ f. let (r, k) = said-is (empty n) tt (h (empty n) (here refl)) f in λ i. record { response = sym r i; ticket = ap markTicket (sym k) i }, agree L (λ e m. h e (there m)))
+      agree (enqueue x ∷ L) h = (
+        λ f. let (r, k) = said-is (enqueue x) tt (h (enqueue x) (here refl)) f in λ i. record { response = sym r i; ticket = ap markTicket (sym k) i },
+        agree L (λ e m. h e (there m)),
+      )
+      agree (dequeue z n ∷ L) h = (
+        λ f. let (r, k) = said-is (dequeue z n) tt (h (dequeue z n) (here refl)) f in λ i. record { response = sym r i; ticket = ap markTicket (sym k) i },
+        agree L (λ e m. h e (there m)),
+      )
+      agree (empty n ∷ L) h = (
+        λ f. let (r, k) = said-is (empty n) tt (h (empty n) (here refl)) f in λ i. record { response = sym r i; ticket = ap markTicket (sym k) i },
+        agree L (λ e m. h e (there m)),
+      )
       agree (scan w ∷ L) h = agree L (λ e m. h e (there m))
 
   -- THE LINEARIZATION
@@ -144,23 +160,26 @@ module _ (sh : Shape) (wd : 1 ≤ sh .width) where
       let A = F .agrees in
       record {
         order = tickets (g .order);
-        calls = λ c k. let (e, j, b, t) = tickets-out (g .order) c k in (subst (λ n. 1 ≤ n) t (O .proper e j b), subst (λ n. n ≤ M .started) t (rw (← A .started) (O .bound e j)));
+        calls = λ c k. let (e, j, b, t) = tickets-out (g .order) c k in
+            (subst (λ n. 1 ≤ n) t (O .proper e j b), subst (λ n. n ≤ M .started) t (rw (← A .started) (O .bound e j)));
         once = once (g .order) (O .distinct);
-        finished = λ c (s, q). let (k, b, t) = O .finished c s (end-known (g .hist .end c) s (sym (A .finish c) ∙ q)) in subst (λ n. Mem n (tickets (g .order))) t (tickets-in (g .order) (g .said c) b k);
+        finished = λ c (s, q). let (k, b, t) = O .finished c s (end-known (g .hist .end c) s (sym (A .finish c) ∙ q)) in
+            subst (λ n. Mem n (tickets (g .order))) t (tickets-in (g .order) (g .said c) b k);
         real-time = real-time v T g M A (g .order) (O .orderly .timely);
-        agrees = subst (λ rs. Agree M (tickets (g .order)) rs) (sym (plain sh wd [] (g .order) apart (O .orderly .legal)) ∙ ap (queue.replies []) (sym (asked-are v T g M A (g .order) (O .entries)))) (agree v T g M A (g .order) (O .distinct) (O .finished) (g .order) (λ e k. k));
+        agrees =
+            subst (λ rs. Agree M (tickets (g .order)) rs) (sym (plain sh wd [] (g .order) apart (O .orderly .legal))
+            ∙ ap (queue.replies []) (sym (asked-are v T g M A (g .order) (O .entries))))
+            (agree v T g M A (g .order) (O .distinct) (O .finished) (g .order) (λ e k. k));
       }
     where
       log : (x : Element (keys sh wd)) → Mem (enqueue x) (F .ghost .order) → F .ghost .what (ticket x) ≡ some (x .it)
       log x k = F .ord .whole .entries (enqueue x) k
 
-      same : {a b : Item} → some a ≡ some b → a ≡ b
-      same {a} {b} h = let e : a ≡ b = cc in e
-
       one : (y z : Element (keys sh wd)) → Mem (enqueue y) (F .ghost .order) → Mem (enqueue z) (F .ghost .order) → ticket y ≡ ticket z → y ≡ z
-      one y z i j e = λ k. record { it = same (sym (log y i) ∙ ap (F .ghost .what) e ∙ log z j) k }
+      one y z i j e = λ k. record { it = Option·some-injective _ _ (sym (log y i) ∙ ap (F .ghost .what) e ∙ log z j) k }
 
-      apart : (y z : Element (keys sh wd)) → Mem y [] ⊎ Mem (enqueue y) (F .ghost .order) → Mem z [] ⊎ Mem (enqueue z) (F .ghost .order) → ((y ≡ z) ⊎ ((y ≺ z) ⊎ (z ≺ y))) × (ticket y ≡ ticket z → y ≡ z)
+      apart : (y z : Element (keys sh wd)) → Mem y [] ⊎ Mem (enqueue y) (F .ghost .order) → Mem z [] ⊎ Mem (enqueue z) (F .ghost .order)
+          → ((y ≡ z) ⊎ ((y ≺ z) ⊎ (z ≺ y))) × (ticket y ≡ ticket z → y ≡ z)
       apart y z (inl j) b = elim j [ ]
       apart y z (inr i) (inl j) = elim j [ ]
       apart y z (inr i) (inr j) = (go (ℕ-discrete (ticket y) (ticket z)) (lower (y .it) (z .it)) refl, one y z i j)

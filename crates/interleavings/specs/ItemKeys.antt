@@ -1,35 +1,33 @@
 -- The pool's items as the order's: their keys, and what a walk of the pool is to the order. Assumes nothing.
-use mathlib.Core.Path.{_≡_, refl, ap}
-use mathlib.Core.Bool.{Bool, true, false}
+use mathlib.Core.Path.{_≡_, ap}
+use mathlib.Core.Bool.{true, Bool-discrete}
 use mathlib.Core.Logic.{_⊎_}
 use Prim.Native.Nat.{ℕ, _+_, _%_, _≤_, _<_}
-use native.Mathlib.Omega.{arith}
 use native.Mathlib.Decide.{ℕ-discrete}
 use Rattle.arrival.specs.declared.Shape.{Shape}
 use Rattle.arrival.specs.declared.Worker.{Worker}
 use Rattle.arrival.specs.declared.Item.{Item}
 use Rattle.arrival.specs.Keys.{lower, itemBucket, lower-trans, lower-irr, lower-weak, bucket-mono}
 use Rattle.calendar.specs.facts.Views.{View, itemIn}
+use Rattle.order.specs.Entries.{Keys, Element}
+use Rattle.order.specs.Scans.{Walker as Walk}
 use Rattle.lists.specs.Chain.{In}
 use Rattle.lists.specs.LinkInvariant.{Chains}
 use Rattle.lists.specs.LinkPaths.{Reach}
-use Rattle.order.specs.Entries.{Keys, Element}
-use Rattle.order.specs.Scans.{Walker as Walk}
 
 pub same-item? : (a b : Item) → Dec (a ≡ b)
-same-item? a b = go (ℕ-discrete (a .time) (b .time)) (ℕ-discrete (a .path) (b .path)) (ℕ-discrete (a .order) (b .order)) (ℕ-discrete (a .distance) (b .distance)) (ℕ-discrete (a .ticket) (b .ticket))
+same-item? a b =
+    go (ℕ-discrete (a .time) (b .time)) (ℕ-discrete (a .path) (b .path)) (ℕ-discrete (a .order) (b .order)) (ℕ-discrete (a .distance) (b .distance))
+    (ℕ-discrete (a .ticket) (b .ticket))
   where
-    go : Dec (a .time ≡ b .time) → Dec (a .path ≡ b .path) → Dec (a .order ≡ b .order) → Dec (a .distance ≡ b .distance) → Dec (a .ticket ≡ b .ticket) → Dec (a ≡ b)
+    go : Dec (a .time ≡ b .time) → Dec (a .path ≡ b .path) → Dec (a .order ≡ b .order) → Dec (a .distance ≡ b .distance) → Dec (a .ticket ≡ b .ticket)
+        → Dec (a ≡ b)
     go (yes p) (yes q) (yes r) (yes s) (yes t) = yes (λ i. record { time = p i; path = q i; order = r i; distance = s i; ticket = t i })
     go (no n) q r s t = no (λ e. n (ap (λ (x : Item). x .time) e))
     go (yes p) (no n) r s t = no (λ e. n (ap (λ (x : Item). x .path) e))
     go (yes p) (yes q) (no n) s t = no (λ e. n (ap (λ (x : Item). x .order) e))
     go (yes p) (yes q) (yes r) (no n) t = no (λ e. n (ap (λ (x : Item). x .distance) e))
     go (yes p) (yes q) (yes r) (yes s) (no n) = no (λ e. n (ap (λ (x : Item). x .ticket) e))
-
-pub true? : (t : Bool) → Dec (t ≡ true)
-true? true = yes refl
-true? false = no (λ e. let z : _≡_ {A = ℕ} 0 1 = cc in omega arith)
 
 abbrev pub keys : (sh : Shape) → 0 < sh .width → Keys
 keys sh wd = record {
@@ -39,7 +37,7 @@ keys sh wd = record {
   transₖ = λ {x} {y} {z} g h. lower-trans x y z g h;
   weakₖ = λ {x} {z} y h. lower-weak x y z h;
   same?ₖ = same-item?;
-  below?ₖ = λ a b. true? (lower a b);
+  below?ₖ = λ a b. Bool-discrete (lower a b) true;
   ticketₖ = λ a. a .ticket;
   bucketₖ = itemBucket sh;
   bucket-upₖ = λ {x} {y} h. bucket-mono sh x y wd h;

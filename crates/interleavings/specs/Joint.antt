@@ -1,4 +1,12 @@
--- The joint invariant of the pool and its order, and what carries it past a change. Assumes nothing.
+-- The joint invariant of the pool and its order, and what carries it past a change.
+--     Ghost, Absent, Rises, Logged             the proof's own account; no entry of a call; current has risen; what an entry puts
+--     Marked, Clean                            the mark on a node
+--     Part, Holder                             what the order says of a call; a take holds an element
+--     walks, Whole, Ord, Joint                 the order's share, and the joint invariant
+--     Leaves, part-left                        what a change leaves to another worker's call
+--     orderly-shift                            the order past a change of the store
+--     parts-close, scans-close, held-close     all from the others and the new record
+-- Assumes nothing.
 use mathlib.Core.Path.{_≡_, refl, sym, _∙_, subst}
 use mathlib.Core.Logic.{_≢_, _⊎_, inl, inr}
 use mathlib.Core.Option.{Option, none, some}
@@ -7,19 +15,21 @@ use Prim.Native.Nat.{ℕ, suc, _+_, _/_, _%_, _≤_, _<_}
 use Rattle.arrival.specs.declared.Shape.{Shape}
 use Rattle.arrival.specs.declared.Worker.{Worker}
 use Rattle.arrival.specs.declared.Item.{Item}
-use Rattle.calendar.specs.facts.Views.{View, itemIn, upd-cases}
-use Rattle.lists.specs.Chain.{In}
-use Rattle.lists.specs.LinkInvariant.{Chains}
-use Rattle.lists.specs.AllCalls.{Inv, with-record}
+use Rattle.laws.specs.Tests.{upd-cases}
+use Rattle.calendar.specs.facts.Views.{View, itemIn}
 use Rattle.order.specs.Entries.{Keys, Element, Entry, enqueue, dequeue, empty, scan, Order, ticket, bucket, run}
 use Rattle.order.specs.RealTime.{running, ended, Hist, ticket-of}
 use Rattle.order.specs.Scans.{Walker as Walk}
 use Rattle.order.specs.OrderAfterMark.{Inv as Orderly}
 use Rattle.order.specs.Appending.{inv-shift}
 use Rattle.order.specs.Calls.{Call, Distinct}
+use Rattle.lists.specs.Chain.{In}
+use Rattle.lists.specs.LinkInvariant.{Chains}
+use Rattle.lists.specs.AllCalls.{Inv, with-record}
 use Rattle.interleavings.specs.ItemKeys.{keys, arr, Holds, Ahead, walk}
 
--- what the proof carries beside the chains: the ends of the calls, the order, and of each ticket what was put under it (a take: none) and the entry that its answer is
+-- what the proof carries beside the chains: the ends of the calls, the order, and of each ticket what was put under it (a take: none) and the entry that its
+-- answer is
 pub record Ghost (K : Keys) : Type 0 where
   pub hist : Hist
   pub order : Order K
@@ -108,7 +118,8 @@ module _ (sh : Shape) (wd : 0 < sh .width) where
     absent : ((1 ≤ w .stage) × (w .stage ≤ 5) × (w .kind ≡ 0)) ⊎ (8 ≤ w .stage) → Absent (w .ticket) (g .order) → Absent (w .ticket) (g′ .order);
     own : ((1 ≤ w .stage) × (w .stage ≤ 3) × (w .kind ≡ 1)) ⊎ ((6 ≤ w .stage) × (w .stage ≤ 7)) → itemIn m′ (w .own) ≡ itemIn m (w .own);
     mark : 6 ≤ w .stage → w .stage ≤ 7 → Marked m′ (w .own) → Marked m (w .own) ⊎ Mem (enqueue (arr sh wd m (w .own))) (g′ .order);
-    epoch : w .stage ≡ 5 → (c s : ℕ) → g′ .hist .end c ≡ ended s → s < w .ticket → (g .hist .end c ≡ ended s) × (g′ .hist .late c ≡ g .hist .late c) × (m′ .epoch (w .own) ≡ m .epoch (w .own));
+    epoch : w .stage ≡ 5 → (c s : ℕ) → g′ .hist .end c ≡ ended s → s < w .ticket
+        → (g .hist .end c ≡ ended s) × (g′ .hist .late c ≡ g .hist .late c) × (m′ .epoch (w .own) ≡ m .epoch (w .own));
     scan : 9 ≤ w .stage → Mem (scan v) (g .order) → Mem (scan v) (g′ .order);
     rise : 9 ≤ w .stage → Rises (w .current) (m .current) → Rises (w .current) (m′ .current);
   }
@@ -120,7 +131,8 @@ module _ (sh : Shape) (wd : 0 < sh .width) where
     unlinked = λ a b k. h .absent (inl (a, b, k)) (p .unlinked a b k);
     walking = λ a. h .absent (inr a) (p .walking a);
     linked = λ a b k. subst (λ (d : Item). Mem (enqueue (record { it = d })) (g′ .order)) (sym (h .own (inr (a, b)))) (go a b (h .mark a b k));
-    marked-own = λ a b k. subst (λ (d : Item). Mem (dequeue (record { it = d }) (w .ticket)) (g′ .order)) (sym (h .own (inl (a, b, k)))) (h .kept (dequeue (arr sh wd m (w .own)) (w .ticket)) tt (p .marked-own a b k));
+    marked-own = λ a b k. subst (λ (d : Item). Mem (dequeue (record { it = d }) (w .ticket)) (g′ .order)) (sym (h .own (inl (a, b, k))))
+        (h .kept (dequeue (arr sh wd m (w .own)) (w .ticket)) tt (p .marked-own a b k));
     five = λ e c s x y. let z = h .epoch e c s x y in rw (z .1, z .2) (p .five e c s (z .0) y);
     scanned = λ a. h .scan a (p .scanned a);
     rises = λ a. h .rise a (p .rises a);
@@ -143,18 +155,22 @@ module _ (sh : Shape) (wd : 0 < sh .width) where
       (upd-cases (λ v u. Mem (scan v) L → u .ticket ≡ (T v) .ticket) T i w′ (λ k. mine k .0) (λ v n k. refl))
       (upd-cases (λ v u. Mem (scan v) L → u .bucket ≡ (T v) .bucket) T i w′ (λ k. mine k .1) (λ v n k. refl))
       (upd-cases (λ v u. Mem (scan v) L → u .current % 4294967296 ≡ (T v) .current % 4294967296) T i w′ (λ k. mine k .2) (λ v n k. refl))
-      (upd-cases (λ v u. Mem (scan v) L → (q : Element (keys sh wd)) → Mem q (run [] L) → Ahead sh wd m ch (T v) q → Ahead sh wd m′ ch′ u q) T i w′ (λ k. mine k .3) (λ v n k. others v n k))
+      (upd-cases (λ v u. Mem (scan v) L → (q : Element (keys sh wd)) → Mem q (run [] L) → Ahead sh wd m ch (T v) q → Ahead sh wd m′ ch′ u q) T i w′
+      (λ k. mine k .3) (λ v n k. others v n k))
 
   -- the parts, from the others' and the new record's
-  pub parts-close : (m : View) (T : ℕ → Worker) (g : Ghost (keys sh wd)) (i : ℕ) (w′ : Worker) → Part m g i w′ → ((v : ℕ) → v ≢ i → v < sh .workers → Part m g v (T v))
+  pub parts-close : (m : View) (T : ℕ → Worker) (g : Ghost (keys sh wd)) (i : ℕ) (w′ : Worker) → Part m g i w′
+      → ((v : ℕ) → v ≢ i → v < sh .workers → Part m g v (T v))
       → (v : ℕ) → v < sh .workers → Part m g v (with-record T i w′ v)
   parts-close m T g i w′ p others = upd-cases (λ v u. v < sh .workers → Part m g v u) T i w′ (λ a. p) (λ v n a. others v n a)
 
-  pub scans-close : (T : ℕ → Worker) (i : ℕ) (w′ : Worker) (L : Order (keys sh wd)) → (Mem (scan i) L → (i < sh .workers) × (9 ≤ w′ .stage)) → ((v : ℕ) → v ≢ i → Mem (scan v) L → (v < sh .workers) × (9 ≤ (T v) .stage))
+  pub scans-close : (T : ℕ → Worker) (i : ℕ) (w′ : Worker) (L : Order (keys sh wd)) → (Mem (scan i) L → (i < sh .workers) × (9 ≤ w′ .stage))
+      → ((v : ℕ) → v ≢ i → Mem (scan v) L → (v < sh .workers) × (9 ≤ (T v) .stage))
       → (v : ℕ) → Mem (scan v) L → (v < sh .workers) × (9 ≤ (with-record T i w′ v) .stage)
   scans-close T i w′ L mine others = upd-cases (λ v u. Mem (scan v) L → (v < sh .workers) × (9 ≤ u .stage)) T i w′ mine (λ v n. others v n)
 
-  pub held-close : (m m′ : View) (T : ℕ → Worker) (i : ℕ) (w′ : Worker) (z : Element (keys sh wd)) (c : ℕ) → (Holder m (T i) z c → Holder m′ w′ z c) → ((v : ℕ) → v ≢ i → v < sh .workers → Holder m (T v) z c → Holder m′ (T v) z c)
+  pub held-close : (m m′ : View) (T : ℕ → Worker) (i : ℕ) (w′ : Worker) (z : Element (keys sh wd)) (c : ℕ) → (Holder m (T i) z c → Holder m′ w′ z c)
+      → ((v : ℕ) → v ≢ i → v < sh .workers → Holder m (T v) z c → Holder m′ (T v) z c)
       → (v : ℕ) × (v < sh .workers) × Holder m (T v) z c → (v : ℕ) × (v < sh .workers) × Holder m′ (with-record T i w′ v) z c
   held-close m m′ T i w′ z c mine others (v, lv, h) =
       (v, lv, upd-cases (λ v u. v < sh .workers → Holder m (T v) z c → Holder m′ u z c) T i w′ (λ a. mine) (λ v n a. others v n a) v lv h)

@@ -1,4 +1,9 @@
--- Changes of the links with the table as it is: 5, 3 and 4. Assumes nothing.
+-- Changes of the links with the table as it is: 5, 3 and 4.
+--     orderly-store                        the order where only the store changes
+--     link-view, link-chain, linked-in     5: a node is linked in
+--     out-view, out-chain, taken-out       3: one is taken out
+--     own-view, own-written                4: own node is prepared
+-- Assumes nothing.
 use mathlib.Core.Path.{_≡_, refl, sym, ap, _∙_, subst}
 use mathlib.Core.Bool.{cond}
 use mathlib.Core.Logic.{_≢_, _⊎_, inl, inr}
@@ -8,29 +13,32 @@ use native.Mathlib.Omega.{arith}
 use lib.Dec.{eqb}
 use Rattle.arrival.specs.declared.Shape.{Shape}
 use Rattle.arrival.specs.declared.Worker.{Worker}
+use Rattle.laws.specs.Tests.{upd-other, upd-cases}
 use Rattle.calendar.specs.rules.Layout.{cell, field}
-use Rattle.calendar.specs.facts.Views.{View, update, upd-other, upd-cases}
-use Rattle.lists.specs.Chain.{In, insertAt, removeAt, in-insert, in-remove}
-use Rattle.lists.specs.LinkInvariant.{Chains, setChain, set-cases, Lists, Linking, Unlinking, unlinked, edge, link-in, un-in}
-use Rattle.lists.specs.AllCalls.{Live, Inv}
+use Rattle.calendar.specs.facts.Views.{View, update}
 use Rattle.order.specs.Entries.{Keys, Element, scan, ticket, bucket, run}
 use Rattle.order.specs.RealTime.{running, ended}
 use Rattle.order.specs.Scans.{right, running-ended}
 use Rattle.order.specs.OrderAfterMark.{Inv as Orderly}
 use Rattle.order.specs.Calls.{scans}
-use Rattle.interleavings.specs.ItemKeys.{keys, arr, Holds, Ahead}
-use Rattle.interleavings.specs.Joint.{Ghost, Absent, Marked, Clean, walks, Ord, part-left}
+use Rattle.order.specs.Appending.{inv-shift}
+use Rattle.lists.specs.Chain.{In, insertAt, removeAt, in-insert, in-remove}
+use Rattle.lists.specs.LinkInvariant.{Chains, setChain, set-cases, Lists, Linking, Unlinking, unlinked, edge, link-in, un-in}
+use Rattle.lists.specs.AllCalls.{Live, Inv}
 use Rattle.lists.specs.Knowledge.{Private}
 use Rattle.lists.specs.WalkAhead.{ahead-link, ahead-unlink, ahead-private}
-use Rattle.order.specs.Appending.{inv-shift}
+use Rattle.interleavings.specs.ItemKeys.{keys, arr, Holds, Ahead}
+use Rattle.interleavings.specs.Joint.{Ghost, Absent, Marked, Clean, walks, Ord, part-left}
 
 module _ (sh : Shape) (wd : 0 < sh .width) (m : View) (ch : Chains) (T : ℕ → Worker) (g : Ghost (keys sh wd)) (P : Inv sh m ch T) (O : Ord sh wd m ch T g) where
   abbrev K : Keys
   K = keys sh wd
 
-  pub orderly-store : (m′ : View) (ch′ : Chains) → ((v : ℕ) → Mem (scan v) (g .order) → (q : Element (keys sh wd)) → Mem q (run [] (g .order)) → Ahead sh wd m ch (T v) q → Ahead sh wd m′ ch′ (T v) q)
+  pub orderly-store : (m′ : View) (ch′ : Chains) → ((v : ℕ) → Mem (scan v) (g .order) → (q : Element (keys sh wd)) → Mem q (run [] (g .order))
+      → Ahead sh wd m ch (T v) q → Ahead sh wd m′ ch′ (T v) q)
       → Orderly (g .hist) (walks sh wd m′ ch′ T) [] (g .order)
-  orderly-store m′ ch′ ahead = inv-shift (g .hist) (walks sh wd m ch T) (walks sh wd m′ ch′ T) [] (g .order) (O .whole .orderly) (λ v j. refl) (λ v j. refl) (λ v j. refl) ahead
+  orderly-store m′ ch′ ahead =
+      inv-shift (g .hist) (walks sh wd m ch T) (walks sh wd m′ ch′ T) [] (g .order) (O .whole .orderly) (λ v j. refl) (λ v j. refl) (λ v j. refl) ahead
 
   abbrev LiveT : ℕ → Type 0
   LiveT = Live (sh .workers) T
@@ -50,7 +58,8 @@ module _ (sh : Shape) (wd : 0 < sh .width) (m : View) (ch : Chains) (T : ℕ →
     marked-old n = upd-cases (λ q x. x % 2 ≡ 1 → m .cells q % 2 ≡ 1) (m .cells) left v (λ h. absurd (omega arith)) (λ q u h. h) (sh .buckets + n)
 
   -- ── 5: own is linked in ──
-  module _ (i : ℕ) (l : i < sh .workers) (five : (T i) .stage ≡ 5) (kind : (T i) .kind ≡ 0) (k : Linking sh m ch ((T i) .bucket) ((T i) .left) ((T i) .right) ((T i) .own)) where
+  module _ (i : ℕ) (l : i < sh .workers) (five : (T i) .stage ≡ 5) (kind : (T i) .kind ≡ 0)
+      (k : Linking sh m ch ((T i) .bucket) ((T i) .left) ((T i) .right) ((T i) .own)) where
     abbrev pub link-view : View
     link-view = update (cell ((T i) .left)) (2 * (T i) .own) m
 
@@ -70,10 +79,13 @@ module _ (sh : Shape) (wd : 0 < sh .width) (m : View) (ch : Chains) (T : ℕ →
     in-now n q = link-in sh m ch LiveT (P .lists) ((T i) .bucket) ((T i) .left) ((T i) .right) ((T i) .own) k n q
 
     in-before : (q n : ℕ) → In n (link-chain q) → (n ≡ (T i) .own) ⊎ In n (ch q)
-    in-before q n = set-cases (λ q ns. In n ns → (n ≡ (T i) .own) ⊎ In n (ch q)) ch ((T i) .bucket) (insertAt sh ((T i) .own) (k .spot)) (λ j. in-insert sh (k .spot) j) (λ q u j. inr j) q
+    in-before q n =
+        set-cases (λ q ns. In n ns → (n ≡ (T i) .own) ⊎ In n (ch q)) ch ((T i) .bucket) (insertAt sh ((T i) .own) (k .spot)) (λ j. in-insert sh (k .spot) j)
+        (λ q u j. inr j) q
 
     holds₅ : (b : ℕ) (q : Element K) (n : ℕ) → Holds sh wd m ch b q n → Holds sh wd link-view link-chain b q n
-    holds₅ b q n h = record { inside = in-now n b (h .inside); clean = clean-new ((T i) .left) (2 * (T i) .own) clean₀ (omega arith) n (h .clean); key = h .key }
+    holds₅ b q n h =
+        record { inside = in-now n b (h .inside); clean = clean-new ((T i) .left) (2 * (T i) .own) clean₀ (omega arith) n (h .clean); key = h .key }
 
     pub linked-in : Ord sh wd link-view link-chain T g
     linked-in = record {
@@ -110,9 +122,14 @@ module _ (sh : Shape) (wd : 0 < sh .width) (m : View) (ch : Chains) (T : ℕ →
       }) (O .parts v lv);
     }
       where
-        ahead : (v : ℕ) → Mem (scan v) (g .order) → (q : Element K) → Mem q (run [] (g .order)) → Ahead sh wd m ch (T v) q → Ahead sh wd link-view link-chain (T v) q
+        ahead : (v : ℕ) → Mem (scan v) (g .order) → (q : Element K) → Mem q (run [] (g .order)) → Ahead sh wd m ch (T v) q
+            → Ahead sh wd link-view link-chain (T v) q
         ahead v j q y (n, h, inl e) = (n, holds₅ ((T v) .bucket) q n h, inl e)
-        ahead v j q y (n, h, inr (a, b, r)) = (n, holds₅ ((T v) .bucket) q n h, inr (a, b, ahead-link sh m ch LiveT (P .lists) n ((T v) .right) r ((T i) .bucket) ((T i) .left) ((T i) .right) ((T i) .own) k))
+        ahead v j q y (n, h, inr (a, b, r)) = (
+          n,
+          holds₅ ((T v) .bucket) q n h,
+          inr (a, b, ahead-link sh m ch LiveT (P .lists) n ((T v) .right) r ((T i) .bucket) ((T i) .left) ((T i) .right) ((T i) .own) k),
+        )
 
         open-own : (n : ℕ) → n ≡ (T i) .own → g .hist .end (m .ticket n) ≡ running
         open-own n e = ap (g .hist .end) (ap (m .ticket) e ∙ bears₅) ∙ O .parts i l .runs busy₅
@@ -120,7 +137,8 @@ module _ (sh : Shape) (wd : 0 < sh .width) (m : View) (ch : Chains) (T : ℕ →
         old-clean : (n : ℕ) → Clean sh wd link-view n → Clean sh wd m n
         old-clean = clean-old ((T i) .left) (2 * (T i) .own) clean₀ (omega arith)
 
-        into : (n s b : ℕ) → Clean sh wd link-view n → g .hist .end (m .ticket n) ≡ ended s → (n ≡ (T i) .own) ⊎ In n (ch b) → Mem (arr sh wd m n) (run [] (g .order))
+        into : (n s b : ℕ) → Clean sh wd link-view n → g .hist .end (m .ticket n) ≡ ended s → (n ≡ (T i) .own) ⊎ In n (ch b)
+            → Mem (arr sh wd m n) (run [] (g .order))
         into n s b c e (inl f) = absurd (running-ended s (sym (open-own n f) ∙ e))
         into n s b c e (inr j) = O .whole .into b n s j (old-clean n c) e
 
@@ -148,11 +166,14 @@ module _ (sh : Shape) (wd : 0 < sh .width) (m : View) (ch : Chains) (T : ℕ →
     clean₃ = omega (arith, k .was)
 
     in-old : (q n : ℕ) → In n (out-chain q) → In n (ch q)
-    in-old q n = set-cases (λ q ns. In n ns → In n (ch q)) ch b₀ (removeAt sh (edge sh m ch LiveT I b₀ left right seen k)) (λ j. in-remove sh (edge sh m ch LiveT I b₀ left right seen k) j) (λ q u j. j) q
+    in-old q n =
+        set-cases (λ q ns. In n ns → In n (ch q)) ch b₀ (removeAt sh (edge sh m ch LiveT I b₀ left right seen k))
+        (λ j. in-remove sh (edge sh m ch LiveT I b₀ left right seen k) j) (λ q u j. j) q
 
     holds₃ : (b : ℕ) (q : Element K) (n : ℕ) → Holds sh wd m ch b q n → Holds sh wd out-view out-chain b q n
     holds₃ b q n h = record {
-      inside = un-in sh m ch LiveT I b₀ left right seen k n b (h .inside) (λ e. omega (arith, h .clean, k .link, k .marked, ap (λ y. m .cells (sh .buckets + y)) e));
+      inside =
+          un-in sh m ch LiveT I b₀ left right seen k n b (h .inside) (λ e. omega (arith, h .clean, k .link, k .marked, ap (λ y. m .cells (sh .buckets + y)) e));
       clean = clean-new left (2 * (seen / 2)) clean₃ (omega arith) n (h .clean);
       key = h .key;
     }
@@ -195,9 +216,11 @@ module _ (sh : Shape) (wd : 0 < sh .width) (m : View) (ch : Chains) (T : ℕ →
         old-clean : (n : ℕ) → Clean sh wd out-view n → Clean sh wd m n
         old-clean = clean-old left (2 * (seen / 2)) clean₃ (omega arith)
 
-        ahead : (v : ℕ) → Mem (scan v) (g .order) → (q : Element K) → Mem q (run [] (g .order)) → Ahead sh wd m ch (T v) q → Ahead sh wd out-view out-chain (T v) q
+        ahead : (v : ℕ) → Mem (scan v) (g .order) → (q : Element K) → Mem q (run [] (g .order)) → Ahead sh wd m ch (T v) q
+            → Ahead sh wd out-view out-chain (T v) q
         ahead v j q y (n, h, inl e) = (n, holds₃ ((T v) .bucket) q n h, inl e)
-        ahead v j q y (n, h, inr (a, b, r)) = (n, holds₃ ((T v) .bucket) q n h, inr (a, b, ahead-unlink sh m ch LiveT I n ((T v) .right) r b₀ left right seen k (h .clean)))
+        ahead v j q y (n, h, inr (a, b, r)) =
+            (n, holds₃ ((T v) .bucket) q n h, inr (a, b, ahead-unlink sh m ch LiveT I n ((T v) .right) r b₀ left right seen k (h .clean)))
 
   -- ── 4: a private node's link and epoch ──
   module _ (i : ℕ) (l : i < sh .workers) (four : (T i) .stage ≡ 4) (p : Private sh m ch ((T i) .ticket) ((T i) .own)) (u e₀ : ℕ) where
@@ -248,7 +271,13 @@ module _ (sh : Shape) (wd : 0 < sh .width) (m : View) (ch : Chains) (T : ℕ →
         absent = λ h a. a;
         own = λ b. refl;
         mark = λ a b h. inl (rw (same-cell ((T v) .own) (other-own v lv (λ z. omega arith) (λ z. omega arith) (P .knows v lv .linked a b .ticketed))) at h);
-        epoch = λ e c s y z. (y, refl, same-epoch ((T v) .own) (other-own v lv (λ z. omega arith) (λ z. omega arith) (P .knows v lv .search (omega arith) (omega arith) .enqueueOwn (put-kind v lv e (P .knows v lv .kinds)) (omega arith) .ticketed)));
+        epoch =
+            λ e c s y z. (
+              y,
+              refl,
+              same-epoch ((T v) .own) (other-own v lv (λ z. omega arith) (λ z. omega arith) (P .knows v lv .search (omega arith) (omega arith) .enqueueOwn
+                  (put-kind v lv e (P .knows v lv .kinds)) (omega arith) .ticketed)),
+            );
         scan = λ a j. j;
         rise = λ a h. h;
       }) (O .parts v lv);
@@ -262,5 +291,13 @@ module _ (sh : Shape) (wd : 0 < sh .width) (m : View) (ch : Chains) (T : ℕ →
         ahead v j q y (n, h, inl e) = (n, holds₄ ((T v) .bucket) q n h, inl e)
         ahead v j q y (n, h, inr (a, b, r)) =
             let lv : v < sh .workers = O .whole .scans v j .0 in
-            let st = P .knows v lv .stand a b in
-            (n, holds₄ ((T v) .bucket) q n h, inr (a, b, ahead-private sh m ch LiveT (P .lists) n ((T v) .right) r ((T v) .ticket) ((T i) .ticket) ((T i) .own) u (v, lv, (λ z. omega arith), refl) (st .isNode) (P .lists .member ((T v) .bucket) n (h .inside) .isNode) (st .safe) p))
+            let st = P .knows v lv .stand a b in (
+              n,
+              holds₄ ((T v) .bucket) q n h,
+              inr (
+                a,
+                b,
+                ahead-private sh m ch LiveT (P .lists) n ((T v) .right) r ((T v) .ticket) ((T i) .ticket) ((T i) .own) u (v, lv, (λ z. omega arith), refl)
+                    (st .isNode) (P .lists .member ((T v) .bucket) n (h .inside) .isNode) (st .safe) p,
+              ),
+            )

@@ -1,33 +1,39 @@
--- Step 11's success: the node is marked, and its dequeue goes into the order. Assumes nothing.
+-- Step 11's success: the node is marked, and its dequeue goes into the order.
+--     inserted                the order with the dequeue
+--     marked, next, grown     the store, the record and the account after it
+--     after-11                the order's share of the invariant then
+-- Assumes nothing.
 use mathlib.Core.Path.{_≡_, refl, sym, ap, _∙_, subst}
 use mathlib.Core.Bool.{Bool, true, false}
 use mathlib.Core.Logic.{_≢_, _⊎_, inl, inr}
-use mathlib.Core.Option.{none, some}
+use mathlib.Core.Option.{none, some, Option·none-ne-some, Option·some-injective}
 use mathlib.Core.List.{[], List·Memᴰ as Mem}
 use Prim.Native.Nat.{ℕ, _+_, _*_, _/_, _%_, _≤_, _<_}
 use native.Mathlib.Omega.{arith}
 use native.Mathlib.Decide.{ℕ-discrete}
 use Rattle.arrival.specs.declared.Shape.{Shape}
 use Rattle.arrival.specs.declared.Worker.{Worker}
-use Rattle.calendar.specs.rules.Layout.{cell}
 use Rattle.arrival.specs.declared.Item.{Item}
 use Rattle.arrival.specs.Keys.{lower, itemBucket, lower-trans, lower-irr, lower-total}
+use Rattle.laws.specs.Tests.{upd-same, upd-other}
+use Rattle.calendar.specs.rules.Layout.{cell}
 use Rattle.calendar.specs.rules.Outcome.{withStage, withOwn}
-use Rattle.calendar.specs.facts.Views.{View, update, itemIn, Lt, upd-same, upd-other}
+use Rattle.calendar.specs.facts.Views.{View, update, itemIn, Lt}
+use Rattle.order.specs.Entries.{Keys, Element, Entry, enqueue, dequeue, empty, scan, Order, _≺_, ticket, bucket, mem-without, without-mem, run}
+use Rattle.order.specs.RealTime.{End, running, ended, ticket-of}
+use Rattle.order.specs.OrderAfterMark.{Inv as Orderly, Taking}
+use Rattle.order.specs.Calls.{Call}
+use Rattle.order.specs.EntriesAfterMark.{Found, found, taken-gone, taken-enqueued}
 use Rattle.lists.specs.Chain.{In}
 use Rattle.lists.specs.LinkInvariant.{Chains, home, Safe}
 use Rattle.lists.specs.Marking.{marked-half}
 use Rattle.lists.specs.AllCalls.{Knows, Live, Inv, with-record}
 use Rattle.lists.specs.LinkPaths.{reach-half}
 use Rattle.lists.specs.WalkAhead.{ahead-above}
-use Rattle.order.specs.Entries.{Keys, Element, Entry, enqueue, dequeue, empty, scan, Order, _≺_, ticket, bucket, mem-without, without-mem, run}
-use Rattle.order.specs.RealTime.{End, running, ended, ticket-of}
-use Rattle.order.specs.OrderAfterMark.{Inv as Orderly, Taking}
-use Rattle.order.specs.Calls.{Call}
-use Rattle.order.specs.EntriesAfterMark.{Found, found, taken-gone, taken-enqueued}
 use Rattle.interleavings.specs.ItemKeys.{keys, arr, Holds, Meets, Ahead}
-use Rattle.interleavings.specs.Joint.{Holder, held-close, Ghost, Absent, Logged, Marked, Clean, Part, walks, Whole, Ord, part-left, orderly-shift, parts-close, scans-close}
-use Rattle.interleavings.specs.Nodes.{reach-trans, reach-above, one-node, none-some}
+use Rattle.interleavings.specs.Joint.{Holder, held-close, Ghost, Absent, Logged, Marked, Clean, Part, walks, Whole, Ord, part-left, orderly-shift}
+use Rattle.interleavings.specs.Joint.{parts-close, scans-close}
+use Rattle.interleavings.specs.Nodes.{reach-trans, reach-above, one-node}
 
 module _ (sh : Shape) (wd : 0 < sh .width) (m : View) (ch : Chains) (T : ℕ → Worker) (g : Ghost (keys sh wd)) (P : Inv sh m ch T) (O : Ord sh wd m ch T g)
     (i : ℕ) (l : i < sh .workers) (eleven : (T i) .stage ≡ 11) (was : m .cells (sh .buckets + (T i) .right) ≡ (T i) .seen) where
@@ -79,7 +85,7 @@ module _ (sh : Shape) (wd : 0 < sh .width) (m : View) (ch : Chains) (T : ℕ →
   log-c = part .dequeuer busy kind-1
 
   apart-x : m .ticket ((T i) .right) ≢ (T i) .ticket
-  apart-x e = none-some _ (sym log-c ∙ ap (g .what) (sym e) ∙ log-x)
+  apart-x e = Option·none-ne-some _ (sym log-c ∙ ap (g .what) (sym e) ∙ log-x)
 
   chain-node : (b n : ℕ) → In n (ch b) → n < sh .nodes
   chain-node b n j = P .lists .member b n j .isNode
@@ -109,7 +115,9 @@ module _ (sh : Shape) (wd : 0 < sh .width) (m : View) (ch : Chains) (T : ℕ →
 
       first : (z : Element K) → Ahead sh wd m ch (T i) z → ¬ (z ≺ x)
       first z (n, h, inl e) lt = omega arith
-      first z (n, h, inr (a, b, rr)) lt = pick (reach-above sh m ch (Live (sh .workers) T) (P .lists) ((T i) .ticket) n (i, l, busy, refl) (chain-node ((T i) .bucket) n (h .inside)) (knows .stand (omega arith) (omega arith) .safe) rr)
+      first z (n, h, inr (a, b, rr)) lt =
+          pick (reach-above sh m ch (Live (sh .workers) T) (P .lists) ((T i) .ticket) n (i, l, busy, refl) (chain-node ((T i) .bucket) n (h .inside))
+          (knows .stand (omega arith) (omega arith) .safe) rr)
         where
           lt′ : Lt m n ((T i) .right)
           lt′ = subst (λ (d : Item). lower d (itemIn m ((T i) .right)) ≡ true) (sym (h .key)) lt
@@ -125,7 +133,9 @@ module _ (sh : Shape) (wd : 0 < sh .width) (m : View) (ch : Chains) (T : ℕ →
         where
           higher : (k : ℕ) → Holds sh wd m ch (bucket q) q k → (t : Bool) → lower (q .it) (itemIn m ((T i) .right)) ≡ t → x ≺ q
           higher k h true e = absurd (n e)
-          higher k h false e = lower-total (q .it) (itemIn m ((T i) .right)) e (λ f. not-x q k u (h .key) (one-node sh m ch T P k ((T i) .right) (chain-node (bucket q) k (h .inside)) isNode (O .whole .ticketed (bucket q) k (h .inside)) (ap (λ (d : Item). d .ticket) (h .key) ∙ f)))
+          higher k h false e =
+              lower-total (q .it) (itemIn m ((T i) .right)) e (λ f. not-x q k u (h .key) (one-node sh m ch T P k ((T i) .right)
+              (chain-node (bucket q) k (h .inside)) isNode (O .whole .ticketed (bucket q) k (h .inside)) (ap (λ (d : Item). d .ticket) (h .key) ∙ f)))
 
       others : (v : ℕ) (q : Element K) → Mem q (run [] (g .order)) → Ahead sh wd m ch (T v) x → x ≺ q → bucket q ≡ bucket x → Ahead sh wd m ch (T v) q
       others v q j (n, h, met) lt e =
@@ -140,7 +150,8 @@ module _ (sh : Shape) (wd : 0 < sh .width) (m : View) (ch : Chains) (T : ℕ →
               inr (
                 a,
                 b,
-                reach-trans sh (m .cells) (ahead-above sh m ch (Live (sh .workers) T) (P .lists) ((T v) .bucket) n k (P .lists .member ((T v) .bucket) n (h .inside) .inRange) (h .inside) (y .inside)
+                reach-trans sh (m .cells) (ahead-above sh m ch (Live (sh .workers) T) (P .lists) ((T v) .bucket) n k
+                    (P .lists .member ((T v) .bucket) n (h .inside) .inRange) (h .inside) (y .inside)
                     (rw (h .key, y .key) lt)) rr,
               )
 
@@ -153,20 +164,22 @@ module _ (sh : Shape) (wd : 0 < sh .width) (m : View) (ch : Chains) (T : ℕ →
       put-x (inr k) = k
 
       go : (e : End) → g .hist .end (m .ticket ((T i) .right)) ≡ e → ⊥
-      go running e = O .whole .pending ((T i) .bucket) ((T i) .right) inside clean-x e (enqueue x) (put-x (taken-enqueued [] (g .order) x d (O .whole .orderly .legal) j)) tt refl
-      go (ended s) e = taken-gone [] (g .order) x d (O .whole .orderly .legal) (O .whole .distinct) (λ k. elim k [ ]) j (O .whole .into ((T i) .bucket) ((T i) .right) s inside clean-x e)
+      go running e =
+          O .whole .pending ((T i) .bucket) ((T i) .right) inside clean-x e (enqueue x)
+          (put-x (taken-enqueued [] (g .order) x d (O .whole .orderly .legal) j)) tt refl
+      go (ended s) e =
+          taken-gone [] (g .order) x d (O .whole .orderly .legal) (O .whole .distinct) (λ k. elim k [ ]) j
+          (O .whole .into ((T i) .bucket) ((T i) .right) s inside clean-x e)
 
   only : (f : Entry K) → Mem f (g .order) → Call f → ticket-of f ≡ ticket x → f ≡ enqueue x
-  only (enqueue y) j c e = ap enqueue (λ k. record { it = some-inj (sym (O .whole .entries (enqueue y) j) ∙ ap (g .what) e ∙ log-x) k })
-    where
-      some-inj : {a b : Item} → some a ≡ some b → a ≡ b
-      some-inj {a} {b} h = let z : a ≡ b = cc in z
-  only (dequeue z c) j k e = absurd (none-some _ (sym (O .whole .entries (dequeue z c) j) ∙ ap (g .what) e ∙ log-x))
-  only (empty c) j k e = absurd (none-some _ (sym (O .whole .entries (empty c) j) ∙ ap (g .what) e ∙ log-x))
+  only (enqueue y) j c e = ap enqueue (λ k. record { it = Option·some-injective _ _ (sym (O .whole .entries (enqueue y) j) ∙ ap (g .what) e ∙ log-x) k })
+  only (dequeue z c) j k e = absurd (Option·none-ne-some _ (sym (O .whole .entries (dequeue z c) j) ∙ ap (g .what) e ∙ log-x))
+  only (empty c) j k e = absurd (Option·none-ne-some _ (sym (O .whole .entries (empty c) j) ∙ ap (g .what) e ∙ log-x))
   only (scan v) j k e = absurd k
 
   pub inserted : (M : Order K) × Found (g .hist) (walks sh wd m ch T) (g .order) M i x
-  inserted = found (g .hist) (walks sh wd m ch T) (g .order) i x (O .whole .orderly) taking (O .whole .distinct) (part .walking (omega arith)) only apart-x untaken
+  inserted =
+      found (g .hist) (walks sh wd m ch T) (g .order) i x (O .whole .orderly) taking (O .whole .distinct) (part .walking (omega arith)) only apart-x untaken
 
   abbrev pub marked : View
   marked = update (cell (sh .buckets + (T i) .right)) (2 * ((T i) .seen / 2) + 1) m
@@ -181,7 +194,9 @@ module _ (sh : Shape) (wd : 0 < sh .width) (m : View) (ch : Chains) (T : ℕ →
   same-cell n u = upd-other (sh .buckets + (T i) .right) (sh .buckets + n) (2 * ((T i) .seen / 2) + 1) (m .cells (sh .buckets + n)) (λ e. u (omega arith))
 
   at-x : marked .cells (sh .buckets + (T i) .right) % 2 ≡ 1
-  at-x = rw (upd-same (sh .buckets + (T i) .right) (sh .buckets + (T i) .right) (2 * ((T i) .seen / 2) + 1) (m .cells (sh .buckets + (T i) .right)) refl) (omega arith)
+  at-x =
+      rw (upd-same (sh .buckets + (T i) .right) (sh .buckets + (T i) .right) (2 * ((T i) .seen / 2) + 1) (m .cells (sh .buckets + (T i) .right)) refl)
+      (omega arith)
 
   clean-not-x : (n : ℕ) → Clean sh wd marked n → n ≢ (T i) .right
   clean-not-x n c e = omega (arith, at-x, ap (λ y. marked .cells (sh .buckets + y) % 2) e)
@@ -198,7 +213,11 @@ module _ (sh : Shape) (wd : 0 < sh .width) (m : View) (ch : Chains) (T : ℕ →
       where
         ahead : (v : ℕ) → v ≢ i → Mem (scan v) M → (q : Element K) → Mem q (run [] M) → Ahead sh wd m ch (T v) q → Ahead sh wd marked ch (T v) q
         ahead v u k q j (n, h, inl e) = (n, holds ((T v) .bucket) q n (old q j .1) h, inl e)
-        ahead v u k q j (n, h, inr (a, b, rr)) = (n, holds ((T v) .bucket) q n (old q j .1) h, inr (a, b, reach-half sh (m .cells) (marked .cells) (marked-half sh m ch (Live (sh .workers) T) (P .lists) ((T i) .right) ((T i) .seen) was) rr))
+        ahead v u k q j (n, h, inr (a, b, rr)) = (
+          n,
+          holds ((T v) .bucket) q n (old q j .1) h,
+          inr (a, b, reach-half sh (m .cells) (marked .cells) (marked-half sh m ch (Live (sh .workers) T) (P .lists) ((T i) .right) ((T i) .seen) was) rr),
+        )
 
     absent-x : (c : ℕ) → c ≢ (T i) .ticket → c ≢ m .ticket ((T i) .right) → Absent c (g .order) → Absent c M
     absent-x c u v a e j k h = go (F .new e k j)
@@ -242,10 +261,14 @@ module _ (sh : Shape) (wd : 0 < sh .width) (m : View) (ch : Chains) (T : ℕ →
       distinct = F .distinct;
       from = λ q j. let (y, u) = old q j in let (n, h) = O .whole .from q y in (n, holds (bucket q) q n u h);
       into = λ b n s j c e. let u = clean-not-x n c in
-          subst (λ S. Mem (arr sh wd m n) S) (sym (F .queue)) (mem-without (run [] (g .order)) x (λ f. u (is-x b n j (ap (λ (a : Element K). a .it) f))) (O .whole .into b n s j (rw (same-cell n u) at c) e));
+          subst (λ S. Mem (arr sh wd m n) S) (sym (F .queue)) (mem-without (run [] (g .order)) x (λ f. u (is-x b n j (ap (λ (a : Element K). a .it) f)))
+          (O .whole .into b n s j (rw (same-cell n u) at c) e));
       pending = λ b n j c e. let u = clean-not-x n c in
-          absent-x (m .ticket n) (λ f. none-some _ (sym log-c ∙ ap (g .what) (sym f) ∙ O .whole .logged n (chain-node b n j) (λ z. omega (arith, O .whole .ticketed b n j))))
-          (λ f. u (one-node sh m ch T P n ((T i) .right) (chain-node b n j) isNode (O .whole .ticketed b n j) f)) (O .whole .pending b n j (rw (same-cell n u) at c) e);
+          absent-x (m .ticket n) (λ f. Option·none-ne-some _ (sym log-c
+          ∙ ap (g .what) (sym f)
+          ∙ O .whole .logged n (chain-node b n j) (λ z. omega (arith, O .whole .ticketed b n j))))
+          (λ f. u (one-node sh m ch T P n ((T i) .right) (chain-node b n j) isNode (O .whole .ticketed b n j) f))
+          (O .whole .pending b n j (rw (same-cell n u) at c) e);
       ticketed = O .whole .ticketed;
       current = λ q j. O .whole .current q (old q j .0);
       past = O .whole .past;
@@ -269,12 +292,17 @@ module _ (sh : Shape) (wd : 0 < sh .width) (m : View) (ch : Chains) (T : ℕ →
         mine-now : with-record T i next i ≡ next
         mine-now = upd-same i i next (T i) refl
 
-        held : (z : Element K) (c : ℕ) → g .hist .end c ≡ running → Mem (dequeue z c) (g .order) ⊎ (dequeue z c ≡ dequeue x ((T i) .ticket)) ⊎ (dequeue z c ≡ enqueue x) → (v : ℕ) × (v < sh .workers) × Holder sh wd marked (with-record T i next v) z c
+        held : (z : Element K) (c : ℕ) → g .hist .end c ≡ running → Mem (dequeue z c) (g .order) ⊎ (dequeue z c ≡ dequeue x ((T i) .ticket))
+            ⊎ (dequeue z c ≡ enqueue x) → (v : ℕ) × (v < sh .workers) × Holder sh wd marked (with-record T i next v) z c
         held z c e (inl j) = held-close sh wd m marked T i next z c (λ h. absurd (omega (arith, h .hi))) (λ v n lv h. h) (O .whole .held z c j e)
         held z c e (inr (inl j)) =
             let f : z ≡ x = cc in
-            let h : c ≡ (T i) .ticket = cc in
-            (i, l, subst (λ u. Holder sh wd marked u z c) (sym mine-now) (record { isDequeue = kind-1; lo = omega arith; hi = omega arith; bears = sym h; key = ap (λ (a : Element K). a .it) (sym f) }))
+            let h : c ≡ (T i) .ticket = cc in (
+              i,
+              l,
+              subst (λ u. Holder sh wd marked u z c) (sym mine-now)
+                  (record { isDequeue = kind-1; lo = omega arith; hi = omega arith; bears = sym h; key = ap (λ (a : Element K). a .it) (sym f) }),
+            )
         held z c e (inr (inr j)) = absurd (let y : _≡_ {A = ℕ} 0 1 = cc in omega arith)
 
     others : (v : ℕ) → v ≢ i → v < sh .workers → Part sh wd marked (grown M) v (T v)
@@ -294,7 +322,8 @@ module _ (sh : Shape) (wd : 0 < sh .width) (m : View) (ch : Chains) (T : ℕ →
         mark k (yes e) = inr (subst (λ n. Mem (enqueue (arr sh wd m n)) M) (sym e) (F .has-enqueue))
         mark k (no n) = inl (rw (same-cell ((T v) .own) n) at k)
 
-        absent : ((1 ≤ (T v) .stage) × ((T v) .stage ≤ 5) × ((T v) .kind ≡ 0)) ⊎ (8 ≤ (T v) .stage) → Absent ((T v) .ticket) (g .order) → Absent ((T v) .ticket) M
+        absent : ((1 ≤ (T v) .stage) × ((T v) .stage ≤ 5) × ((T v) .kind ≡ 0)) ⊎ (8 ≤ (T v) .stage) → Absent ((T v) .ticket) (g .order)
+            → Absent ((T v) .ticket) M
         absent h a = absent-x ((T v) .ticket) (P .apart v i lv l u (live h) busy) (other h) a
           where
             live : ((1 ≤ (T v) .stage) × ((T v) .stage ≤ 5) × ((T v) .kind ≡ 0)) ⊎ (8 ≤ (T v) .stage) → (T v) .stage ≢ 0
@@ -310,7 +339,7 @@ module _ (sh : Shape) (wd : 0 < sh .width) (m : View) (ch : Chains) (T : ℕ →
                 let p = P .knows v lv .search b c .enqueueOwn d c in
                 let f : (T i) .right ≡ (T v) .own = one-node sh m ch T P ((T i) .right) ((T v) .own) isNode (p .isNode) pos-x (sym e ∙ sym (p .ticketed)) in
                 p .out ((T i) .bucket) (subst (λ (n : ℕ). In n (ch ((T i) .bucket))) f inside)
-            other (inr b) e = none-some _ (sym (O .parts v lv .dequeuer (live (inr b)) (take-kind b (P .knows v lv .kinds))) ∙ ap (g .what) e ∙ log-x)
+            other (inr b) e = Option·none-ne-some _ (sym (O .parts v lv .dequeuer (live (inr b)) (take-kind b (P .knows v lv .kinds))) ∙ ap (g .what) e ∙ log-x)
 
     mine : Part sh wd marked (grown M) i next
     mine = record {

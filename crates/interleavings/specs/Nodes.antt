@@ -1,7 +1,6 @@
 -- Nodes, their tickets, and what lies behind a node on its links. Assumes nothing.
 use mathlib.Core.Path.{_≡_, sym, subst}
 use mathlib.Core.Logic.{_⊎_, inl, inr}
-use mathlib.Core.Option.{none, some}
 use Prim.Native.Nat.{ℕ, _+_, _/_, _≤_, _<_}
 use native.Mathlib.Omega.{arith}
 use native.Mathlib.Decide.{ℕ-discrete}
@@ -21,7 +20,8 @@ reach-trans sh c a (Reach.step l r) = Reach.step l (reach-trans sh c a r)
 pub reach-above : (sh : Shape) (m : View) (ch : Chains) (Live : ℕ → Type 0) → Lists sh m ch Live → (c n : ℕ) {r : ℕ} → Live c → n < sh .nodes → Safe sh m ch c r
     → Reach sh (m .cells) n r → (r ≡ n) ⊎ Lt m r n
 reach-above sh m ch Live I c n v nn s (Reach.stop e) = inl e
-reach-above sh m ch Live I c n v nn s (Reach.step {n = r} l rest) = go (m .cells (sh .buckets + r) / 2) (safe-next sh m ch Live I c r v l s) rest (λ f. reach-above sh m ch Live I c n v nn f rest)
+reach-above sh m ch Live I c n v nn s (Reach.step {n = r} l rest) =
+    go (m .cells (sh .buckets + r) / 2) (safe-next sh m ch Live I c r v l s) rest (λ f. reach-above sh m ch Live I c n v nn f rest)
   where
     go : (q : ℕ) → (q ≡ sh .nodes) ⊎ Follows sh m ch c r q → Reach sh (m .cells) n q → (Safe sh m ch c q → (q ≡ n) ⊎ Lt m q n) → (r ≡ n) ⊎ Lt m r n
     go q (inl e) (Reach.stop f) ih = absurd (omega arith)
@@ -33,12 +33,10 @@ reach-above sh m ch Live I c n v nn s (Reach.step {n = r} l rest) = go (m .cells
         pick (inr h) = inr (lower-trans (itemIn m r) (itemIn m q) (itemIn m n) (f .above) h)
 
 -- two nodes with one ticket are one
-pub one-node : (sh : Shape) (m : View) (ch : Chains) (T : ℕ → Worker) → Inv sh m ch T → (a b : ℕ) → a < sh .nodes → b < sh .nodes → 1 ≤ m .ticket a → m .ticket a ≡ m .ticket b → a ≡ b
+pub one-node : (sh : Shape) (m : View) (ch : Chains) (T : ℕ → Worker) → Inv sh m ch T → (a b : ℕ) → a < sh .nodes → b < sh .nodes → 1 ≤ m .ticket a
+    → m .ticket a ≡ m .ticket b → a ≡ b
 one-node sh m ch T P a b la lb pos e = go (ℕ-discrete a b)
   where
     go : Dec (a ≡ b) → a ≡ b
     go (yes h) = h
     go (no n) = absurd (omega (arith, P .unique a b la lb n e))
-
-pub none-some : {A : Type 0} (x : A) → none ≡ some x → ⊥
-none-some x e = let z : _≡_ {A = ℕ} 0 1 = cc in omega arith

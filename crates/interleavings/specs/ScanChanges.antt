@@ -1,4 +1,11 @@
--- Changes of the order that leave the store: scans set and removed, calls that end. Assumes nothing.
+-- Changes of the order that leave the store: scans set and removed, calls that end.
+--     Tickets, tickets-of            the tickets of calls and of nodes
+--     ordered, restyle               another order; where only scans differ
+--     quiet                          only a record changes
+--     unscanned, rescanned           a scan is removed; is set to the end
+--     over, ends-over, ended-inj     a call ends
+--     closed, settled                the account then, and the invariant
+-- Assumes nothing.
 use mathlib.Core.Path.{_≡_, refl, sym, ap, _∙_, subst}
 use mathlib.Core.Bool.{cond}
 use mathlib.Core.Logic.{_≢_, _⊎_, inl, inr}
@@ -9,10 +16,8 @@ use native.Mathlib.Decide.{ℕ-discrete}
 use lib.Dec.{eqb}
 use Rattle.arrival.specs.declared.Shape.{Shape}
 use Rattle.arrival.specs.declared.Worker.{Worker}
-use Rattle.calendar.specs.facts.Views.{View, upd-same, upd-other, upd-cases}
-use Rattle.lists.specs.Chain.{In}
-use Rattle.lists.specs.LinkInvariant.{Chains, home}
-use Rattle.lists.specs.AllCalls.{Rest, with-record}
+use Rattle.laws.specs.Tests.{upd-same, upd-other, upd-cases}
+use Rattle.calendar.specs.facts.Views.{View}
 use Rattle.order.specs.Entries.{Keys, Element, Entry, enqueue, dequeue, empty, scan, Order, ticket, bucket, run}
 use Rattle.order.specs.RealTime.{running, ended, Hist, ticket-of}
 use Rattle.order.specs.Scans.{Alike, nil, right, alike-append, alike-refl, alike-sym, alike-run, alike-mem, alike-unscan, unscan, running-ended}
@@ -20,8 +25,12 @@ use Rattle.order.specs.OrderAfterMark.{Inv as Orderly, inv-unscan}
 use Rattle.order.specs.Appending.{Ends, inv-scan, unscan-mem}
 use Rattle.order.specs.Calls.{Call, Distinct, scans, scans-unscan}
 use Rattle.order.specs.EntriesAfterMark.{alike-distinct, alike-call, scans-in, scans-out}
+use Rattle.lists.specs.Chain.{In}
+use Rattle.lists.specs.LinkInvariant.{Chains, home}
+use Rattle.lists.specs.AllCalls.{Rest, with-record}
 use Rattle.interleavings.specs.ItemKeys.{keys, arr, Holds, Ahead, walk}
-use Rattle.interleavings.specs.Joint.{Holder, held-close, Ghost, Absent, Logged, Clean, Part, walks, Ord, part-left, orderly-shift, parts-close, scans-close}
+use Rattle.interleavings.specs.Joint.{Holder, held-close, Ghost, Absent, Logged, Clean, Part, walks, Ord, part-left, orderly-shift, parts-close}
+use Rattle.interleavings.specs.Joint.{scans-close}
 
 -- the tickets of the calls in progress and of the nodes
 abbrev pub Tickets : Shape → View → Chains → (ℕ → Worker) → Type 0
@@ -44,7 +53,8 @@ tickets-of sh m ch T i P = record {
   member = λ b n j. let x = P .lists .member b n j in (x .isNode, x .at-home, x .inRange);
 }
 
-module _ (sh : Shape) (wd : 0 < sh .width) (m : View) (ch : Chains) (T : ℕ → Worker) (g : Ghost (keys sh wd)) (O : Ord sh wd m ch T g) (i : ℕ) (w′ : Worker) (hold : (z : Element (keys sh wd)) (c : ℕ) → Holder sh wd m (T i) z c → Holder sh wd m w′ z c) where
+module _ (sh : Shape) (wd : 0 < sh .width) (m : View) (ch : Chains) (T : ℕ → Worker) (g : Ghost (keys sh wd)) (O : Ord sh wd m ch T g) (i : ℕ) (w′ : Worker)
+    (hold : (z : Element (keys sh wd)) (c : ℕ) → Holder sh wd m (T i) z c → Holder sh wd m w′ z c) where
   abbrev K : Keys
   K = keys sh wd
 
@@ -52,7 +62,8 @@ module _ (sh : Shape) (wd : 0 < sh .width) (m : View) (ch : Chains) (T : ℕ →
   ordered L = record { hist = g .hist; order = L; what = g .what; said = g .said }
 
   -- ── scans only ──
-  module _ (L : Order (keys sh wd)) (a : Alike (g .order) L) (scan-in : (v : ℕ) → v ≢ i → Mem (scan v) (g .order) → Mem (scan v) L) (scan-out : (v : ℕ) → v ≢ i → Mem (scan v) L → Mem (scan v) (g .order)) where
+  module _ (L : Order (keys sh wd)) (a : Alike (g .order) L) (scan-in : (v : ℕ) → v ≢ i → Mem (scan v) (g .order) → Mem (scan v) L)
+      (scan-out : (v : ℕ) → v ≢ i → Mem (scan v) L → Mem (scan v) (g .order)) where
     same-run : run [] (g .order) ≡ run [] L
     same-run = alike-run [] a
 
@@ -69,7 +80,8 @@ module _ (sh : Shape) (wd : 0 < sh .width) (m : View) (ch : Chains) (T : ℕ →
         go (inl k) = h e k
         go (inr (v, f)) = subst Z (sym f) (s v)
 
-    pub restyle : Orderly (g .hist) (walks sh wd m ch (with-record T i w′)) [] L → (Mem (scan i) L → (i < sh .workers) × (9 ≤ w′ .stage)) → Part sh wd m (ordered L) i w′ → Ord sh wd m ch (with-record T i w′) (ordered L)
+    pub restyle : Orderly (g .hist) (walks sh wd m ch (with-record T i w′)) [] L → (Mem (scan i) L → (i < sh .workers) × (9 ≤ w′ .stage))
+        → Part sh wd m (ordered L) i w′ → Ord sh wd m ch (with-record T i w′) (ordered L)
     restyle I mine p = record {
       whole = record {
         orderly = I;
@@ -105,18 +117,22 @@ module _ (sh : Shape) (wd : 0 < sh .width) (m : View) (ch : Chains) (T : ℕ →
     }
 
   -- ── record i changes only ──
-  pub quiet : (Mem (scan i) (g .order) → (9 ≤ w′ .stage) × (w′ .ticket ≡ (T i) .ticket) × (w′ .bucket ≡ (T i) .bucket) × (w′ .current ≡ (T i) .current) × ((q : Element (keys sh wd)) → Mem q (run [] (g .order)) → Ahead sh wd m ch (T i) q → Ahead sh wd m ch w′ q))
+  pub quiet : (Mem (scan i) (g .order) → (9 ≤ w′ .stage) × (w′ .ticket ≡ (T i) .ticket) × (w′ .bucket ≡ (T i) .bucket) × (w′ .current ≡ (T i) .current)
+      × ((q : Element (keys sh wd)) → Mem q (run [] (g .order)) → Ahead sh wd m ch (T i) q → Ahead sh wd m ch w′ q))
       → Part sh wd m g i w′ → Ord sh wd m ch (with-record T i w′) (ordered (g .order))
   quiet mine p = restyle (g .order) (alike-refl (g .order)) (λ v u j. j) (λ v u j. j)
-      (orderly-shift sh wd m ch m ch T i w′ (g .hist) (g .order) (λ j. let h = mine j in (h .1, h .2, ap (λ x. x % 4294967296) (h .3), h .4)) (λ v u j q k h. h) (O .whole .orderly))
+      (orderly-shift sh wd m ch m ch T i w′ (g .hist) (g .order) (λ j. let h = mine j in (h .1, h .2, ap (λ x. x % 4294967296) (h .3), h .4)) (λ v u j q k h. h)
+      (O .whole .orderly))
       (λ j. (O .whole .scans i j .0, mine j .0)) p
 
   -- ── w's scan is removed ──
   pub unscanned : Part sh wd m (ordered (unscan (g .order) i)) i w′ → Ord sh wd m ch (with-record T i w′) (ordered (unscan (g .order) i))
   unscanned p =
       let L : Order K = unscan (g .order) i in
-      restyle L (alike-unscan (g .order) i) (λ v u j. scans-out v L (omega (arith, scans-unscan v i (g .order) u, scans-in v (g .order) j))) (λ v u j. scans-out v (g .order) (omega (arith, scans-unscan v i (g .order) u, scans-in v L j)))
-      (orderly-shift sh wd m ch m ch T i w′ (g .hist) L (λ j. absurd (unscan-mem (g .order) i i j refl)) (λ v u j q k h. h) (inv-unscan (g .hist) (walks sh wd m ch T) [] (g .order) i (O .whole .orderly)))
+      restyle L (alike-unscan (g .order) i) (λ v u j. scans-out v L (omega (arith, scans-unscan v i (g .order) u, scans-in v (g .order) j)))
+      (λ v u j. scans-out v (g .order) (omega (arith, scans-unscan v i (g .order) u, scans-in v L j)))
+      (orderly-shift sh wd m ch m ch T i w′ (g .hist) L (λ j. absurd (unscan-mem (g .order) i i j refl)) (λ v u j q k h. h) (inv-unscan (g .hist)
+      (walks sh wd m ch T) [] (g .order) i (O .whole .orderly)))
       (λ j. absurd (unscan-mem (g .order) i i j refl)) p
 
   -- ── w's scan is set to the end (8; 12, success) ──
@@ -130,7 +146,8 @@ module _ (sh : Shape) (wd : 0 < sh .width) (m : View) (ch : Chains) (T : ℕ →
       (inv-scan (g .hist) (walks sh wd m ch T) (walks sh wd m ch (with-record T i w′)) [] (g .order) i (O .whole .orderly)
       (λ v u. ap (walk sh wd m ch) (upd-other i v w′ (T v) (λ e. u (sym e))))
       (λ q j. subst (λ u. walk sh wd m ch u .floor ≤ bucket q) (sym here-now) (rw low (O .whole .current q j)))
-      (λ q j. subst (λ u. bucket q ≡ walk sh wd m ch u .floor → walk sh wd m ch u .Ahead q) (sym here-now) (λ e. let (n, h) = O .whole .from q j in (n, subst (λ b. Holds sh wd m ch b q n) e h, inl nine))))
+      (λ q j. subst (λ u. bucket q ≡ walk sh wd m ch u .floor → walk sh wd m ch u .Ahead q) (sym here-now) (λ e. let (n, h) = O .whole .from q j in
+      (n, subst (λ b. Holds sh wd m ch b q n) e h, inl nine))))
       (λ j. (l, omega arith)) p
     where
       here-now : with-record T i w′ i ≡ w′
@@ -145,19 +162,34 @@ abbrev pub over : Hist → ℕ → ℕ → ℕ → Hist
 over H c s e = record { end = λ n. cond (eqb c n) (ended s) (H .end n); late = λ n. cond (eqb c n) e (H .late n) }
 
 pub ends-over : (H : Hist) (c s e : ℕ) → H .end c ≡ running → Ends H (over H c s e) c s
-ends-over H c s e r = record { ran = r; over = upd-same c c (ended s) (H .end c) refl; other-end = λ n u. upd-other c n (ended s) (H .end n) (λ f. u (sym f)); other-late = λ n u. upd-other c n e (H .late n) (λ f. u (sym f)) }
+ends-over H c s e r =
+    record {
+      ran = r;
+      over = upd-same c c (ended s) (H .end c) refl;
+      other-end = λ n u. upd-other c n (ended s) (H .end n) (λ f. u (sym f));
+      other-late = λ n u. upd-other c n e (H .late n) (λ f. u (sym f));
+    }
 
 pub ended-inj : (s t : ℕ) → ended s ≡ ended t → s ≡ t
 ended-inj s t e = let z : s ≡ t = cc in z
 
-module _ (sh : Shape) (wd : 0 < sh .width) (m : View) (ch : Chains) (T : ℕ → Worker) (g : Ghost (keys sh wd)) (O : Ord sh wd m ch T g) (S : Tickets sh m ch T) (i : ℕ) (l : i < sh .workers) (busy : (T i) .stage ≢ 0)
+module _ (sh : Shape) (wd : 0 < sh .width) (m : View) (ch : Chains) (T : ℕ → Worker) (g : Ghost (keys sh wd)) (O : Ord sh wd m ch T g) (S : Tickets sh m ch T)
+    (i : ℕ) (l : i < sh .workers) (busy : (T i) .stage ≢ 0)
     (w′ : Worker) (idle : w′ .stage ≡ 0) (L : Order (keys sh wd)) (ent : Entry (keys sh wd)) where
   abbrev pub closed : Ghost (keys sh wd)
-  closed = record { hist = over (g .hist) ((T i) .ticket) (m .started) (m .current % 4294967296); order = L; what = g .what; said = λ n. cond (eqb ((T i) .ticket) n) ent (g .said n) }
+  closed =
+      record {
+        hist = over (g .hist) ((T i) .ticket) (m .started) (m .current % 4294967296);
+        order = L;
+        what = g .what;
+        said = λ n. cond (eqb ((T i) .ticket) n) ent (g .said n);
+      }
 
   -- what is over now: this call, or what was over
   was-over : (n s : ℕ) → closed .hist .end n ≡ ended s → ((n ≡ (T i) .ticket) × (s ≡ m .started)) ⊎ ((n ≢ (T i) .ticket) × (g .hist .end n ≡ ended s))
-  was-over n s = upd-cases (λ n d. d ≡ ended s → ((n ≡ (T i) .ticket) × (s ≡ m .started)) ⊎ ((n ≢ (T i) .ticket) × (g .hist .end n ≡ ended s))) (g .hist .end) ((T i) .ticket) (ended (m .started))
+  was-over n s =
+      upd-cases (λ n d. d ≡ ended s → ((n ≡ (T i) .ticket) × (s ≡ m .started)) ⊎ ((n ≢ (T i) .ticket) × (g .hist .end n ≡ ended s))) (g .hist .end)
+      ((T i) .ticket) (ended (m .started))
       (λ e. inl (refl, sym (ended-inj (m .started) s e))) (λ n u e. inr (u, e)) n
 
   late-other : (n : ℕ) → n ≢ (T i) .ticket → closed .hist .late n ≡ g .hist .late n
@@ -181,7 +213,8 @@ module _ (sh : Shape) (wd : 0 < sh .width) (m : View) (ch : Chains) (T : ℕ →
         go (inl y) = h e y k f
         go (inr y) = u (sym f ∙ ap ticket-of y ∙ ticketed)
 
-    any : (Z : Entry (keys sh wd) → Type 0) → ((v : ℕ) → Z (scan v)) → Z ent → ((e : Entry (keys sh wd)) → Mem e (g .order) → Z e) → (e : Entry (keys sh wd)) → Mem e L → Z e
+    any : (Z : Entry (keys sh wd) → Type 0) → ((v : ℕ) → Z (scan v)) → Z ent → ((e : Entry (keys sh wd)) → Mem e (g .order) → Z e) → (e : Entry (keys sh wd))
+        → Mem e L → Z e
     any Z s z h e j = go e (λ k. new e k j)
       where
         pick : (e : Entry (keys sh wd)) → Mem e (g .order) ⊎ (e ≡ ent) → Z e
@@ -222,34 +255,48 @@ module _ (sh : Shape) (wd : 0 < sh .width) (m : View) (ch : Chains) (T : ℕ →
       parts = parts-close sh wd m T closed i w′ mine others;
     }
       where
-        into′ : (b n s : ℕ) → In n (ch b) → Clean sh wd m n → ((m .ticket n ≡ (T i) .ticket) × (s ≡ m .started)) ⊎ ((m .ticket n ≢ (T i) .ticket) × (g .hist .end (m .ticket n) ≡ ended s)) → Mem (arr sh wd m n) (run [] L)
+        into′ : (b n s : ℕ) → In n (ch b) → Clean sh wd m n → ((m .ticket n ≡ (T i) .ticket) × (s ≡ m .started)) ⊎ ((m .ticket n ≢ (T i) .ticket)
+            × (g .hist .end (m .ticket n) ≡ ended s)) → Mem (arr sh wd m n) (run [] L)
         into′ b n s j c (inl (e, f)) = into b n j c e
         into′ b n s j c (inr (u, e)) = grow (arr sh wd m n) (O .whole .into b n s j c e)
 
-        pending : (b n : ℕ) → In n (ch b) → Clean sh wd m n → closed .hist .end (m .ticket n) ≡ running → Dec (m .ticket n ≡ (T i) .ticket) → Absent (m .ticket n) L
-        pending b n j c e (yes f) = absurd (running-ended (m .started) (sym e ∙ upd-same ((T i) .ticket) (m .ticket n) (ended (m .started)) (g .hist .end (m .ticket n)) (sym f)))
-        pending b n j c e (no u) = absent (m .ticket n) u (O .whole .pending b n j c (sym (upd-other ((T i) .ticket) (m .ticket n) (ended (m .started)) (g .hist .end (m .ticket n)) (λ f. u (sym f))) ∙ e))
+        pending : (b n : ℕ) → In n (ch b) → Clean sh wd m n → closed .hist .end (m .ticket n) ≡ running → Dec (m .ticket n ≡ (T i) .ticket)
+            → Absent (m .ticket n) L
+        pending b n j c e (yes f) =
+            absurd (running-ended (m .started) (sym e ∙ upd-same ((T i) .ticket) (m .ticket n) (ended (m .started)) (g .hist .end (m .ticket n)) (sym f)))
+        pending b n j c e (no u) =
+            absent (m .ticket n) u (O .whole .pending b n j c (sym (upd-other ((T i) .ticket) (m .ticket n) (ended (m .started)) (g .hist .end (m .ticket n))
+            (λ f. u (sym f)))
+            ∙ e))
 
         past : (c s : ℕ) → ((c ≡ (T i) .ticket) × (s ≡ m .started)) ⊎ ((c ≢ (T i) .ticket) × (g .hist .end c ≡ ended s)) → s ≤ m .started
         past c s (inl (e, f)) = omega arith
         past c s (inr (u, e)) = O .whole .past c s e
 
-        lates : (c s : ℕ) → ((c ≡ (T i) .ticket) × (s ≡ m .started)) ⊎ ((c ≢ (T i) .ticket) × (g .hist .end c ≡ ended s)) → closed .hist .late c ≤ m .current % 4294967296
+        lates : (c s : ℕ) → ((c ≡ (T i) .ticket) × (s ≡ m .started)) ⊎ ((c ≢ (T i) .ticket) × (g .hist .end c ≡ ended s))
+            → closed .hist .late c ≤ m .current % 4294967296
         lates c s (inl (e, f)) = omega (arith, late-here c e)
         lates c s (inr (u, e)) = omega (arith, late-other c u, O .whole .lates c s e)
 
-        epochs : (b n c s : ℕ) → In n (ch b) → s < m .ticket n → ((c ≡ (T i) .ticket) × (s ≡ m .started)) ⊎ ((c ≢ (T i) .ticket) × (g .hist .end c ≡ ended s)) → closed .hist .late c ≤ m .epoch n
+        epochs : (b n c s : ℕ) → In n (ch b) → s < m .ticket n → ((c ≡ (T i) .ticket) × (s ≡ m .started)) ⊎ ((c ≢ (T i) .ticket) × (g .hist .end c ≡ ended s))
+            → closed .hist .late c ≤ m .epoch n
         epochs b n c s j h (inl (e, f)) = absurd (omega (arith, S .bounded n (S .member b n j .0)))
         epochs b n c s j h (inr (u, e)) = omega (arith, late-other c u, O .whole .epochs b n c s j e h)
 
-        finished : (c s : ℕ) → ((c ≡ (T i) .ticket) × (s ≡ m .started)) ⊎ ((c ≢ (T i) .ticket) × (g .hist .end c ≡ ended s)) → Mem (closed .said c) L × Call (closed .said c) × (ticket-of (closed .said c) ≡ c)
+        finished : (c s : ℕ) → ((c ≡ (T i) .ticket) × (s ≡ m .started)) ⊎ ((c ≢ (T i) .ticket) × (g .hist .end c ≡ ended s))
+            → Mem (closed .said c) L × Call (closed .said c) × (ticket-of (closed .said c) ≡ c)
         finished c s (inl (e, f)) = rw (upd-same ((T i) .ticket) c ent (g .said c) (sym e)) (there-now, call, ticketed ∙ sym e)
-        finished c s (inr (u, e)) = let (y, k, z) = O .whole .finished c s e in rw (upd-other ((T i) .ticket) c ent (g .said c) (λ f. u (sym f))) (kept (g .said c) k y, k, z)
+        finished c s (inr (u, e)) =
+            let (y, k, z) = O .whole .finished c s e in rw (upd-other ((T i) .ticket) c ent (g .said c) (λ f. u (sym f))) (kept (g .said c) k y, k, z)
 
-        held : (z : Element (keys sh wd)) (c : ℕ) → closed .hist .end c ≡ running → Mem (dequeue z c) (g .order) ⊎ (dequeue z c ≡ ent) → Dec (c ≡ (T i) .ticket) → (v : ℕ) × (v < sh .workers) × Holder sh wd m (with-record T i w′ v) z c
+        held : (z : Element (keys sh wd)) (c : ℕ) → closed .hist .end c ≡ running → Mem (dequeue z c) (g .order) ⊎ (dequeue z c ≡ ent) → Dec (c ≡ (T i) .ticket)
+            → (v : ℕ) × (v < sh .workers) × Holder sh wd m (with-record T i w′ v) z c
         held z c e j (yes f) = absurd (running-ended (m .started) (sym e ∙ upd-same ((T i) .ticket) c (ended (m .started)) (g .hist .end c) (sym f)))
         held z c e (inr j) (no u) = absurd (u (ap ticket-of j ∙ ticketed))
-        held z c e (inl j) (no u) = held-close sh wd m m T i w′ z c (λ h. absurd (u (sym (h .bears)))) (λ v n lv h. h) (O .whole .held z c j (sym (upd-other ((T i) .ticket) c (ended (m .started)) (g .hist .end c) (λ f. u (sym f))) ∙ e))
+        held z c e (inl j) (no u) =
+            held-close sh wd m m T i w′ z c (λ h. absurd (u (sym (h .bears)))) (λ v n lv h. h)
+            (O .whole .held z c j (sym (upd-other ((T i) .ticket) c (ended (m .started)) (g .hist .end c) (λ f. u (sym f)))
+            ∙ e))
 
         proper : (e : Entry (keys sh wd)) → Call e → Mem e (g .order) ⊎ (e ≡ ent) → 1 ≤ ticket-of e
         proper e c (inl j) = O .whole .proper e j c
@@ -287,7 +334,8 @@ module _ (sh : Shape) (wd : 0 < sh .width) (m : View) (ch : Chains) (T : ℕ →
             live (inl (b, c, d)) e = omega arith
             live (inr b) e = omega arith
 
-            epoch : (c s : ℕ) → s < (T v) .ticket → (T v) .ticket ≤ m .started → ((c ≡ (T i) .ticket) × (s ≡ m .started)) ⊎ ((c ≢ (T i) .ticket) × (g .hist .end c ≡ ended s))
+            epoch : (c s : ℕ) → s < (T v) .ticket → (T v) .ticket ≤ m .started
+                → ((c ≡ (T i) .ticket) × (s ≡ m .started)) ⊎ ((c ≢ (T i) .ticket) × (g .hist .end c ≡ ended s))
                 → (g .hist .end c ≡ ended s) × (closed .hist .late c ≡ g .hist .late c) × (m .epoch ((T v) .own) ≡ m .epoch ((T v) .own))
             epoch c s h k (inl (e, f)) = absurd (omega arith)
             epoch c s h k (inr (w, e)) = (e, late-other c w, refl)

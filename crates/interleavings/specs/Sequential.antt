@@ -1,4 +1,8 @@
--- The sequential queue, fed an order's calls, gives the order's answers. Assumes nothing.
+-- The sequential queue, fed an order's calls, gives the order's answers.
+--     asks, answers, items     an order as calls and as replies; a queue as items
+--     Apart                    elements differ, and by their tickets
+--     plain                    the queue, fed the calls, gives the replies
+-- Assumes nothing.
 use mathlib.Core.Path.{_≡_, refl, sym, _∙_, ap, subst}
 use mathlib.Core.Bool.{Bool, true, false, cond}
 use mathlib.Core.Logic.{_⊎_, inl, inr}
@@ -14,7 +18,8 @@ use Rattle.arrival.specs.declared.Response.the-variants.{Stored, Empty}
 use Rattle.arrival.specs.Keys.{lower}
 use Rattle.arrival.specs.Queue as queue
 use Rattle.arrival.specs.Queue.{Call, Reply, lowerOf, lowest, remove, taken, replies}
-use Rattle.order.specs.Entries.{Element, enqueue, dequeue, empty, scan, Q, Order, _≺_, ticket, irrefl, trans, same?, at-most-below, keep, without, without-mem, Below, Legal}
+use Rattle.order.specs.Entries.{Element, enqueue, dequeue, empty, scan, Q, Order, _≺_, ticket, irrefl, trans, same?, at-most-below, keep, without, without-mem}
+use Rattle.order.specs.Entries.{Below, Legal}
 use Rattle.interleavings.specs.ItemKeys.{keys}
 
 module _ (sh : Shape) (wd : 1 ≤ sh .width) where
@@ -76,7 +81,8 @@ module _ (sh : Shape) (wd : 1 ≤ sh .width) where
   abbrev pub Apart : (Element (keys sh wd) → Type 0) → Type 0
   Apart Z = (y z : Element (keys sh wd)) → Z y → Z z → ((y ≡ z) ⊎ ((y ≺ z) ⊎ (z ≺ y))) × (ticket y ≡ ticket z → y ≡ z)
 
-  lowest-is : (S : Q (keys sh wd)) (z : Element (keys sh wd)) → ((y : Element (keys sh wd)) → Mem y S → (y ≡ z) ⊎ ((y ≺ z) ⊎ (z ≺ y))) → Mem z S → ¬ Below S z → lowest (items S) ≡ some (z .it)
+  lowest-is : (S : Q (keys sh wd)) (z : Element (keys sh wd)) → ((y : Element (keys sh wd)) → Mem y S → (y ≡ z) ⊎ ((y ≺ z) ⊎ (z ≺ y))) → Mem z S → ¬ Below S z
+      → lowest (items S) ≡ some (z .it)
   lowest-is S z t m n = go (lowest (items S)) (lowest-ok S)
     where
       go : (o : Option Item) → Lowest S o → o ≡ some (z .it)
@@ -95,11 +101,13 @@ module _ (sh : Shape) (wd : 1 ≤ sh .width) where
       go none h = refl
       go (some x) (y, e, k, l) = absurd (n y k)
 
-  removed : (S : Q (keys sh wd)) (z : Element (keys sh wd)) → ((y : Element (keys sh wd)) → Mem y S → ticket y ≡ ticket z → y ≡ z) → remove (ticket z) (items S) ≡ items (without S z)
+  removed : (S : Q (keys sh wd)) (z : Element (keys sh wd)) → ((y : Element (keys sh wd)) → Mem y S → ticket y ≡ ticket z → y ≡ z)
+      → remove (ticket z) (items S) ≡ items (without S z)
   removed [] z u = refl
   removed (p ∷ S) z u = go (same? p z) (removed S z (λ y m. u y (there m)))
     where
-      go : (d : Dec (p ≡ z)) → remove (ticket z) (items S) ≡ items (without S z) → cond (eqb (ticket p) (ticket z)) (remove (ticket z) (items S)) (p .it ∷ remove (ticket z) (items S)) ≡ items (keep d p (without S z))
+      go : (d : Dec (p ≡ z)) → remove (ticket z) (items S) ≡ items (without S z)
+          → cond (eqb (ticket p) (ticket z)) (remove (ticket z) (items S)) (p .it ∷ remove (ticket z) (items S)) ≡ items (keep d p (without S z))
       go (yes e) ih = rw (eq-eqb (ticket p) (ticket z) (ap ticket e)) ih
       go (no n) ih = rw (ne-eqb (ticket p) (ticket z) (λ e. n (u p (here refl) e))) (ap (p .it ∷_) ih)
 
@@ -114,7 +122,8 @@ module _ (sh : Shape) (wd : 1 ≤ sh .width) where
       old y (inr j) = inr (there j)
   plain S (dequeue z c ∷ L) t l =
       let e : lowest (items S) ≡ some (z .it) = lowest-is S z (λ y j. t y z (inl j) (inl (l .0 .0)) .0) (l .0 .0) (l .0 .1) in
-      rw (e, removed S z (λ y j. t y z (inl j) (inl (l .0 .0)) .1)) (ap (record { response = taken (z .it); ticket = ticket z } ∷_) (plain (without S z) L (λ y x a b. t y x (old y a) (old x b)) (l .1)))
+      rw (e, removed S z (λ y j. t y z (inl j) (inl (l .0 .0)) .1))
+      (ap (record { response = taken (z .it); ticket = ticket z } ∷_) (plain (without S z) L (λ y x a b. t y x (old y a) (old x b)) (l .1)))
     where
       old : (y : Element (keys sh wd)) → Mem y (without S z) ⊎ Mem (enqueue y) L → Mem y S ⊎ Mem (enqueue y) (dequeue z c ∷ L)
       old y (inl j) = inl (without-mem S z j .0)

@@ -1,7 +1,4 @@
 pub mod Tests
-pub mod TestCases
+pub mod Lists
 pub mod Storing
-pub mod StoreRuns
-pub mod FillFront
-pub mod Every
-pub mod MoveFront
+pub mod Counting

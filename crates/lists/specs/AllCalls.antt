@@ -8,7 +8,8 @@ use lib.Dec.{eqb}
 use Rattle.arrival.specs.declared.Shape.{Shape}
 use Rattle.arrival.specs.declared.Worker.{Worker}
 use Rattle.arrival.specs.declared.Item.{Item}
-use Rattle.calendar.specs.facts.Views.{View, upd-cases}
+use Rattle.laws.specs.Tests.{upd-cases}
+use Rattle.calendar.specs.facts.Views.{View}
 use Rattle.lists.specs.LinkInvariant.{Chains, Lists}
 use Rattle.lists.specs.Knowledge.{Stands, Searches, Stable, stands, searches-stable}
 use Rattle.lists.specs.Marking.{fewer-keeps}
@@ -54,14 +55,18 @@ abbrev pub with-record : (ℕ → Worker) → ℕ → Worker → ℕ → Worker
 with-record T i w = λ j. cond (eqb i j) w (T j)
 
 -- A change that is stable for a call in progress keeps what its record knows.
-pub knows-stable : (sh : Shape) (m : View) (ch : Chains) (m′ : View) (ch′ : Chains) (w : Worker) → (w .stage ≢ 0 → Stable sh m ch m′ ch′ (w .ticket)) → Knows sh m ch w → Knows sh m′ ch′ w
+pub knows-stable : (sh : Shape) (m : View) (ch : Chains) (m′ : View) (ch′ : Chains) (w : Worker) → (w .stage ≢ 0 → Stable sh m ch m′ ch′ (w .ticket))
+    → Knows sh m ch w → Knows sh m′ ch′ w
 knows-stable sh m ch m′ ch′ w h k = record {
   kinds = k .kinds;
   dequeues = k .dequeues;
   enqueues = k .enqueues;
   search = λ l l′. searches-stable sh m ch m′ ch′ w (h (λ e. omega arith)) (k .search l l′) (k .kinds) (λ e. k .dequeues e (omega arith));
   linked = λ l l′. let x = k .linked l l′ in let y = h (λ e. omega arith) in
-      record { node = stands sh m ch m′ ch′ w y (w .bucket) (w .own) (x .node); ticketed = ap (λ (a : Item). a .ticket) (y .safe (w .own) (x .node .isNode) (x .node .safe) .key) ∙ x .ticketed };
+      record {
+        node = stands sh m ch m′ ch′ w y (w .bucket) (w .own) (x .node);
+        ticketed = ap (λ (a : Item). a .ticket) (y .safe (w .own) (x .node .isNode) (x .node .safe) .key) ∙ x .ticketed;
+      };
   walk = k .walk;
   stand = λ l l′. stands sh m ch m′ ch′ w (h (λ e. omega arith)) (w .bucket) (w .right) (k .stand l l′);
   old = λ e. let x = k .stand (omega arith) (omega arith) in rw (h (λ z. omega arith) .safe (w .right) (x .isNode) (x .safe) .epoch) (k .old e);
@@ -100,7 +105,8 @@ pub rest : (sh : Shape) (m : View) (ch : Chains) (T : ℕ → Worker) (i : ℕ) 
 rest sh m ch T i I = record { lists = I .lists; others = λ j h. I .knows j; apart = I .apart; unique = I .unique; bounded = I .bounded; positive = I .positive }
 
 -- A change that keeps the lists and the tickets and is stable for every other call keeps the rest.
-pub rest-stable : (sh : Shape) (m : View) (ch : Chains) (m′ : View) (ch′ : Chains) (T : ℕ → Worker) (i : ℕ) → i < sh .workers → (T i) .stage ≢ 0 → Rest sh m ch T i
+pub rest-stable : (sh : Shape) (m : View) (ch : Chains) (m′ : View) (ch′ : Chains) (T : ℕ → Worker) (i : ℕ) → i < sh .workers → (T i) .stage ≢ 0
+    → Rest sh m ch T i
     → ((n : ℕ) → m′ .ticket n ≡ m .ticket n) → m′ .started ≡ m .started → Lists sh m′ ch′ (Live (sh .workers) T)
     → ((c : ℕ) → Live (sh .workers) T c → c ≢ (T i) .ticket → Stable sh m ch m′ ch′ c) → Rest sh m′ ch′ T i
 rest-stable sh m ch m′ ch′ T i l u R st sd lists stable = record {

@@ -7,8 +7,9 @@ use native.Mathlib.Omega.{arith}
 use native.Mathlib.Decide.{ℕ-discrete}
 use Rattle.arrival.specs.declared.Shape.{Shape}
 use Rattle.arrival.specs.declared.Worker.{Worker}
-use Rattle.calendar.specs.facts.Views.{upd-same, upd-other}
-use Rattle.lists.specs.Chain.{In, Distinct, Spot, Edge, insertAt, removeAt}
+use Rattle.laws.specs.Tests.{upd-same, upd-other}
+use Rattle.laws.specs.Lists.{Once}
+use Rattle.lists.specs.Chain.{In, Spot, Edge, insertAt, removeAt}
 use Rattle.lists.specs.LinkInvariant.{Chains, setChain}
 use Rattle.lists.specs.AllCalls.{with-record}
 
@@ -25,7 +26,8 @@ pub tally-with : (f : Worker → ℕ) (T : ℕ → Worker) (i : ℕ) (w : Worker
 tally-with f T i w zero h = absurd (omega arith)
 tally-with f T i w (suc n) h = go (ℕ-discrete i n) (tally-with f T i w n)
   where
-    go : Dec (i ≡ n) → (i < n → tally f (with-record T i w) n + f (T i) ≡ tally f T n + f w) → f (with-record T i w n) + tally f (with-record T i w) n + f (T i) ≡ f (T n) + tally f T n + f w
+    go : Dec (i ≡ n) → (i < n → tally f (with-record T i w) n + f (T i) ≡ tally f T n + f w)
+        → f (with-record T i w n) + tally f (with-record T i w) n + f (T i) ≡ f (T n) + tally f T n + f w
     go (yes e) ih = omega (arith, ap f (upd-same i n w (T n) e), tally-out f T i w n (omega arith), ap (λ j. f (T j)) e)
     go (no u) ih = omega (arith, ap f (upd-other i n w (T n) u), ih (omega arith))
 
@@ -43,11 +45,13 @@ module _ (sh : Shape) where
   count-frame c d [] h = refl
   count-frame c d (n ∷ ns) h = omega (arith, h n (List·Memᴰ·head refl), count-frame c d ns (λ k j. h k (List·Memᴰ·tail j)))
 
-  pub total-frame : (c d : ℕ → ℕ) (ch : Chains) (b : ℕ) → ((q n : ℕ) → q < b → In n (ch q) → d (sh .buckets + n) % 2 ≡ c (sh .buckets + n) % 2) → total d ch b ≡ total c ch b
+  pub total-frame : (c d : ℕ → ℕ) (ch : Chains) (b : ℕ) → ((q n : ℕ) → q < b → In n (ch q) → d (sh .buckets + n) % 2 ≡ c (sh .buckets + n) % 2)
+      → total d ch b ≡ total c ch b
   total-frame c d ch zero h = refl
   total-frame c d ch (suc b) h = omega (arith, count-frame c d (ch b) (λ n. h b n (omega arith)), total-frame c d ch b (λ q n l. h q n (omega arith)))
 
-  pub count-insert : (c : ℕ → ℕ) {ℓ p : ℕ} {ns : List ℕ} (o : ℕ) (sp : Spot sh ℓ p ns) → count c (insertAt sh o sp) ≡ (1 - (c (sh .buckets + o) % 2)) + count c ns
+  pub count-insert : (c : ℕ → ℕ) {ℓ p : ℕ} {ns : List ℕ} (o : ℕ) (sp : Spot sh ℓ p ns)
+      → count c (insertAt sh o sp) ≡ (1 - (c (sh .buckets + o) % 2)) + count c ns
   unfolding insertAt
   count-insert c o (Spot.here e) = refl
   count-insert c o (Spot.there sp) = omega (arith, count-insert c o sp)
@@ -65,17 +69,25 @@ module _ (sh : Shape) where
   total-set c ch b xs zero h = absurd (omega arith)
   total-set c ch b xs (suc n) h = go (ℕ-discrete b n) (total-set c ch b xs n)
     where
-      go : Dec (b ≡ n) → (b < n → total c (setChain ch b xs) n + count c (ch b) ≡ total c ch n + count c xs) → count c (setChain ch b xs n) + total c (setChain ch b xs) n + count c (ch b) ≡ count c (ch n) + total c ch n + count c xs
+      go : Dec (b ≡ n) → (b < n → total c (setChain ch b xs) n + count c (ch b) ≡ total c ch n + count c xs)
+          → count c (setChain ch b xs n) + total c (setChain ch b xs) n + count c (ch b) ≡ count c (ch n) + total c ch n + count c xs
       go (yes e) ih = omega (arith, ap (count c) (upd-same b n xs (ch n) e), total-out c ch b xs n (omega arith), ap (λ j. count c (ch j)) e)
       go (no u) ih = omega (arith, ap (count c) (upd-other b n xs (ch n) u), ih (omega arith))
 
-  module _ (c d : ℕ → ℕ) (x : ℕ) (was : c (sh .buckets + x) % 2 ≡ 0) (is : d (sh .buckets + x) % 2 ≡ 1) (frame : (n : ℕ) → n ≢ x → d (sh .buckets + n) % 2 ≡ c (sh .buckets + n) % 2) where
-    count-mark : (ns : List ℕ) → Distinct ns → In x ns → count c ns ≡ 1 + count d ns
+  module _ (c d : ℕ → ℕ) (x : ℕ) (was : c (sh .buckets + x) % 2 ≡ 0) (is : d (sh .buckets + x) % 2 ≡ 1)
+      (frame : (n : ℕ) → n ≢ x → d (sh .buckets + n) % 2 ≡ c (sh .buckets + n) % 2) where
+    count-mark : (ns : List ℕ) → Once ns → In x ns → count c ns ≡ 1 + count d ns
     count-mark (n ∷ ns) ds (List·Memᴰ·head e) =
-        omega (arith, ap (λ y. c (sh .buckets + y) % 2) e, ap (λ y. d (sh .buckets + y) % 2) e, count-frame c d ns (λ k j. frame k (λ f. ds .0 k j (sym e ∙ sym f))))
+        omega (
+          arith,
+          ap (λ y. c (sh .buckets + y) % 2) e,
+          ap (λ y. d (sh .buckets + y) % 2) e,
+          count-frame c d ns (λ k j. frame k (λ f. ds .0 k j (sym e ∙ sym f))),
+        )
     count-mark (n ∷ ns) ds (List·Memᴰ·tail j) = omega (arith, frame n (ds .0 x j), count-mark ns (ds .1) j)
 
-    pub total-mark : (ch : Chains) (b : ℕ) → ((q : ℕ) → Distinct (ch q)) → In x (ch b) → ((q : ℕ) → In x (ch q) → q ≡ b) → (n : ℕ) → b < n → total c ch n ≡ 1 + total d ch n
+    pub total-mark : (ch : Chains) (b : ℕ) → ((q : ℕ) → Once (ch q)) → In x (ch b) → ((q : ℕ) → In x (ch q) → q ≡ b) → (n : ℕ) → b < n
+        → total c ch n ≡ 1 + total d ch n
     total-mark ch b ds j one zero h = absurd (omega arith)
     total-mark ch b ds j one (suc n) h = go (ℕ-discrete b n) (total-mark ch b ds j one n)
       where

@@ -1,19 +1,28 @@
 -- Chains of nodes, over any function `c` from cells to link words: the list met from a cell, a cell's spot on it, what
--- inserting a node behind a cell and taking one out do to it. No store. Assumes nothing.
+-- inserting a node behind a cell and taking one out do to it. No store.
+--     In, Runs                                    in a list; the links run through a list to the end
+--     Spot, Edge, Apart                           a cell of the chain; with the node behind it; no cell of it
+--     spot-of                                     a node's link is a spot
+--     insertAt, removeAt                          a node set behind a spot; the node of an edge taken out
+--     runs-half, runs-frame                       a run goes on where what it reads stays
+--     spot-apart, spot-not                        what is no spot
+--     insert-runs, remove-runs                    the runs after both
+--     edge-of, edge-spot, edge-in                 the edge behind a spot
+--     in-insert, insert-own, insert-in            who is in the list with the new node
+--     in-remove, remove-in, removed-ne            who is in the list without the old one
+--     Ascends, ascends-map, distinct              a list that ascends; it has each node once
+--     insert-ascends, remove-ascends, in-next     both keep it; behind a node comes the end or a higher node
+-- Assumes nothing.
 use mathlib.Core.Path.{_≡_, refl, ap, sym, _∙_}
 use mathlib.Core.List.{List, [], _∷_, List·Memᴰ, List·Memᴰ·head, List·Memᴰ·tail}
 use mathlib.Core.Logic.{_≢_, _⊎_, inl, inr}
 use Prim.Native.Nat.{ℕ, _+_, _/_}
 use native.Mathlib.Omega.{arith}
 use Rattle.arrival.specs.declared.Shape.{Shape}
+use Rattle.laws.specs.Lists.{Once}
 
 abbrev pub In : ℕ → List ℕ → Type 0
 In n ns = List·Memᴰ n ns
-
--- each differs from those behind it
-abbrev pub Distinct : List ℕ → Type 0
-Distinct [] = Unit {0}
-Distinct (n ∷ ns) = ((m : ℕ) → In m ns → n ≢ m) × Distinct ns
 
 module _ (sh : Shape) where
   -- from cell p the links run through ns to the end
@@ -50,7 +59,8 @@ module _ (sh : Shape) where
   pub runs-half : (c d : ℕ → ℕ) (ns : List ℕ) (p q : ℕ) → Runs c p ns → d q / 2 ≡ c p / 2
       → ((m : ℕ) → In m ns → d (sh .buckets + m) / 2 ≡ c (sh .buckets + m) / 2) → Runs d q ns
   runs-half c d [] p q r e h = e ∙ r
-  runs-half c d (n ∷ ns) p q r e h = (e ∙ r .0, runs-half c d ns (sh .buckets + n) (sh .buckets + n) (r .1) (h n (List·Memᴰ·head refl)) (λ m i. h m (List·Memᴰ·tail i)))
+  runs-half c d (n ∷ ns) p q r e h =
+      (e ∙ r .0, runs-half c d ns (sh .buckets + n) (sh .buckets + n) (r .1) (h n (List·Memᴰ·head refl)) (λ m i. h m (List·Memᴰ·tail i)))
 
   pub runs-frame : (c d : ℕ → ℕ) (ns : List ℕ) (p q : ℕ) → Runs c p ns → d q / 2 ≡ c p / 2
       → ((m : ℕ) → In m ns → d (sh .buckets + m) ≡ c (sh .buckets + m)) → Runs d q ns
@@ -66,17 +76,18 @@ module _ (sh : Shape) where
   spot-not x (here e) h a q = h (q ∙ sym e)
   spot-not x (there {n = n} sp) h a q = spot-not x sp (a n (List·Memᴰ·head refl)) (λ m i. a m (List·Memᴰ·tail i)) q
 
-  apart-in : {n : ℕ} {ns : List ℕ} → Distinct (n ∷ ns) → Apart (sh .buckets + n) ns
+  apart-in : {n : ℕ} {ns : List ℕ} → Once (n ∷ ns) → Apart (sh .buckets + n) ns
   apart-in {n} d m i e = d .0 m i (omega arith)
 
   module _ (c d : ℕ → ℕ) (ℓ o : ℕ) (toOwn : d ℓ / 2 ≡ o) (toRight : d (sh .buckets + o) / 2 ≡ c ℓ / 2)
       (frame : (x : ℕ) → x ≢ ℓ → x ≢ sh .buckets + o → d x ≡ c x) where
     pub insert-runs : {p : ℕ} {ns : List ℕ} (sp : Spot ℓ p ns) → Runs c p ns → Apart p ns → p ≢ sh .buckets + o
-        → ((m : ℕ) → In m ns → m ≢ o) → Distinct ns → Runs d p (insertAt o sp)
+        → ((m : ℕ) → In m ns → m ≢ o) → Once ns → Runs d p (insertAt o sp)
     unfolding insertAt
     insert-runs {p} {ns} (here e) r a po out ds = (
       ap (λ x. d x / 2) e ∙ toOwn,
-      runs-frame c d ns p (sh .buckets + o) r (toRight ∙ ap (λ x. c x / 2) (sym e)) (λ m i. frame (sh .buckets + m) (λ q. a m i (e ∙ sym q)) (λ q. out m i (omega arith))),
+      runs-frame c d ns p (sh .buckets + o) r (toRight ∙ ap (λ x. c x / 2) (sym e))
+          (λ m i. frame (sh .buckets + m) (λ q. a m i (e ∙ sym q)) (λ q. out m i (omega arith))),
     )
     insert-runs {p} (there {n = n} {ns = ns} sp) r a po out ds = (
       ap (λ x. x / 2) (frame p (spot-apart sp a) po) ∙ r .0,
@@ -98,7 +109,7 @@ module _ (sh : Shape) where
   edge-in (there g) = List·Memᴰ·tail (edge-in g)
 
   module _ (c d : ℕ → ℕ) (ℓ r : ℕ) (over : d ℓ / 2 ≡ c (sh .buckets + r) / 2) (frame : (x : ℕ) → x ≢ ℓ → d x ≡ c x) where
-    pub remove-runs : {p : ℕ} {ns : List ℕ} (g : Edge ℓ r p ns) → Runs c p ns → Apart p ns → Distinct ns → Runs d p (removeAt g)
+    pub remove-runs : {p : ℕ} {ns : List ℕ} (g : Edge ℓ r p ns) → Runs c p ns → Apart p ns → Once ns → Runs d p (removeAt g)
     unfolding removeAt
     remove-runs {p} (here {n = n} {ns = ns} e f) run a ds =
         runs-frame c d ns (sh .buckets + n) p (run .1) (ap (λ x. d x / 2) e ∙ over ∙ ap (λ x. c (sh .buckets + x) / 2) (sym f))
@@ -142,7 +153,7 @@ module _ (sh : Shape) where
   remove-in (there g) (List·Memᴰ·head q) h = List·Memᴰ·head q
   remove-in (there g) (List·Memᴰ·tail i) h = List·Memᴰ·tail (remove-in g i h)
 
-  pub removed-ne : {ℓ r p m : ℕ} {ns : List ℕ} (g : Edge ℓ r p ns) → Distinct ns → In m (removeAt g) → m ≢ r
+  pub removed-ne : {ℓ r p m : ℕ} {ns : List ℕ} (g : Edge ℓ r p ns) → Once ns → In m (removeAt g) → m ≢ r
   unfolding removeAt
   removed-ne {m} (here e f) ds i q = ds .0 m i (f ∙ sym q)
   removed-ne {r} (there g) ds (List·Memᴰ·head j) q = ds .0 r (edge-in g) (sym j ∙ q)
@@ -159,7 +170,7 @@ ascends-map lt lt′ (n ∷ ns) h a =
     (λ m i. h n m (List·Memᴰ·head refl) (List·Memᴰ·tail i) (a .0 m i), ascends-map lt lt′ ns (λ x y i j. h x y (List·Memᴰ·tail i) (List·Memᴰ·tail j)) (a .1))
 
 module _ (sh : Shape) (lt : ℕ → ℕ → Type 0) (trans : (a b c : ℕ) → lt a b → lt b c → lt a c) (irr : (a : ℕ) → lt a a → ⊥) where
-  pub distinct : (ns : List ℕ) → Ascends lt ns → Distinct ns
+  pub distinct : (ns : List ℕ) → Ascends lt ns → Once ns
   distinct [] a = tt
   distinct (n ∷ ns) a = (λ m i e. irr n (rw (← e) at (a .0 m i)), distinct ns (a .1))
 

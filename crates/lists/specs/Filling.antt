@@ -4,16 +4,19 @@ use mathlib.Core.Logic.{_≢_, _⊎_, inl, inr}
 use Prim.Native.Nat.{ℕ, _+_, _/_, _%_, _≤_, _<_}
 use native.Mathlib.Omega.{arith}
 use Rattle.arrival.specs.declared.Shape.{Shape}
-use Rattle.calendar.specs.rules.Layout.{field}
 use Rattle.arrival.specs.declared.Item.{Item}
 use Rattle.arrival.specs.Keys.{itemBucket}
-use Rattle.calendar.specs.facts.Views.{View, update, itemIn, Lt, upd-same, upd-other, upd-cases}
+use Rattle.laws.specs.Tests.{upd-same, upd-other, upd-cases}
+use Rattle.calendar.specs.rules.Layout.{field}
+use Rattle.calendar.specs.facts.Views.{View, update, itemIn, Lt}
 use Rattle.lists.specs.Chain.{In, ascends-map}
 use Rattle.lists.specs.Knowledge.{Stable}
 use Rattle.lists.specs.LinkInvariant.{Chains, home, Safe, Follows, Lists}
 
 abbrev pub filled : ℕ → Item → View → View
-filled x a m = update (field 7 x) 1 (update (field 5 x) (a .distance) (update (field 4 x) (a .order) (update (field 3 x) (a .path) (update (field 2 x) (a .ticket) (update (field 1 x) (a .time) m)))))
+filled x a m =
+    update (field 7 x) 1 (update (field 5 x) (a .distance) (update (field 4 x) (a .order) (update (field 3 x) (a .path) (update (field 2 x) (a .ticket)
+    (update (field 1 x) (a .time) m)))))
 
 abbrev pub Free : View → (ℕ → Type 0) → ℕ → Type 0
 Free m Live x = (m .standing x ≡ 0) ⊎ ((k : ℕ) × (m .standing x ≡ 2 + k) × ((c : ℕ) → Live c → k < c))
@@ -60,7 +63,8 @@ module _ (sh : Shape) (m : View) (ch : Chains) (Live : ℕ → Type 0) (I : List
         record { inRange = y .inRange; isNode = y .isNode; used = standing-same n u ∙ y .used; at-home = ap (itemBucket sh) (key-same n u) ∙ y .at-home };
     ascends = λ b. ascends-map (Lt m) (Lt (filled x a m)) (ch b) (λ p q i j l. rw (key-same p (not-in p b i), key-same q (not-in q b j)) l) (I .ascends b);
     live = I .live;
-    retired = λ n k. upd-cases (λ n y. n < sh .nodes → y ≡ 2 + k → (m .cells (sh .buckets + n) % 2 ≡ 1) × (k ≤ m .started)) (m .standing) x 1 (λ l e. absurd (omega arith)) (λ n u. I .retired n k) n;
+    retired = λ n k. upd-cases (λ n y. n < sh .nodes → y ≡ 2 + k → (m .cells (sh .buckets + n) % 2 ≡ 1) × (k ≤ m .started)) (m .standing) x 1
+        (λ l e. absurd (omega arith)) (λ n u. I .retired n k) n;
     frozen = λ c n k v l s h. froze c n k v l s h;
   }
     where
@@ -77,11 +81,25 @@ module _ (sh : Shape) (m : View) (ch : Chains) (Live : ℕ → Type 0) (I : List
           go : (q : ℕ) → (q ≡ sh .nodes) ⊎ Follows sh m ch c n q → (q ≡ sh .nodes) ⊎ Follows sh (filled x a m) ch c n q
           go q (inl e) = inl e
           go q (inr f) = let u = not-safe c q v (f .safe) in
-              inr (record { isNode = f .isNode; safe = safe-same c q v (f .safe); at-home = rw (key-same q u, key-same n x-not-n) (f .at-home); above = rw (key-same q u, key-same n x-not-n) (f .above) })
+              inr (record {
+                isNode = f .isNode;
+                safe = safe-same c q v (f .safe);
+                at-home = rw (key-same q u, key-same n x-not-n) (f .at-home);
+                above = rw (key-same q u, key-same n x-not-n) (f .above);
+              })
 
   pub begin-stable : (c : ℕ) → Live c → Stable sh m ch (filled x a m) ch c
   begin-stable c v = record {
     safe = λ n l s. record { still = safe-same c n v s; key = key-same n (not-safe c n v s); epoch = refl; marked = λ e. refl };
     private = λ n p. let u : x ≢ n = λ e. not-used (ap (m .standing) e ∙ p .used) in
-        record { still = record { isNode = p .isNode; used = standing-same n u ∙ p .used; out = p .out; ticketed = ap (λ (y : Item). y .ticket) (key-same n u) ∙ p .ticketed }; key = key-same n u; link = refl };
+        record {
+          still = record {
+            isNode = p .isNode;
+            used = standing-same n u ∙ p .used;
+            out = p .out;
+            ticketed = ap (λ (y : Item). y .ticket) (key-same n u) ∙ p .ticketed;
+          };
+          key = key-same n u;
+          link = refl;
+        };
   }

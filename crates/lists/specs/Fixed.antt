@@ -1,5 +1,9 @@
 -- Over every history from an opening: while a call stands on a node, the arrival in it stays, and so does its epoch, but where
--- the call itself prepares it at 4. Assumes nothing.
+-- the call itself prepares it at 4.
+--     kept                                   what one action leaves of a node that a call stands on
+--     Throughout, StandsOn, OnlyStandsOn     before each action of a history; on the node; and not preparing it
+--     arrival-fixed, epoch-fixed             its arrival stays, and its epoch
+-- Assumes nothing.
 use mathlib.Core.Path.{_≡_, refl, sym, ap, _∙_, subst⁻¹}
 use mathlib.Core.List.{List, [], _∷_, Memᴰ·cast}
 use mathlib.Core.Bool.{true, false}
@@ -12,23 +16,25 @@ use Rattle.arrival.specs.declared.Worker.{Worker}
 use Rattle.arrival.specs.declared.Action.{Action}
 use Rattle.arrival.specs.declared.Action.the-variants.{Enqueue, Dequeue, Step}
 use Rattle.arrival.specs.declared.Response.the-variants.{Opened}
-use Rattle.laws.specs.Tests.{never}
+use Rattle.laws.specs.Tests.{never, upd-other}
 use Rattle.calendar.specs.rules.Layout.{Write, itemAt, epochAt, started}
-use Rattle.calendar.specs.facts.Views.{View, view, updates, itemIn, view-writeAll, upd-other}
 use Rattle.calendar.specs.rules.Ranges.{worker}
 use Rattle.calendar.specs.rules.Reclaim.{firstFree}
-use Rattle.calendar.specs.facts.FirstFree.{first-free-node, first-free-free}
 use Rattle.calendar.specs.rules.Outcome.{Outcome}
 use Rattle.calendar.specs.rules.Starts.{itemOf, enqueueStart, dequeueStart}
 use Rattle.calendar.specs.rules.EnqueueSteps.{ownEpoch}
-use Rattle.calendar.specs.facts.Accepted.{enqueue-accepted, step-accepted}
-use Rattle.calendar.specs.facts.Changes.{Change, head-read, mark-seen, passed, stopped, unlinked, again-3, prepared, linked, again-5, stored-6, on-7, stored-7, back-6, current-read, first-read, mark-passed, newer, on-11, marked, back-10, advanced, back-12, emptied, back-13, step-is}
-use Rattle.calendar.specs.facts.Inside.{found-writes, settled-writes, walked-writes}
 use Rattle.calendar.specs.rules.Snapshot.{holds}
-use Rattle.calendar.specs.facts.Untouched.{outcome-inside}
 use Rattle.calendar.specs.rules.Ledger.{new}
-use Rattle.calendar.specs.facts.Acting.{by-act}
 use Rattle.calendar.specs.rules.Operations.{Memory, open-pool, refusal, outcome, act, run}
+use Rattle.calendar.specs.facts.Views.{View, view, updates, itemIn, view-writeAll}
+use Rattle.calendar.specs.facts.FirstFree.{first-free-node, first-free-free}
+use Rattle.calendar.specs.facts.Accepted.{enqueue-accepted, step-accepted}
+use Rattle.calendar.specs.facts.Changes.{Change, head-read, mark-seen, passed, stopped, unlinked, again-3, prepared, linked, again-5, stored-6, on-7, stored-7}
+use Rattle.calendar.specs.facts.Changes.{back-6, current-read, first-read, mark-passed, newer, on-11, marked, back-10, advanced, back-12, emptied, back-13}
+use Rattle.calendar.specs.facts.Changes.{step-is}
+use Rattle.calendar.specs.facts.Inside.{found-writes, settled-writes, walked-writes}
+use Rattle.calendar.specs.facts.Untouched.{outcome-inside}
+use Rattle.calendar.specs.facts.Acting.{by-act}
 use Rattle.lists.specs.LinkInvariant.{Chains, Safe, home}
 use Rattle.lists.specs.Knowledge.{Private}
 use Rattle.lists.specs.Filling.{key-same}
@@ -77,7 +83,8 @@ module _ (sh : Shape) (s : List ℕ) (w : Worker) (x : ℕ) where
   changed (emptied a b) = (refl, λ h. refl)
   changed (back-13 a b) = (refl, λ h. refl)
 
-module _ (sh : Shape) (m : Memory) (ch : Chains) (K : Reached sh m ch) (j x : ℕ) (l : j < sh .workers) (isNode : x < sh .nodes) (stood : holds sh (worker (m .table) j) x ≡ true) where
+module _ (sh : Shape) (m : Memory) (ch : Chains) (K : Reached sh m ch) (j x : ℕ) (l : j < sh .workers) (isNode : x < sh .nodes)
+    (stood : holds sh (worker (m .table) j) x ≡ true) where
   abbrev v : View
   v = view sh (m .store)
 
@@ -105,7 +112,8 @@ module _ (sh : Shape) (m : Memory) (ch : Chains) (K : Reached sh m ch) (j x : �
           (λ busy p e. K .inv .apart i j li l apart (λ z. omega arith) busy (sym (private .ticketed) ∙ ap (v .ticket) (q ∙ sym e) ∙ p .ticketed))
 
   -- what is written, and is not refused
-  accepted : (a : Action) → refusal sh m a ≡ 0 → Kept x (view sh (m .store)) (updates (outcome sh m a .writes) (view sh (m .store))) (worker (m .table) j .stage ≡ 4 → worker (m .table) j .own ≢ x)
+  accepted : (a : Action) → refusal sh m a ≡ 0
+      → Kept x (view sh (m .store)) (updates (outcome sh m a .writes) (view sh (m .store))) (worker (m .table) j .stage ≡ 4 → worker (m .table) j .own ≢ x)
   unfolding enqueueStart dequeueStart
   accepted (Enqueue i y) e =
       let A = enqueue-accepted sh (m .store) (m .table) i y e in
@@ -122,14 +130,16 @@ module _ (sh : Shape) (m : Memory) (ch : Chains) (K : Reached sh m ch) (j x : �
       let (same, fixed) = changed sh (m .store) (T i) x (step-is sh (m .store) (T i) (A .busy) (K .table i (A .usable .exists) .stage)) in
       (same, λ h. fixed (mine (A .usable .exists) (ℕ-discrete i j) h))
     where
-      mine : i < sh .workers → Dec (i ≡ j) → (worker (m .table) j .stage ≡ 4 → worker (m .table) j .own ≢ x) → worker (m .table) i .stage ≡ 4 → worker (m .table) i .own ≢ x
+      mine : i < sh .workers → Dec (i ≡ j) → (worker (m .table) j .stage ≡ 4 → worker (m .table) j .own ≢ x) → worker (m .table) i .stage ≡ 4
+          → worker (m .table) i .own ≢ x
       mine li (yes q) h = rw q h
       mine li (no q) h = not-another's i li q
 
   pub kept : (a : Action) → Kept x (view sh (m .store)) (view sh (act sh m a .memory .store)) (worker (m .table) j .stage ≡ 4 → worker (m .table) j .own ≢ x)
   kept a =
       by-act sh (λ n L. Kept x v (view sh (n .store)) (T j .stage ≡ 4 → T j .own ≢ x)) m new a (refl, λ h. refl)
-      (λ e. subst⁻¹ (λ u. Kept x v u (T j .stage ≡ 4 → T j .own ≢ x)) (view-writeAll sh (m .store) (outcome sh m a .writes) (K .lent .store) (outcome-inside sh m a e .1)) (accepted a e))
+      (λ e. subst⁻¹ (λ u. Kept x v u (T j .stage ≡ 4 → T j .own ≢ x))
+      (view-writeAll sh (m .store) (outcome sh m a .writes) (K .lent .store) (outcome-inside sh m a e .1)) (accepted a e))
 
 -- ── along a history ──
 -- P of worker j's record before each action
@@ -145,12 +155,14 @@ abbrev pub OnlyStandsOn : Shape → ℕ → Worker → Type 0
 OnlyStandsOn sh x w = StandsOn sh x w × (w .stage ≡ 4 → w .own ≢ x)
 
 module _ (sh : Shape) (j x : ℕ) (l : j < sh .workers) (isNode : x < sh .nodes) where
-  arrival-kept : (m : Memory) → SomeReached sh m → (h : List Action) → Throughout sh (StandsOn sh x) j m h → itemAt sh (run sh m h .store) x ≡ itemAt sh (m .store) x
+  arrival-kept : (m : Memory) → SomeReached sh m → (h : List Action) → Throughout sh (StandsOn sh x) j m h
+      → itemAt sh (run sh m h .store) x ≡ itemAt sh (m .store) x
   unfolding run
   arrival-kept m K [] t = refl
   arrival-kept m K (a ∷ h) t = arrival-kept (act sh m a .memory) (act-reaches sh m a K) h (t .1) ∙ kept sh m (K .0) (K .1) j x l isNode (t .0) a .0
 
-  epoch-kept : (m : Memory) → SomeReached sh m → (h : List Action) → Throughout sh (OnlyStandsOn sh x) j m h → epochAt sh (run sh m h .store) x ≡ epochAt sh (m .store) x
+  epoch-kept : (m : Memory) → SomeReached sh m → (h : List Action) → Throughout sh (OnlyStandsOn sh x) j m h
+      → epochAt sh (run sh m h .store) x ≡ epochAt sh (m .store) x
   unfolding run
   epoch-kept m K [] t = refl
   epoch-kept m K (a ∷ h) t = epoch-kept (act sh m a .memory) (act-reaches sh m a K) h (t .1) ∙ kept sh m (K .0) (K .1) j x l isNode (t .0 .0) a .1 (t .0 .1)

@@ -1,5 +1,12 @@
 -- What a call's record knows of the lists while it searches, that it is kept by any change that is `Stable` for the call,
--- and that linking and unlinking by another call are. Assumes nothing.
+-- and that linking and unlinking by another call are.
+--     Private, Stands                             a put's own node before it is linked; a node that a call may stand on
+--     Searches                                    what a search knows
+--     spot-left, linking-at-5                     a swap of the left word acts inside the chain; at 5 it may link
+--     Stable                                      what a change leaves to a call
+--     link-stable, unlink-stable, mark-stable     other calls' links, unlinks and marks are stable
+--     not-private, private-stable                 what is safe is nobody's private node; writing to one is stable
+-- Assumes nothing.
 use mathlib.Core.Path.{_≡_, refl, sym, ap, _∙_}
 use mathlib.Core.List.{Memᴰ·cast}
 use mathlib.Core.Logic.{_≢_, _⊎_, inl, inr}
@@ -7,11 +14,13 @@ use Prim.Native.Nat.{ℕ, _+_, _*_, _/_, _%_, _≤_, _<_}
 use native.Mathlib.Omega.{arith}
 use Rattle.arrival.specs.declared.Shape.{Shape}
 use Rattle.arrival.specs.declared.Worker.{Worker}
-use Rattle.calendar.specs.rules.Layout.{cell, field}
 use Rattle.arrival.specs.Keys.{itemBucket}
-use Rattle.calendar.specs.facts.Views.{View, update, itemIn, Lt, upd-other}
+use Rattle.laws.specs.Tests.{upd-other}
+use Rattle.calendar.specs.rules.Layout.{cell, field}
+use Rattle.calendar.specs.facts.Views.{View, update, itemIn, Lt}
 use Rattle.lists.specs.Chain.{In, Spot, here, spot-of, insertAt, removeAt, in-insert, in-remove, edge-in}
-use Rattle.lists.specs.LinkInvariant.{Chains, setChain, set-cases, home, Safe, Lists, Linking, Unlinking, unlinked, edge, link-safe, un-safe, un-standing, out-not-left, marked-cell}
+use Rattle.lists.specs.LinkInvariant.{Chains, setChain, set-cases, home, Safe, Lists, Linking, Unlinking, unlinked, edge, link-safe, un-safe, un-standing}
+use Rattle.lists.specs.LinkInvariant.{out-not-left, marked-cell}
 
 -- n is a put's own before it is linked
 abbrev pub Private : Shape → View → Chains → ℕ → ℕ → Type 0
@@ -25,7 +34,10 @@ abbrev pub Searches : Shape → View → Chains → Worker → Type 0
 Searches sh m ch w = record {
   range : w .bucket < sh .buckets;
   enqueueOwn : w .kind ≡ 0 → w .stage ≤ 5 → Private sh m ch (w .ticket) (w .own);
-  dequeueOwn : w .kind ≡ 1 → w .stage ≤ 3 → record { stands : Stands sh m ch (w .ticket) (w .bucket) (w .own); marked : m .cells (sh .buckets + w .own) % 2 ≡ 1 };
+  dequeueOwn : w .kind ≡ 1 → w .stage ≤ 3 → record {
+    stands : Stands sh m ch (w .ticket) (w .bucket) (w .own);
+    marked : m .cells (sh .buckets + w .own) % 2 ≡ 1;
+  };
   ownHome : w .stage ≤ 5 → home sh m (w .own) ≡ w .bucket;
   left : 2 ≤ w .stage → w .stage ≤ 5
       → (w .left ≡ w .bucket) ⊎ ((k : ℕ) × (w .left ≡ sh .buckets + k) × Stands sh m ch (w .ticket) (w .bucket) k × Lt m k (w .own));
@@ -41,11 +53,13 @@ pub spot-left : (sh : Shape) (m : View) (ch : Chains) (Live : ℕ → Type 0) (w
     → 2 ≤ w .stage → w .stage ≤ 5 → m .cells (w .left) ≡ 2 * x → Spot sh (w .left) (w .bucket) (ch (w .bucket))
 spot-left sh m ch Live w x I k lo hi was = go (k .left lo hi)
   where
-    inside : (j : ℕ) → w .left ≡ sh .buckets + j → Stands sh m ch (w .ticket) (w .bucket) j → In j (ch (home sh m j)) ⊎ ((i : ℕ) × (m .standing j ≡ 2 + i) × (w .ticket ≤ i)) → Spot sh (w .left) (w .bucket) (ch (w .bucket))
+    inside : (j : ℕ) → w .left ≡ sh .buckets + j → Stands sh m ch (w .ticket) (w .bucket) j
+        → In j (ch (home sh m j)) ⊎ ((i : ℕ) × (m .standing j ≡ 2 + i) × (w .ticket ≤ i)) → Spot sh (w .left) (w .bucket) (ch (w .bucket))
     inside j e st (inl i) = rw e (spot-of sh (rw (st .at-home) at i))
     inside j e st (inr (i, s, h)) = absurd (omega (arith, I .retired j i (st .isNode) s .0, ap (m .cells) e))
 
-    go : (w .left ≡ w .bucket) ⊎ ((k : ℕ) × (w .left ≡ sh .buckets + k) × Stands sh m ch (w .ticket) (w .bucket) k × Lt m k (w .own)) → Spot sh (w .left) (w .bucket) (ch (w .bucket))
+    go : (w .left ≡ w .bucket) ⊎ ((k : ℕ) × (w .left ≡ sh .buckets + k) × Stands sh m ch (w .ticket) (w .bucket) k × Lt m k (w .own))
+        → Spot sh (w .left) (w .bucket) (ch (w .bucket))
     go (inl e) = here (sym e)
     go (inr (j, e, st, l)) = inside j e st (st .safe)
 
@@ -67,7 +81,8 @@ linking-at-5 sh m ch Live w I k five put was =
       high = λ j e h. rw (← e) (k .above (omega arith) (omega arith) (λ q. h (sym e ∙ q)));
     }
   where
-    low : (w .left ≡ w .bucket) ⊎ ((k : ℕ) × (w .left ≡ sh .buckets + k) × Stands sh m ch (w .ticket) (w .bucket) k × Lt m k (w .own)) → (j : ℕ) → w .left ≡ sh .buckets + j → Lt m j (w .own)
+    low : (w .left ≡ w .bucket) ⊎ ((k : ℕ) × (w .left ≡ sh .buckets + k) × Stands sh m ch (w .ticket) (w .bucket) k × Lt m k (w .own)) → (j : ℕ)
+        → w .left ≡ sh .buckets + j → Lt m j (w .own)
     low (inl e) j q = absurd (omega (arith, k .range))
     low (inr (i, e, st, l)) j q = let z : j ≡ i = omega arith in rw z l
 
@@ -75,7 +90,12 @@ linking-at-5 sh m ch Live w I k five put was =
 abbrev pub Stable : Shape → View → Chains → View → Chains → ℕ → Type 0
 Stable sh m ch m′ ch′ c = record {
   safe : (n : ℕ) → n < sh .nodes → Safe sh m ch c n
-      → record { still : Safe sh m′ ch′ c n; key : itemIn m′ n ≡ itemIn m n; epoch : m′ .epoch n ≡ m .epoch n; marked : m .cells (sh .buckets + n) % 2 ≡ 1 → m′ .cells (sh .buckets + n) ≡ m .cells (sh .buckets + n) };
+      → record {
+        still : Safe sh m′ ch′ c n;
+        key : itemIn m′ n ≡ itemIn m n;
+        epoch : m′ .epoch n ≡ m .epoch n;
+        marked : m .cells (sh .buckets + n) % 2 ≡ 1 → m′ .cells (sh .buckets + n) ≡ m .cells (sh .buckets + n);
+      };
   private : (n : ℕ) → Private sh m ch c n
       → record { still : Private sh m′ ch′ c n; key : itemIn m′ n ≡ itemIn m n; link : m′ .cells (sh .buckets + n) ≡ m .cells (sh .buckets + n) };
 }
@@ -124,12 +144,14 @@ module _ (sh : Shape) (m : View) (ch : Chains) (m′ : View) (ch′ : Chains) (w
         left′ l (inl e) = inl e
         left′ l (inr (j, e, st, lt)) = inr (j, e, stands (w .bucket) j st, rw (h .safe j (st .isNode) (st .safe) .key, own-key l) lt)
 
-        right′ : (w .right ≡ sh .nodes) ⊎ Stands sh m ch (w .ticket) (w .bucket) (w .right) → (w .right ≡ sh .nodes) ⊎ Stands sh m′ ch′ (w .ticket) (w .bucket) (w .right)
+        right′ : (w .right ≡ sh .nodes) ⊎ Stands sh m ch (w .ticket) (w .bucket) (w .right)
+            → (w .right ≡ sh .nodes) ⊎ Stands sh m′ ch′ (w .ticket) (w .bucket) (w .right)
         right′ (inl e) = inl e
         right′ (inr st) = inr (stands (w .bucket) (w .right) st)
 
 -- LINK by another call is stable.
-module _ (sh : Shape) (m : View) (ch : Chains) (Live : ℕ → Type 0) (I : Lists sh m ch Live) (b left right own : ℕ) (k : Linking sh m ch b left right own) (c : ℕ) (other : m .ticket own ≢ c) where
+module _ (sh : Shape) (m : View) (ch : Chains) (Live : ℕ → Type 0) (I : Lists sh m ch Live) (b left right own : ℕ) (k : Linking sh m ch b left right own)
+    (c : ℕ) (other : m .ticket own ≢ c) where
   pub link-stable : Stable sh m ch (update (cell left) (2 * own) m) (setChain ch b (insertAt sh own (k .spot))) c
   link-stable = record {
     safe = λ n l s. record {
@@ -139,7 +161,12 @@ module _ (sh : Shape) (m : View) (ch : Chains) (Live : ℕ → Type 0) (I : List
       marked = λ e. upd-other left (sh .buckets + n) (2 * own) (m .cells (sh .buckets + n)) (λ q. omega (arith, k .was, ap (m .cells) q));
     };
     private = λ n p. record {
-      still = record { isNode = p .isNode; used = p .used; out = λ q. set-cases (λ q ns. In n ns → ⊥) ch b (insertAt sh own (k .spot)) (λ i. out′ n p (in-insert sh (k .spot) i)) (λ q u. p .out q) q; ticketed = p .ticketed };
+      still = record {
+        isNode = p .isNode;
+        used = p .used;
+        out = λ q. set-cases (λ q ns. In n ns → ⊥) ch b (insertAt sh own (k .spot)) (λ i. out′ n p (in-insert sh (k .spot) i)) (λ q u. p .out q) q;
+        ticketed = p .ticketed;
+      };
       key = refl;
       link = upd-other left (sh .buckets + n) (2 * own) (m .cells (sh .buckets + n)) (out-not-left sh b (ch b) left n (k .inRange) (k .spot) (p .out b));
     };
@@ -150,15 +177,22 @@ module _ (sh : Shape) (m : View) (ch : Chains) (Live : ℕ → Type 0) (I : List
       out′ n p (inr i) = p .out b i
 
 -- UNLINK by another call is stable.
-module _ (sh : Shape) (m : View) (ch : Chains) (Live : ℕ → Type 0) (I : Lists sh m ch Live) (b left right seen : ℕ) (k : Unlinking sh m ch b left right seen) (c : ℕ) (live : Live c) where
+module _ (sh : Shape) (m : View) (ch : Chains) (Live : ℕ → Type 0) (I : Lists sh m ch Live) (b left right seen : ℕ) (k : Unlinking sh m ch b left right seen)
+    (c : ℕ) (live : Live c) where
   pub unlink-stable : Stable sh m ch (unlinked sh m left right seen) (setChain ch b (removeAt sh (edge sh m ch Live I b left right seen k))) c
   unlink-stable = record {
-    safe = λ n l s. record { still = un-safe sh m ch Live I b left right seen k c n (I .live c live) s; key = refl; epoch = refl; marked = marked-cell sh m ch Live I b left right seen k (sh .buckets + n) };
+    safe = λ n l s. record {
+      still = un-safe sh m ch Live I b left right seen k c n (I .live c live) s;
+      key = refl;
+      epoch = refl;
+      marked = marked-cell sh m ch Live I b left right seen k (sh .buckets + n);
+    };
     private = λ n p. record {
       still = record {
         isNode = p .isNode;
         used = un-standing sh m ch Live I b left right seen k n (λ e. p .out b (Memᴰ·cast e (edge-in sh (edge sh m ch Live I b left right seen k)))) ∙ p .used;
-        out = λ q. set-cases (λ q ns. In n ns → ⊥) ch b (removeAt sh (edge sh m ch Live I b left right seen k)) (λ i. p .out b (in-remove sh (edge sh m ch Live I b left right seen k) i)) (λ q u. p .out q) q;
+        out = λ q. set-cases (λ q ns. In n ns → ⊥) ch b (removeAt sh (edge sh m ch Live I b left right seen k))
+            (λ i. p .out b (in-remove sh (edge sh m ch Live I b left right seen k) i)) (λ q u. p .out q) q;
         ticketed = p .ticketed;
       };
       key = refl;
@@ -177,17 +211,23 @@ mark-stable sh m ch x seen c b was clean i = record {
     same : (n : ℕ) → x ≢ n → (update (cell (sh .buckets + x)) (2 * (seen / 2) + 1) m) .cells (sh .buckets + n) ≡ m .cells (sh .buckets + n)
     same n h = upd-other (sh .buckets + x) (sh .buckets + n) (2 * (seen / 2) + 1) (m .cells (sh .buckets + n)) (λ e. h (omega arith))
 
+-- what is safe for a call is nobody's private node
+pub not-private : (sh : Shape) (m : View) (ch : Chains) (c d x : ℕ) → Private sh m ch d x → (n : ℕ) → Safe sh m ch c n → x ≢ n
+not-private sh m ch c d x p n (inl i) e = p .out (home sh m n) (Memᴰ·cast e i)
+not-private sh m ch c d x p n (inr (k, s, l)) e = omega (arith, ap (m .standing) e, p .used)
+
 -- A PRIVATE NODE'S link and epoch (4), written by the call d, for another call c.
 pub private-stable : (sh : Shape) (m : View) (ch : Chains) (c d x e v : ℕ) → c ≢ d → Private sh m ch d x
     → Stable sh m ch (update (cell (sh .buckets + x)) v (update (field 6 x) e m)) ch c
 private-stable sh m ch c d x e v cd p = record {
-  safe = λ n l s. record { still = s; key = refl; epoch = upd-other x n e (m .epoch n) (not-safe n s); marked = λ q. same n (not-safe n s) };
+  safe = λ n l s. record {
+    still = s;
+    key = refl;
+    epoch = upd-other x n e (m .epoch n) (not-private sh m ch c d x p n s);
+    marked = λ q. same n (not-private sh m ch c d x p n s);
+  };
   private = λ n q. record { still = q; key = refl; link = same n (λ r. cd (sym (q .ticketed) ∙ ap (m .ticket) (sym r) ∙ p .ticketed)) };
 }
   where
     same : (n : ℕ) → x ≢ n → (update (cell (sh .buckets + x)) v (update (field 6 x) e m)) .cells (sh .buckets + n) ≡ m .cells (sh .buckets + n)
     same n h = upd-other (sh .buckets + x) (sh .buckets + n) v (m .cells (sh .buckets + n)) (λ r. h (omega arith))
-
-    not-safe : (n : ℕ) → Safe sh m ch c n → x ≢ n
-    not-safe n (inl i) r = p .out (home sh m n) (Memᴰ·cast r i)
-    not-safe n (inr (k, s, l)) r = omega (arith, ap (m .standing) r, p .used)

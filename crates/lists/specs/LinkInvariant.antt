@@ -1,4 +1,15 @@
--- The invariants of the lists, over views, and that linking a node in and taking one out keep them. Assumes nothing.
+-- The invariants of the lists, over views, and that linking a node in and taking one out keep them.
+--     Chains, setChain, set-cases, home                          the chains by bucket, one changed; the bucket of a node
+--     Member, Safe, Follows                                      a node of a chain; safe for a call; what follows a safe node
+--     Lists                                                      the invariant of the lists
+--     current-keeps, epoch-keeps                                 writing current or an epoch keeps it
+--     safe-next                                                  what is safe is followed by the end or something safe
+--     Linking                                                    what a put at 5 knows whose swap succeeds
+--     out-not-left, chain-distinct                               what is no spot of a chain; a chain has each node once
+--     own-not-left, link-in, link-safe, link-keeps               the node is linked in
+--     Unlinking, unlinked, edge                                  what a search at 3 knows whose swap succeeds
+--     marked-cell, un-standing, un-in, un-safe, unlink-keeps     the node is taken out
+-- Assumes nothing.
 use mathlib.Core.Path.{_≡_, refl, sym, ap, _∙_}
 use mathlib.Core.List.{List, Memᴰ·cast}
 use mathlib.Core.Bool.{Bool, true, false, cond}
@@ -8,10 +19,13 @@ use native.Mathlib.Omega.{arith}
 use lib.Dec.{eqb}
 use borrow.Author.Tests.{eqb-true, eqb-false}
 use Rattle.arrival.specs.declared.Shape.{Shape}
-use Rattle.calendar.specs.rules.Layout.{word, cell, field}
 use Rattle.arrival.specs.Keys.{itemBucket, lower-trans, lower-irr}
-use Rattle.calendar.specs.facts.Views.{View, update, itemIn, Lt, upd-same, upd-other, upd-cases}
-use Rattle.lists.specs.Chain.{In, Distinct, Runs, Spot, Edge, Apart, insertAt, removeAt, runs-frame, spot-not, insert-runs, edge-of, edge-in, remove-runs, in-insert, insert-in, in-remove, remove-in, removed-ne, in-next, Ascends, distinct, insert-ascends, remove-ascends}
+use Rattle.laws.specs.Tests.{upd-same, upd-other, upd-cases}
+use Rattle.laws.specs.Lists.{Once}
+use Rattle.calendar.specs.rules.Layout.{word, cell, field}
+use Rattle.calendar.specs.facts.Views.{View, update, itemIn, Lt}
+use Rattle.lists.specs.Chain.{In, Runs, Spot, Edge, Apart, insertAt, removeAt, runs-frame, spot-not, insert-runs, edge-of, edge-in, remove-runs}
+use Rattle.lists.specs.Chain.{in-insert, insert-in, in-remove, remove-in, removed-ne, in-next, Ascends, distinct, insert-ascends, remove-ascends}
 
 -- The chains, as the proof carries them.
 abbrev pub Chains : Type 0
@@ -66,7 +80,8 @@ safe-next sh m ch Live I c n v l (inl i) =
   where
     go : (q : ℕ) → (q ≡ sh .nodes) ⊎ (In q (ch (home sh m n)) × Lt m n q) → (q ≡ sh .nodes) ⊎ Follows sh m ch c n q
     go q (inl e) = inl e
-    go q (inr (j, lt)) = let x = I .member (home sh m n) q j in inr (record { isNode = x .isNode; safe = inl (rw (x .at-home) j); at-home = x .at-home; above = lt })
+    go q (inr (j, lt)) =
+        let x = I .member (home sh m n) q j in inr (record { isNode = x .isNode; safe = inl (rw (x .at-home) j); at-home = x .at-home; above = lt })
 
 -- What a put at 5 whose swap succeeds knows: own is private, left lies in the chain, own's key lies between.
 pub record Linking (sh : Shape) (m : View) (ch : Chains) (b left right own : ℕ) : Type 0 where
@@ -89,7 +104,7 @@ head-apart sh b ns h n i e = omega arith
 pub out-not-left : (sh : Shape) (b : ℕ) (ns : List ℕ) (left n : ℕ) → b < sh .buckets → Spot sh left b ns → (In n ns → ⊥) → left ≢ sh .buckets + n
 out-not-left sh b ns left n l sp out e = spot-not sh (sh .buckets + n) sp (λ q. omega arith) (λ j i q. out (Memᴰ·cast (omega arith) i)) (sym e)
 
-pub chain-distinct : (sh : Shape) (m : View) (ns : List ℕ) → Ascends (Lt m) ns → Distinct ns
+pub chain-distinct : (sh : Shape) (m : View) (ns : List ℕ) → Ascends (Lt m) ns → Once ns
 chain-distinct sh m ns = distinct sh (Lt m) (λ a b c. lower-trans (itemIn m a) (itemIn m b) (itemIn m c)) (λ a. lower-irr (itemIn m a)) ns
 
 module _ (sh : Shape) (m : View) (ch : Chains) (Live : ℕ → Type 0) (I : Lists sh m ch Live) (b left right own : ℕ) (k : Linking sh m ch b left right own) where
@@ -111,7 +126,8 @@ module _ (sh : Shape) (m : View) (ch : Chains) (Live : ℕ → Type 0) (I : List
       (rw (upd-same left left (2 * own) (m .cells left) refl) (omega arith))
       (rw (upd-other left (sh .buckets + own) (2 * own) (m .cells (sh .buckets + own)) own-not-left) (cc (k .was, k .link)))
       (λ x u v. upd-other left x (2 * own) (m .cells x) (λ e. u (sym e)))
-      (k .spot) (I .runs b l) (head-apart sh b (ch b) l) (λ e. omega arith) (λ n i e. k .private b (Memᴰ·cast (sym e) i)) (chain-distinct sh m (ch b) (I .ascends b)))
+      (k .spot) (I .runs b l) (head-apart sh b (ch b) l) (λ e. omega arith) (λ n i e. k .private b (Memᴰ·cast (sym e) i))
+      (chain-distinct sh m (ch b) (I .ascends b)))
       (λ q h l. runs-frame sh (m .cells) _ (ch q) q q (I .runs q l)
       (ap (λ x. x / 2) (upd-other left q (2 * own) (m .cells q) (other-head q h l)))
       (λ n i. upd-other left (sh .buckets + n) (2 * own) (m .cells (sh .buckets + n)) (other-link q n h i)))
@@ -132,7 +148,8 @@ module _ (sh : Shape) (m : View) (ch : Chains) (Live : ℕ → Type 0) (I : List
   pub link-keeps : Lists sh (update (cell left) (2 * own) m) (setChain ch b (insertAt sh own (k .spot))) Live
   link-keeps = record {
     runs = link-runs;
-    member = λ q n. set-cases (λ q ns. In n ns → Member sh m q n) ch b (insertAt sh own (k .spot)) (λ i. old n (in-insert sh (k .spot) i)) (λ q h. I .member q n) q;
+    member = λ q n. set-cases (λ q ns. In n ns → Member sh m q n) ch b (insertAt sh own (k .spot)) (λ i. old n (in-insert sh (k .spot) i))
+        (λ q h. I .member q n) q;
     ascends = set-cases (λ q ns. Ascends (Lt m) ns) ch b (insertAt sh own (k .spot))
         (insert-ascends sh (Lt m) (λ x y z. lower-trans (itemIn m x) (itemIn m y) (itemIn m z)) (λ a. lower-irr (itemIn m a))
         (m .cells) (k .spot) (I .runs b (k .inRange)) (I .ascends b) (λ n i e. omega (arith, I .member b n i .isNode)) (k .low)
@@ -163,11 +180,12 @@ pub record Unlinking (sh : Shape) (m : View) (ch : Chains) (b left right seen : 
 abbrev pub unlinked : Shape → View → ℕ → ℕ → ℕ → View
 unlinked sh m left right seen = update (field 7 right) (2 + m .started) (update (cell left) (2 * (seen / 2)) m)
 
-module _ (sh : Shape) (m : View) (ch : Chains) (Live : ℕ → Type 0) (I : Lists sh m ch Live) (b left right seen : ℕ) (k : Unlinking sh m ch b left right seen) where
+module _ (sh : Shape) (m : View) (ch : Chains) (Live : ℕ → Type 0) (I : Lists sh m ch Live) (b left right seen : ℕ)
+    (k : Unlinking sh m ch b left right seen) where
   pub edge : Edge sh left right b (ch b)
   edge = edge-of sh (m .cells) (k .spot) (I .runs b (k .inRange)) (omega (arith, k .was)) (λ e. omega (arith, k .isNode))
 
-  ds : Distinct (ch b)
+  ds : Once (ch b)
   ds = chain-distinct sh m (ch b) (I .ascends b)
 
   -- left was unmarked: a marked cell is not left
@@ -184,7 +202,8 @@ module _ (sh : Shape) (m : View) (ch : Chains) (Live : ℕ → Type 0) (I : List
       edge (I .runs b l) (head-apart sh b (ch b) l) ds)
       (λ q h l. runs-frame sh (m .cells) _ (ch q) q q (I .runs q l)
       (ap (λ x. x / 2) (upd-other left q (2 * (seen / 2)) (m .cells q) (λ e. spot-not sh q (k .spot) h (head-apart sh q (ch b) l) (sym e))))
-      (λ n i. upd-other left (sh .buckets + n) (2 * (seen / 2)) (m .cells (sh .buckets + n)) (λ e. spot-not sh (sh .buckets + n) (k .spot) (λ r. omega (arith, k .inRange))
+      (λ n i. upd-other left (sh .buckets + n) (2 * (seen / 2)) (m .cells (sh .buckets + n)) (λ e. spot-not sh (sh .buckets + n) (k .spot)
+      (λ r. omega (arith, k .inRange))
       (λ j ij r. h (sym (I .member q n i .at-home) ∙ ap (home sh m) (omega arith) ∙ I .member b j ij .at-home)) (sym e))))
 
   -- a node that is not right keeps its standing
@@ -205,7 +224,8 @@ module _ (sh : Shape) (m : View) (ch : Chains) (Live : ℕ → Type 0) (I : List
   un-retired : (n j : ℕ) → n < sh .nodes → (unlinked sh m left right seen) .standing n ≡ 2 + j
       → ((unlinked sh m left right seen) .cells (sh .buckets + n) % 2 ≡ 1) × (j ≤ m .started)
   un-retired n j =
-      upd-cases (λ n x. n < sh .nodes → x ≡ 2 + j → ((unlinked sh m left right seen) .cells (sh .buckets + n) % 2 ≡ 1) × (j ≤ m .started)) (m .standing) right (2 + m .started)
+      upd-cases (λ n x. n < sh .nodes → x ≡ 2 + j → ((unlinked sh m left right seen) .cells (sh .buckets + n) % 2 ≡ 1) × (j ≤ m .started)) (m .standing) right
+      (2 + m .started)
       (λ l s. (rw (marked-cell (sh .buckets + right) right-marked) right-marked, omega arith))
       (λ n h l s. let x = I .retired n j l s in (rw (marked-cell (sh .buckets + n) (x .0)) (x .0), x .1)) n
 
@@ -227,7 +247,8 @@ module _ (sh : Shape) (m : View) (ch : Chains) (Live : ℕ → Type 0) (I : List
   before-step : (c n j : ℕ) → Live c → n < sh .nodes → (unlinked sh m left right seen) .standing n ≡ 2 + j → c ≤ j
       → (m .cells (sh .buckets + n) % 2 ≡ 1) × ((m .cells (sh .buckets + n) / 2 ≡ sh .nodes) ⊎ Follows sh m ch c n (m .cells (sh .buckets + n) / 2))
   before-step c n j v l s h =
-      upd-cases (λ n x. n < sh .nodes → x ≡ 2 + j → (m .cells (sh .buckets + n) % 2 ≡ 1) × ((m .cells (sh .buckets + n) / 2 ≡ sh .nodes) ⊎ Follows sh m ch c n (m .cells (sh .buckets + n) / 2)))
+      upd-cases (λ n x. n < sh .nodes → x ≡ 2 + j → (m .cells (sh .buckets + n) % 2 ≡ 1) × ((m .cells (sh .buckets + n) / 2 ≡ sh .nodes)
+      ⊎ Follows sh m ch c n (m .cells (sh .buckets + n) / 2)))
       (m .standing) right (2 + m .started)
       (λ l s. (right-marked, safe-next sh m ch Live I c right v l (inl (rw (I .member b right (edge-in sh edge) .at-home) (edge-in sh edge)))))
       (λ n u l s. (I .retired n j l s .0, I .frozen c n j v l s h)) n l s
@@ -239,7 +260,8 @@ module _ (sh : Shape) (m : View) (ch : Chains) (Live : ℕ → Type 0) (I : List
       let x = before-step c n j v l s h in
       rw (marked-cell (sh .buckets + n) (x .0)) (go (m .cells (sh .buckets + n) / 2) (x .1))
     where
-      go : (q : ℕ) → (q ≡ sh .nodes) ⊎ Follows sh m ch c n q → (q ≡ sh .nodes) ⊎ Follows sh (unlinked sh m left right seen) (setChain ch b (removeAt sh edge)) c n q
+      go : (q : ℕ) → (q ≡ sh .nodes) ⊎ Follows sh m ch c n q
+          → (q ≡ sh .nodes) ⊎ Follows sh (unlinked sh m left right seen) (setChain ch b (removeAt sh edge)) c n q
       go q (inl e) = inl e
       go q (inr f) = inr (record { isNode = f .isNode; safe = un-safe c q (I .live c v) (f .safe); at-home = f .at-home; above = f .above })
 

@@ -45,7 +45,8 @@ module _ (sh : Shape) where
   reach-unlink c d left right {z} other from over frame (step {n = n} l (step l′ r)) =
       go (eqb (sh .buckets + n) left) refl (reach-unlink c d left right other from over frame r) (reach-unlink c d left right other from over frame (step l′ r))
     where
-      go : (t : Bool) → eqb (sh .buckets + n) left ≡ t → Reach d z (c (sh .buckets + (c (sh .buckets + n) / 2)) / 2) → Reach d z (c (sh .buckets + n) / 2) → Reach d z n
+      go : (t : Bool) → eqb (sh .buckets + n) left ≡ t → Reach d z (c (sh .buckets + (c (sh .buckets + n) / 2)) / 2) → Reach d z (c (sh .buckets + n) / 2)
+          → Reach d z n
       go true e x y = let q = eqb-true (sh .buckets + n) left e in
           step l (cast (ap (λ u. c (sh .buckets + u) / 2) (ap (λ u. c u / 2) q ∙ from) ∙ sym over ∙ ap (λ u. d u / 2) (sym q)) x)
       go false e x y = step l (cast (ap (λ u. u / 2) (sym (frame (sh .buckets + n) (eqb-false (sh .buckets + n) left e)))) y)
@@ -56,7 +57,8 @@ module _ (sh : Shape) where
   reach-outside c d S keep closed zn s (stop e) = stop e
   reach-outside c d S {z} keep closed zn s (step {n = n} l r) = go (closed n s) (λ s′. reach-outside c d S keep closed zn s′ r) r
     where
-      go : (c (sh .buckets + n) / 2 ≡ sh .nodes) ⊎ S (c (sh .buckets + n) / 2) → (S (c (sh .buckets + n) / 2) → Reach d z (c (sh .buckets + n) / 2)) → Reach c z (c (sh .buckets + n) / 2) → Reach d z n
+      go : (c (sh .buckets + n) / 2 ≡ sh .nodes) ⊎ S (c (sh .buckets + n) / 2) → (S (c (sh .buckets + n) / 2) → Reach d z (c (sh .buckets + n) / 2))
+          → Reach c z (c (sh .buckets + n) / 2) → Reach d z n
       go (inl e) ih (stop q) = absurd (omega arith)
       go (inl e) ih (step k _) = absurd (omega arith)
       go (inr s′) ih r = step l (cast (ap (λ u. u / 2) (sym (keep n s))) (ih s′))

@@ -5,8 +5,9 @@ use mathlib.Core.Logic.{_≢_, _⊎_, inl, inr}
 use Prim.Native.Nat.{ℕ, _+_, _*_, _/_, _%_, _≤_, _<_}
 use native.Mathlib.Omega.{arith}
 use Rattle.arrival.specs.declared.Shape.{Shape}
+use Rattle.laws.specs.Tests.{upd-other, upd-cases}
 use Rattle.calendar.specs.rules.Layout.{word, cell}
-use Rattle.calendar.specs.facts.Views.{View, update, upd-other, upd-cases}
+use Rattle.calendar.specs.facts.Views.{View, update}
 use Rattle.lists.specs.Chain.{In, runs-half, runs-frame}
 use Rattle.lists.specs.LinkInvariant.{Chains, Follows, Lists}
 
@@ -38,7 +39,8 @@ private-keeps sh m ch Live x v I used out = record {
   ascends = I .ascends;
   live = I .live;
   retired = λ n k l s. rw (same (sh .buckets + n) (not-x n k s)) (I .retired n k l s);
-  frozen = λ c n k w l s h. subst (λ q. (q / 2 ≡ sh .nodes) ⊎ Follows sh m ch c n (q / 2)) (sym (same (sh .buckets + n) (not-x n k s))) (I .frozen c n k w l s h);
+  frozen = λ c n k w l s h. subst (λ q. (q / 2 ≡ sh .nodes) ⊎ Follows sh m ch c n (q / 2)) (sym (same (sh .buckets + n) (not-x n k s)))
+      (I .frozen c n k w l s h);
 }
   where
     same : (q : ℕ) → sh .buckets + x ≢ q → (update (cell (sh .buckets + x)) v m) .cells q ≡ m .cells q
@@ -49,7 +51,15 @@ private-keeps sh m ch Live x v I used out = record {
 
 -- FEWER CALLS: a call's end
 pub fewer-keeps : (sh : Shape) (m : View) (ch : Chains) (Live Live′ : ℕ → Type 0) → ((c : ℕ) → Live′ c → Live c) → Lists sh m ch Live → Lists sh m ch Live′
-fewer-keeps sh m ch Live Live′ h I = record { runs = I .runs; member = I .member; ascends = I .ascends; live = λ c v. I .live c (h c v); retired = I .retired; frozen = λ c n k v. I .frozen c n k (h c v) }
+fewer-keeps sh m ch Live Live′ h I =
+    record {
+      runs = I .runs;
+      member = I .member;
+      ascends = I .ascends;
+      live = λ c v. I .live c (h c v);
+      retired = I .retired;
+      frozen = λ c n k v. I .frozen c n k (h c v);
+    }
 
 -- ONE MORE CALL: it has the number after `started`
 pub more-keeps : (sh : Shape) (m : View) (ch : Chains) (Live : ℕ → Type 0) → Lists sh m ch Live

@@ -8,18 +8,19 @@ use lib.Dec.{eqb, leb}
 use borrow.Author.Tests.{eqb-true, leb-true, leb-false}
 use Rattle.arrival.specs.declared.Shape.{Shape}
 use Rattle.arrival.specs.declared.Worker.{Worker}
-use Rattle.laws.specs.Tests.{parts}
+use Rattle.laws.specs.Tests.{parts, either, within}
 use Rattle.calendar.specs.rules.Layout.{linkCell}
-use Rattle.calendar.specs.facts.Views.{View}
 use Rattle.calendar.specs.rules.Ranges.{between}
 use Rattle.calendar.specs.rules.Snapshot.{holds}
+use Rattle.calendar.specs.facts.Views.{View}
 use Rattle.lists.specs.LinkInvariant.{Chains}
 use Rattle.lists.specs.Knowledge.{Private, Stands}
 use Rattle.lists.specs.AllCalls.{Knows}
 use Rattle.lists.specs.Searching.{Left}
 
 module _ (sh : Shape) (v : View) (ch : Chains) (w : Worker) (k : Knows sh v ch w) (x : ℕ) (isNode : x < sh .nodes)
-    (stands-off : (b n : ℕ) → w .stage ≢ 0 → Stands sh v ch (w .ticket) b n → n ≢ x) (private-off : w .stage ≢ 0 → Private sh v ch (w .ticket) (w .own) → w .own ≢ x) where
+    (stands-off : (b n : ℕ) → w .stage ≢ 0 → Stands sh v ch (w .ticket) b n → n ≢ x)
+    (private-off : w .stage ≢ 0 → Private sh v ch (w .ticket) (w .own) → w .own ≢ x) where
   own-off : 1 ≤ w .stage → w .stage ≤ 7 → w .own ≢ x
   own-off a b = go (leb (w .stage) 5) refl (k .kinds)
     where
@@ -43,30 +44,22 @@ module _ (sh : Shape) (v : View) (ch : Chains) (w : Worker) (k : Knows sh v ch w
       go (inr st) = stands-off _ _ (λ u. omega arith) st e
   right-off (inr (a, b)) e = stands-off _ _ (λ u. omega arith) (k .stand a b) e
 
-  within : (lo hi n : ℕ) → between lo hi n ≡ true → (lo ≤ n) × (n ≤ hi)
-  within lo hi n e = let (p, q) = parts (leb lo n) (leb n hi) e in (leb-true lo n p, leb-true n hi q)
-
   pub not-stood-on : holds sh w x ≡ false
   not-stood-on = go (holds sh w x) refl
     where
-      either : (a b : Bool) → (a || b) ≡ true → (a ≡ true) ⊎ (b ≡ true)
-      either true b e = inl refl
-      either false b e = inr e
-
       on-right : (between 2 5 (w .stage) ≡ true) ⊎ (between 10 11 (w .stage) ≡ true) → w .right ≢ x
       on-right (inl e) = right-off (inl (within 2 5 (w .stage) e))
       on-right (inr e) = right-off (inr (within 10 11 (w .stage) e))
 
-      by : ((between 1 7 (w .stage) && eqb (w .own) x) ≡ true) ⊎ (((between 2 5 (w .stage) && eqb (w .left) (linkCell sh x)) ≡ true) ⊎ (((between 2 5 (w .stage) || between 10 11 (w .stage)) && eqb (w .right) x) ≡ true)) → ⊥
-      by (inl e) = let (p, q) = parts _ _ e in let (a, b) = within 1 7 (w .stage) p in own-off a b (eqb-true (w .own) x q)
-      by (inr (inl e)) = let (p, q) = parts _ _ e in let (a, b) = within 2 5 (w .stage) p in left-off a b (eqb-true (w .left) (linkCell sh x) q)
-      by (inr (inr e)) = let (p, q) = parts _ _ e in on-right (either _ _ p) (eqb-true (w .right) x q)
+      on-left : ((between 1 7 (w .stage) && eqb (w .own) x) ≡ true) ⊎ ((between 2 5 (w .stage) && eqb (w .left) (linkCell sh x)) ≡ true) → ⊥
+      on-left (inl e) = let (p, q) = parts _ _ e in let (a, b) = within 1 7 (w .stage) p in own-off a b (eqb-true (w .own) x q)
+      on-left (inr e) = let (p, q) = parts _ _ e in let (a, b) = within 2 5 (w .stage) p in left-off a b (eqb-true (w .left) (linkCell sh x) q)
 
-      split : (a b c : Bool) → (a || b || c) ≡ true → (a ≡ true) ⊎ ((b ≡ true) ⊎ (c ≡ true))
-      split true b c e = inl refl
-      split false true c e = inr (inl refl)
-      split false false c e = inr (inr e)
+      by : ((between 1 7 (w .stage) && eqb (w .own) x || between 2 5 (w .stage) && eqb (w .left) (linkCell sh x)) ≡ true)
+          ⊎ (((between 2 5 (w .stage) || between 10 11 (w .stage)) && eqb (w .right) x) ≡ true) → ⊥
+      by (inl e) = on-left (either _ _ e)
+      by (inr e) = let (p, q) = parts _ _ e in on-right (either _ _ p) (eqb-true (w .right) x q)
 
       go : (t : Bool) → holds sh w x ≡ t → t ≡ false
-      go true e = absurd (by (split _ _ _ e))
+      go true e = absurd (by (either _ _ e))
       go false e = refl

@@ -1,7 +1,11 @@
--- The sum of document 01 holds after every history from an opening. Assumes nothing.
+-- The sum of document 01 holds after every history from an opening.
+--     Balanced, Summed     the sum in the words of the invariant; with what is reached
+--     summed               after every history
+--     sum-balances         in the words of the statement
+-- Assumes nothing.
 use mathlib.Core.Path.{_≡_, refl, sym, ap, _∙_, subst⁻¹}
 use mathlib.Core.Bool.{Bool, true, false, cond}
-use mathlib.Core.Option.{some}
+use mathlib.Core.Option.{some, Option·some-injective}
 use mathlib.Core.List.{List, [], _∷_}
 use Prim.Native.Nat.{ℕ, zero, suc, _+_, _-_, _%_, _≤_, _<_}
 use native.Mathlib.Omega.{arith}
@@ -12,23 +16,23 @@ use Rattle.arrival.specs.declared.Action.{Action}
 use Rattle.arrival.specs.declared.Action.the-variants.{Enqueue, Dequeue, Step}
 use Rattle.arrival.specs.declared.Response.{Response}
 use Rattle.arrival.specs.declared.Response.the-variants.{Opened, Begun, On, Stored, Took, Empty, Refused}
+use Rattle.laws.specs.Counting.{count}
 use Rattle.calendar.specs.rules.Layout.{link, isMarked, itemAt, writeAll}
-use Rattle.calendar.specs.facts.Views.{View, view, updates, view-writeAll, AllInside}
-use Rattle.laws.specs.Every.{count}
 use Rattle.calendar.specs.rules.Ranges.{blank, worker}
 use Rattle.calendar.specs.rules.Reclaim.{firstFree}
-use Rattle.calendar.specs.facts.FirstFree.{first-free-node}
 use Rattle.calendar.specs.rules.Opening.{openStore, openTable}
-use Rattle.calendar.specs.facts.FreshPool.{open-worker}
 use Rattle.calendar.specs.rules.Outcome.{Outcome}
 use Rattle.calendar.specs.rules.Starts.{enqueueStart, dequeueStart}
+use Rattle.calendar.specs.rules.Operations.{Memory, perform, open-pool, actor, refusal, outcome, act, run}
+use Rattle.calendar.specs.rules.Ledger.{Ledger, new, marks, hears, sees, succeeds-11, notes, reads, ledger}
+use Rattle.calendar.specs.rules.Snapshot.{bucketList, unmarkedIn, unmarkedTo, hasLinked, hasMarked, workersWith}
+use Rattle.calendar.specs.facts.Views.{View, view, updates, view-writeAll, AllInside}
+use Rattle.calendar.specs.facts.FirstFree.{first-free-node}
+use Rattle.calendar.specs.facts.FreshPool.{open-worker}
 use Rattle.calendar.specs.facts.Accepted.{enqueue-accepted, dequeue-accepted, step-accepted}
 use Rattle.calendar.specs.facts.Changes.{Change, step-is}
 use Rattle.calendar.specs.facts.Inside.{enqueue-inside, dequeue-inside, change-inside}
-use Rattle.calendar.specs.rules.Operations.{Memory, perform, open-pool, actor, refusal, outcome, act, run}
-use Rattle.calendar.specs.rules.Ledger.{Ledger, new, marks, hears, sees, succeeds-11, notes, reads, ledger}
 use Rattle.calendar.specs.facts.Acting.{by-act}
-use Rattle.calendar.specs.rules.Snapshot.{bucketList, unmarkedIn, unmarkedTo, hasLinked, hasMarked, workersWith}
 use Rattle.lists.specs.LinkInvariant.{Chains}
 use Rattle.lists.specs.AllCalls.{with-record}
 use Rattle.lists.specs.TurnsKeepLists.{chains-after}
@@ -64,7 +68,8 @@ hears-took i (Refused k) L = omega arith
 sees-counts : (sh : Shape) (m : Memory) (i : ℕ) (L : Ledger) → (sees sh m i L .stored ≡ L .stored) × (sees sh m i L .took ≡ L .took)
 sees-counts sh m i L = go (succeeds-11 sh (m .store) (worker (m .table) i))
   where
-    go : (b : Bool) → (cond b (marks i (itemAt sh (m .store) (worker (m .table) i .right)) L) L .stored ≡ L .stored) × (cond b (marks i (itemAt sh (m .store) (worker (m .table) i .right)) L) L .took ≡ L .took)
+    go : (b : Bool) → (cond b (marks i (itemAt sh (m .store) (worker (m .table) i .right)) L) L .stored ≡ L .stored)
+        × (cond b (marks i (itemAt sh (m .store) (worker (m .table) i .right)) L) L .took ≡ L .took)
     go true = (refl, refl)
     go false = (refl, refl)
 
@@ -74,22 +79,33 @@ pub record Summed (sh : Shape) (m : Memory) (L : Ledger) : Type 0 where
   pub balanced : Balanced sh (view sh (m .store)) chains (worker (m .table)) L
 
 -- a start moves nothing
-start-worth : (w : Worker) (o : Outcome) (t c : ℕ) → w .stage ≡ 0 → o .response ≡ Begun c → linkedBit (o .worker) ≡ 0 → markedBit (o .worker) ≡ 0 → Worth w t t o
+start-worth : (w : Worker) (o : Outcome) (t c : ℕ) → w .stage ≡ 0 → o .response ≡ Begun c → linkedBit (o .worker) ≡ 0 → markedBit (o .worker) ≡ 0
+    → Worth w t t o
 start-worth w o t c idle e p q =
     omega (arith, ap storedIn e, ap tookIn e, p, q, linked-low w (omega arith), marked-idle w idle)
 
 module _ (sh : Shape) where
   -- one record changes, and the unmarked nodes with it
-  performed : (m : Memory) (i : ℕ) (o : Outcome) (ch ch′ : Chains) (L L′ : Ledger) → Reached sh m ch → i < sh .workers → AllInside sh (o .writes) → Balanced sh (view sh (m .store)) ch (worker (m .table)) L
+  performed : (m : Memory) (i : ℕ) (o : Outcome) (ch ch′ : Chains) (L L′ : Ledger) → Reached sh m ch → i < sh .workers → AllInside sh (o .writes)
+      → Balanced sh (view sh (m .store)) ch (worker (m .table)) L
       → L′ .stored ≡ storedIn (o .response) + L .stored → L′ .took ≡ tookIn (o .response) + L .took
-      → Worth (worker (m .table) i) (total sh (view sh (m .store) .cells) ch (sh .buckets)) (total sh (updates (o .writes) (view sh (m .store)) .cells) ch′ (sh .buckets)) o
+      → Worth (worker (m .table) i) (total sh (view sh (m .store) .cells) ch (sh .buckets))
+      (total sh (updates (o .writes) (view sh (m .store)) .cells) ch′ (sh .buckets)) o
       → Balanced sh (view sh (perform sh m i o .memory .store)) ch′ (worker (perform sh m i o .memory .table)) L′
   performed m i o ch ch′ L L′ K l ins B st tk w =
       let v = view-writeAll sh (m .store) (o .writes) (K .lent .store) ins in
       let t = table-set (m .table) i (o .worker) (omega (arith, K .lent .table)) in
       subst⁻¹ (λ T. Balanced sh (view sh (writeAll sh (m .store) (o .writes))) ch′ T L′) t
       (subst⁻¹ (λ x. Balanced sh x ch′ (with-record (worker (m .table)) i (o .worker)) L′) v
-      (omega (arith, B, st, tk, w, tally-with linkedBit (worker (m .table)) i (o .worker) (sh .workers) l, tally-with markedBit (worker (m .table)) i (o .worker) (sh .workers) l)))
+      (omega (
+        arith,
+        B,
+        st,
+        tk,
+        w,
+        tally-with linkedBit (worker (m .table)) i (o .worker) (sh .workers) l,
+        tally-with markedBit (worker (m .table)) i (o .worker) (sh .workers) l,
+      )))
 
   summed-act : (m : Memory) (L : Ledger) (a : Action) → Summed sh m L → Summed sh (act sh m a .memory) (reads sh m a L)
   unfolding enqueueStart dequeueStart
@@ -106,7 +122,8 @@ module _ (sh : Shape) where
             chains = S .chains;
             reached = reached-enqueue sh m (S .chains) i x (S .reached) A;
             balanced = performed m i o (S .chains) (S .chains) L (notes sh m (Enqueue i x) (o .response) L) (S .reached) (A .usable .exists)
-                (enqueue-inside sh (m .store) (firstFree sh (m .store) (m .table)) x (worker (m .table) i) (first-free-node sh (m .store) (m .table) (S .reached .store .last) (A .node))) (S .balanced) (omega arith) (omega arith)
+                (enqueue-inside sh (m .store) (firstFree sh (m .store) (m .table)) x (worker (m .table) i)
+                (first-free-node sh (m .store) (m .table) (S .reached .store .last) (A .node))) (S .balanced) (omega arith) (omega arith)
                 (start-worth (worker (m .table) i) o t _ (A .idle) refl (linked-low (o .worker) (omega arith)) (marked-put (o .worker) refl));
           }
       accepted (Dequeue i) e =
@@ -115,7 +132,9 @@ module _ (sh : Shape) where
           record {
             chains = S .chains;
             reached = reached-dequeue sh m (S .chains) i (S .reached) A;
-            balanced = performed m i o (S .chains) (S .chains) L (notes sh m (Dequeue i) (o .response) L) (S .reached) (A .usable .exists) (dequeue-inside sh (m .store) (worker (m .table) i)) (S .balanced) (omega arith) (omega arith)
+            balanced =
+                performed m i o (S .chains) (S .chains) L (notes sh m (Dequeue i) (o .response) L) (S .reached) (A .usable .exists)
+                (dequeue-inside sh (m .store) (worker (m .table) i)) (S .balanced) (omega arith) (omega arith)
                 (start-worth (worker (m .table) i) o t _ (A .idle) refl (linked-high (o .worker) (omega arith)) (marked-high (o .worker) (omega arith)));
           }
       accepted (Step i) e =
@@ -129,8 +148,11 @@ module _ (sh : Shape) where
           record {
             chains = chains-after sh (m .store) (worker (m .table)) i l (A .busy) (S .chains) (K .inv) c;
             reached = reached-step sh m (S .chains) i K A c;
-            balanced = performed m i o (S .chains) (chains-after sh (m .store) (worker (m .table)) i l (A .busy) (S .chains) (K .inv) c) L (hears i (o .response) (sees sh m i L)) K l (change-inside sh (m .store) (worker (m .table) i) r c) (S .balanced)
-                (hears-stored i (o .response) (sees sh m i L) ∙ ap (λ n. storedIn (o .response) + n) p) (hears-took i (o .response) (sees sh m i L) ∙ ap (λ n. tookIn (o .response) + n) q)
+            balanced =
+                performed m i o (S .chains) (chains-after sh (m .store) (worker (m .table)) i l (A .busy) (S .chains) (K .inv) c) L
+                (hears i (o .response) (sees sh m i L)) K l (change-inside sh (m .store) (worker (m .table) i) r c) (S .balanced)
+                (hears-stored i (o .response) (sees sh m i L) ∙ ap (λ n. storedIn (o .response) + n) p) (hears-took i (o .response) (sees sh m i L)
+                ∙ ap (λ n. tookIn (o .response) + n) q)
                 (worth sh (m .store) (worker (m .table)) i l (A .busy) (S .chains) (K .inv) r c);
           }
 
@@ -167,7 +189,8 @@ module _ (sh : Shape) where
       idle : (j : ℕ) → j < sh .workers → (worker (openTable sh (m .table)) j .stage ≤ 5) × (worker (openTable sh (m .table)) j .stage ≡ 0)
       idle j h = let z = ap (λ (w : Worker). w .stage) (open-worker sh (m .table) j h) in (omega (arith, z), z)
 
-  pub summed : (m : Memory) → open-pool sh m .response ≡ Opened → (h : List Action) → Summed sh (run sh (open-pool sh m .memory) h) (ledger sh (open-pool sh m .memory) h new)
+  pub summed : (m : Memory) → open-pool sh m .response ≡ Opened → (h : List Action)
+      → Summed sh (run sh (open-pool sh m .memory) h) (ledger sh (open-pool sh m .memory) h new)
   summed m e h = summed-run (open-pool sh m .memory) new h (summed-open m e)
 
   -- ── in the words of the statement ──
@@ -188,13 +211,21 @@ module _ (sh : Shape) where
           go true e = omega (arith, eqb-true (x % 2) 1 e)
           go false e = omega (arith, eqb-false (x % 2) 1 e)
 
-  unmarked-are : (s : List ℕ) (lists : ℕ → List ℕ) (ch : Chains) (b : ℕ) → ((q : ℕ) → q < b → lists q ≡ ch q) → unmarkedTo sh s lists b ≡ total sh (view sh s .cells) ch b
+  unmarked-are : (s : List ℕ) (lists : ℕ → List ℕ) (ch : Chains) (b : ℕ) → ((q : ℕ) → q < b → lists q ≡ ch q)
+      → unmarkedTo sh s lists b ≡ total sh (view sh s .cells) ch b
   unfolding unmarkedTo
   unmarked-are s lists ch zero h = refl
-  unmarked-are s lists ch (suc b) h = omega (arith, unmarked-is s (lists b), ap (counting.count sh (view sh s .cells)) (h b (omega arith)), unmarked-are s lists ch b (λ q l. h q (omega arith)))
+  unmarked-are s lists ch (suc b) h =
+      omega (
+        arith,
+        unmarked-is s (lists b),
+        ap (counting.count sh (view sh s .cells)) (h b (omega arith)),
+        unmarked-are s lists ch b (λ q l. h q (omega arith)),
+      )
 
   -- STORED + PUTS AT 6 AND 7 = ARRIVALS ANSWERED + TAKES AT 1 TO 3 + UNMARKED NODES IN THE LISTS
-  pub sum-balances : (m : Memory) → open-pool sh m .response ≡ Opened → (h : List Action) → let n = run sh (open-pool sh m .memory) h in let L = ledger sh (open-pool sh m .memory) h new in
+  pub sum-balances : (m : Memory) → open-pool sh m .response ≡ Opened → (h : List Action) → let n = run sh (open-pool sh m .memory) h in
+      let L = ledger sh (open-pool sh m .memory) h new in
       (lists : ℕ → List ℕ) → ((b : ℕ) → b < sh .buckets → bucketList sh (n .store) b ≡ some (lists b))
       → L .stored + workersWith sh (n .table) hasLinked ≡ L .took + workersWith sh (n .table) hasMarked + unmarkedTo sh (n .store) lists (sh .buckets)
   sum-balances m e h lists listed =
@@ -205,8 +236,6 @@ module _ (sh : Shape) where
         S .balanced,
         workers-are (n .table) hasLinked (sh .workers),
         workers-are (n .table) hasMarked (sh .workers),
-        unmarked-are (n .store) lists (S .chains) (sh .buckets) (λ b l. one-list (sym (listed b l) ∙ walk-meets sh (n .store) (S .chains) _ (S .reached .inv .lists) b l)),
+        unmarked-are (n .store) lists (S .chains) (sh .buckets) (λ b l. Option·some-injective _ _ (sym (listed b l)
+            ∙ walk-meets sh (n .store) (S .chains) _ (S .reached .inv .lists) b l)),
       )
-    where
-      one-list : {a b : List ℕ} → some a ≡ some b → a ≡ b
-      one-list {a} {b} q = let z : a ≡ b = cc in z

@@ -4,94 +4,37 @@ use mathlib.Core.Bool.{Bool, true, false, not, _&&_}
 use mathlib.Core.Logic.{_≢_}
 use mathlib.Core.Option.{some}
 use mathlib.Core.List.{List, [], _∷_, List·Memᴰ·head, List·Memᴰ·tail}
-use Prim.Native.Nat.{ℕ, zero, suc, _+_, _/_, _%_, _≤_, _<_}
+use Prim.Native.Nat.{ℕ, zero, suc, _+_, _/_, _%_, _<_}
 use native.Mathlib.Omega.{arith}
-use native.Mathlib.Decide.{ℕ-discrete}
 use lib.Dec.{eqb}
 use lib.ListN.{length}
 use borrow.Author.Tests.{eqb-true, eqb-false, eq-eqb, ne-eqb}
 use Rattle.arrival.specs.declared.Shape.{Shape}
 use Rattle.arrival.specs.declared.Item.{Item}
 use Rattle.laws.specs.Tests.{parts}
+use Rattle.laws.specs.Lists.{Once, once-below}
 use Rattle.calendar.specs.rules.Layout.{link, itemAt, isMarked}
-use Rattle.calendar.specs.facts.Views.{view}
 use Rattle.calendar.specs.rules.Snapshot.{onto, nodesFrom, bucketList, sameItem, unmarkedOf}
-use Rattle.lists.specs.Chain.{In, Distinct, Runs}
+use Rattle.calendar.specs.facts.Views.{view}
+use Rattle.lists.specs.Chain.{In, Runs}
 use Rattle.lists.specs.LinkInvariant.{Chains, chain-distinct, Lists}
-
--- ── numbers that differ and lie below N are at most N ──
-keep : {P : Type 0} → Dec P → ℕ → List ℕ → List ℕ
-keep (yes h) n ns = ns
-keep (no h) n ns = n ∷ ns
-
-less : ℕ → List ℕ → List ℕ
-less k [] = []
-less k (n ∷ ns) = keep (ℕ-discrete n k) n (less k ns)
-
-less-in : (k m : ℕ) (ns : List ℕ) → In m (less k ns) → In m ns × (m ≢ k)
-unfolding less keep
-less-in k m [] i = elim i [ ]
-less-in k m (n ∷ ns) i = go (ℕ-discrete n k) i (λ j. less-in k m ns j)
-  where
-    up : In m ns × (m ≢ k) → In m (n ∷ ns) × (m ≢ k)
-    up (j, h) = (List·Memᴰ·tail j, h)
-
-    go : (d : Dec (n ≡ k)) → In m (keep d n (less k ns)) → (In m (less k ns) → In m ns × (m ≢ k)) → In m (n ∷ ns) × (m ≢ k)
-    go (yes e) i ih = up (ih i)
-    go (no h) (List·Memᴰ·head e) ih = (List·Memᴰ·head e, λ q. h (sym e ∙ q))
-    go (no h) (List·Memᴰ·tail i) ih = up (ih i)
-
-less-distinct : (k : ℕ) (ns : List ℕ) → Distinct ns → Distinct (less k ns)
-unfolding less keep
-less-distinct k [] d = tt
-less-distinct k (n ∷ ns) d = go (ℕ-discrete n k) (less-distinct k ns (d .1))
-  where
-    go : (e : Dec (n ≡ k)) → Distinct (less k ns) → Distinct (keep e n (less k ns))
-    go (yes e) ih = ih
-    go (no h) ih = (λ m i. d .0 m (less-in k m ns i .0), ih)
-
--- nothing is lost where k is not in the list
-less-whole : (k : ℕ) (ns : List ℕ) → ((m : ℕ) → In m ns → k ≢ m) → length (less k ns) ≡ length ns
-unfolding less keep
-less-whole k [] h = refl
-less-whole k (n ∷ ns) h = go (ℕ-discrete n k) (less-whole k ns (λ m i. h m (List·Memᴰ·tail i)))
-  where
-    go : (e : Dec (n ≡ k)) → length (less k ns) ≡ length ns → length (keep e n (less k ns)) ≡ suc (length ns)
-    go (yes e) ih = absurd (h n (List·Memᴰ·head refl) (sym e))
-    go (no u) ih = ap suc ih
-
-less-length : (k : ℕ) (ns : List ℕ) → Distinct ns → length ns ≤ suc (length (less k ns))
-unfolding less keep
-less-length k [] d = omega arith
-less-length k (n ∷ ns) d = go (ℕ-discrete n k) (less-length k ns (d .1))
-  where
-    go : (e : Dec (n ≡ k)) → length ns ≤ suc (length (less k ns)) → suc (length ns) ≤ suc (length (keep e n (less k ns)))
-    go (yes e) ih = omega (arith, less-whole k ns (λ m i q. d .0 m i (e ∙ q)))
-    go (no h) ih = omega arith
-
-few : (N : ℕ) (ns : List ℕ) → Distinct ns → ((m : ℕ) → In m ns → m < N) → length ns ≤ N
-few zero [] d h = omega arith
-few zero (n ∷ ns) d h = absurd (omega (arith, h n (List·Memᴰ·head refl)))
-few (suc N) ns d h =
-    omega (arith, less-length N ns d, few N (less N ns) (less-distinct N ns d) (λ m i. let (j, u) = less-in N m ns i in below m (h m j) u))
-  where
-    below : (m : ℕ) → m < suc N → m ≢ N → m < N
-    below m l u = omega arith
 
 -- ── the walk ──
 module _ (sh : Shape) (s : List ℕ) where
-  walk-runs : (fuel p : ℕ) (ns : List ℕ) → length ns < fuel → Runs sh (view sh s .cells) p ns → ((n : ℕ) → In n ns → n < sh .nodes) → nodesFrom sh s fuel p ≡ some ns
+  walk-runs : (fuel p : ℕ) (ns : List ℕ) → length ns < fuel → Runs sh (view sh s .cells) p ns → ((n : ℕ) → In n ns → n < sh .nodes)
+      → nodesFrom sh s fuel p ≡ some ns
   unfolding nodesFrom
   walk-runs zero p ns l r h = absurd (omega arith)
   walk-runs (suc fuel) p [] l r h = rw (eq-eqb (view sh s .cells p / 2) (sh .nodes) r)
   walk-runs (suc fuel) p (n ∷ ns) l r h =
-      let e : eqb (view sh s .cells p / 2) (sh .nodes) ≡ false = ne-eqb (view sh s .cells p / 2) (sh .nodes) (λ q. omega (arith, r .0, h n (List·Memᴰ·head refl))) in
+      let e : eqb (view sh s .cells p / 2) (sh .nodes)
+      ≡ false = ne-eqb (view sh s .cells p / 2) (sh .nodes) (λ q. omega (arith, r .0, h n (List·Memᴰ·head refl))) in
       rw (e, r .0) (ap (onto n) (walk-runs fuel (sh .buckets + n) ns (omega arith) (r .1) (λ m i. h m (List·Memᴰ·tail i))))
 
   -- A BUCKET'S LIST IS ITS CHAIN
   pub walk-meets : (ch : Chains) (Live : ℕ → Type 0) → Lists sh (view sh s) ch Live → (b : ℕ) → b < sh .buckets → bucketList sh s b ≡ some (ch b)
   walk-meets ch Live I b l =
-      let short = few (sh .nodes) (ch b) (chain-distinct sh (view sh s) (ch b) (I .ascends b)) (λ n i. I .member b n i .isNode) in
+      let short = once-below (sh .nodes) (ch b) (chain-distinct sh (view sh s) (ch b) (I .ascends b)) (λ n i. I .member b n i .isNode) in
       walk-runs (sh .nodes + 1) b (ch b) (omega arith) (I .runs b l) (λ n i. I .member b n i .isNode)
 
   -- ── unmarked nodes that hold x ──
@@ -101,13 +44,27 @@ module _ (sh : Shape) (s : List ℕ) where
       let (e, distance) = parts _ _ e in
       let (e, order) = parts _ _ e in
       let (time, path) = parts _ _ e in
-      λ i. record { time = eqb-true (x .time) (y .time) time i; path = eqb-true (x .path) (y .path) path i; order = eqb-true (x .order) (y .order) order i; distance = eqb-true (x .distance) (y .distance) distance i; ticket = eqb-true (x .ticket) (y .ticket) ticket i }
+      λ i. record {
+        time = eqb-true (x .time) (y .time) time i;
+        path = eqb-true (x .path) (y .path) path i;
+        order = eqb-true (x .order) (y .order) order i;
+        distance = eqb-true (x .distance) (y .distance) distance i;
+        ticket = eqb-true (x .ticket) (y .ticket) ticket i;
+      }
 
   item-same : (x : Item) → sameItem x x ≡ true
-  item-same x = rw (eq-eqb (x .time) (x .time) refl, eq-eqb (x .path) (x .path) refl, eq-eqb (x .order) (x .order) refl, eq-eqb (x .distance) (x .distance) refl, eq-eqb (x .ticket) (x .ticket) refl)
+  item-same x =
+      rw (
+        eq-eqb (x .time) (x .time) refl,
+        eq-eqb (x .path) (x .path) refl,
+        eq-eqb (x .order) (x .order) refl,
+        eq-eqb (x .distance) (x .distance) refl,
+        eq-eqb (x .ticket) (x .ticket) refl,
+      )
 
   -- the test at one node
-  holds-not : (x : Item) (n : ℕ) → (view sh s .cells (sh .buckets + n) % 2 ≡ 0 → itemAt sh s n ≢ x) → (not (isMarked (link sh s n)) && sameItem (itemAt sh s n) x) ≡ false
+  holds-not : (x : Item) (n : ℕ) → (view sh s .cells (sh .buckets + n) % 2 ≡ 0 → itemAt sh s n ≢ x)
+      → (not (isMarked (link sh s n)) && sameItem (itemAt sh s n) x) ≡ false
   holds-not x n h = go (isMarked (link sh s n)) refl (sameItem (itemAt sh s n) x) refl
     where
       clean : isMarked (link sh s n) ≡ false → view sh s .cells (sh .buckets + n) % 2 ≡ 0
@@ -118,7 +75,8 @@ module _ (sh : Shape) (s : List ℕ) where
       go false e false f = refl
       go false e true f = absurd (h (clean e) (same-item (itemAt sh s n) x f))
 
-  holds-is : (x : Item) (n : ℕ) → view sh s .cells (sh .buckets + n) % 2 ≡ 0 → itemAt sh s n ≡ x → (not (isMarked (link sh s n)) && sameItem (itemAt sh s n) x) ≡ true
+  holds-is : (x : Item) (n : ℕ) → view sh s .cells (sh .buckets + n) % 2 ≡ 0 → itemAt sh s n ≡ x
+      → (not (isMarked (link sh s n)) && sameItem (itemAt sh s n) x) ≡ true
   holds-is x n c e = rw (ne-eqb (link sh s n % 2) 1 (λ q. omega arith)) (subst (λ y. sameItem (itemAt sh s n) y ≡ true) e (item-same (itemAt sh s n)))
 
   pub unmarked-none : (x : Item) (ns : List ℕ) → ((n : ℕ) → In n ns → view sh s .cells (sh .buckets + n) % 2 ≡ 0 → itemAt sh s n ≢ x) → unmarkedOf sh s x ns ≡ 0
@@ -126,10 +84,12 @@ module _ (sh : Shape) (s : List ℕ) where
   unmarked-none x [] h = refl
   unmarked-none x (n ∷ ns) h = rw (holds-not x n (h n (List·Memᴰ·head refl)), unmarked-none x ns (λ m i. h m (List·Memᴰ·tail i)))
 
-  pub unmarked-once : (x : Item) (k : ℕ) (ns : List ℕ) → Distinct ns → In k ns → view sh s .cells (sh .buckets + k) % 2 ≡ 0 → itemAt sh s k ≡ x → ((n : ℕ) → In n ns → n ≢ k → itemAt sh s n ≢ x) → unmarkedOf sh s x ns ≡ 1
+  pub unmarked-once : (x : Item) (k : ℕ) (ns : List ℕ) → Once ns → In k ns → view sh s .cells (sh .buckets + k) % 2 ≡ 0 → itemAt sh s k ≡ x
+      → ((n : ℕ) → In n ns → n ≢ k → itemAt sh s n ≢ x) → unmarkedOf sh s x ns ≡ 1
   unfolding unmarkedOf
   unmarked-once x k (n ∷ ns) d (List·Memᴰ·head e) c q h =
-      let p : (not (isMarked (link sh s n)) && sameItem (itemAt sh s n) x) ≡ true = subst (λ y. (not (isMarked (link sh s y)) && sameItem (itemAt sh s y) x) ≡ true) e (holds-is x k c q) in
+      let p : (not (isMarked (link sh s n)) && sameItem (itemAt sh s n) x)
+      ≡ true = subst (λ y. (not (isMarked (link sh s y)) && sameItem (itemAt sh s y) x) ≡ true) e (holds-is x k c q) in
       rw (p, unmarked-none x ns (λ m i y. h m (List·Memᴰ·tail i) (λ z. d .0 m i (sym e ∙ sym z))))
   unmarked-once x k (n ∷ ns) d (List·Memᴰ·tail i) c q h =
       rw (holds-not x n (λ y. h n (List·Memᴰ·head refl) (d .0 k i)), unmarked-once x k ns (d .1) i c q (λ m j. h m (List·Memᴰ·tail j)))

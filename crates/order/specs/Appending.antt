@@ -1,12 +1,22 @@
--- The other changes of the order: a call ends, an entry is appended, a scan is set to the end, a walk goes on. Assumes nothing.
+-- The other changes of the order: a call ends, an entry is appended, a scan is set to the end, a walk goes on.
+--     Ends, Past                                                              a call ends; nothing is over later
+--     settled-late, not-settled, settled-kept, done-kept, not-before-kept     what an end keeps
+--     walk-map, Anew, marks-map                                               walks and scans carried to other tables
+--     Longer, marks-snoc                                                      scans where an entry is appended
+--     inv-end, inv-enqueue, inv-empty                                         a call ends; its enqueue, or its empty dequeue, is appended
+--     unscan-mem, inv-scan                                                    a scan is set to the end
+--     inv-walk, walked-out, inv-shift                                         a walk goes on; comes to the end of its bucket; the store changes
+-- Assumes nothing.
 use mathlib.Core.Path.{_≡_, refl, sym, _∙_, ap, subst}
 use mathlib.Core.Logic.{_⊎_, inl, inr}
-use mathlib.Core.List.{List, [], _∷_, _++_, List·Memᴰ as Mem, List·Memᴰ·head as here, List·Memᴰ·tail as there, List·Memᴰ·append-cases as mem-append, Memᴰ·append-right as mem-right}
+use mathlib.Core.List.{List, [], _∷_, _++_, List·Memᴰ as Mem, List·Memᴰ·head as here, List·Memᴰ·tail as there, List·Memᴰ·append-cases as mem-append}
+use mathlib.Core.List.{Memᴰ·append-right as mem-right}
 use Prim.Native.Nat.{ℕ, _≤_, _<_}
 use native.Mathlib.Omega.{arith}
 use native.Mathlib.Decide.{ℕ-discrete}
-use Rattle.order.specs.Entries.{Keys, Element, Entry, enqueue, dequeue, empty, scan, Q, Order, keep, ticket, bucket, without, step, run, Walk, Ok, run-append, walk-append}
-use Rattle.order.specs.RealTime.{End, running, ended, Hist, NotBefore, Settled, end-of, ticket-of, InTime, Timely, pairs-snoc, Elder, AgeAt}
+use Rattle.order.specs.Entries.{Keys, Element, Entry, enqueue, dequeue, empty, scan, Q, Order, keep, ticket, bucket, without, step, run, Walk, Ok}
+use Rattle.order.specs.Entries.{run-append, walk-append}
+use Rattle.order.specs.RealTime.{End, running, ended, Hist, NotBefore, Settled, end-of, ticket-of, InTime, Timely, pairs-snoc, Elder, AgeAt, settled-open}
 use Rattle.order.specs.Scans.{Walker, Sight, Marks, marks-find, Alike, nil, both, right, alike-run, alike-unscan, sight-alike, unscan, running-ended}
 use Rattle.order.specs.OrderAfterMark.{Inv, came, inv-alike, inv-unscan}
 
@@ -29,17 +39,13 @@ pub not-settled : (a b : End) → a ≡ running → Settled a b → ⊥
 not-settled running b e h = h
 not-settled (ended t) b e h = running-ended t (sym e)
 
-pub settled-running : (a b : End) → Settled a b → Settled a running
-settled-running running b h = h
-settled-running (ended t) b h = tt
-
 module _ {H H′ : Hist} {c s : ℕ} (E : Ends H H′ c s) (B : Past H s) where
   pub settled-kept : (m n : ℕ) → Settled (H .end m) (H .end n) → Settled (H′ .end m) (H′ .end n)
   settled-kept m n h = go (ℕ-discrete m c) (ℕ-discrete n c)
     where
       go : Dec (m ≡ c) → Dec (n ≡ c) → Settled (H′ .end m) (H′ .end n)
       go (yes e) d = absurd (not-settled (H .end m) (H .end n) (ap (H .end) e ∙ E .ran) h)
-      go (no k) (yes e) = rw (E .other-end m k, e, E .over) (settled-late (H .end m) s (B m) (settled-running (H .end m) (H .end n) h))
+      go (no k) (yes e) = rw (E .other-end m k, e, E .over) (settled-late (H .end m) s (B m) (settled-open (H .end m) (H .end n) h))
       go (no k) (no l) = rw (E .other-end m k, E .other-end n l) h
 
   pub done-kept : (m : ℕ) → Settled (H .end m) running → Settled (H′ .end m) running
@@ -62,20 +68,23 @@ walk-map P R f S (e ∷ L) w = (f S e (w .0), walk-map P R f (step S e) L (w .1)
 
 -- scans, when the tables or what their workers know have changed: T and D as they stand in L
 abbrev pub Anew : {K : Keys} → Hist → Hist → (ℕ → Walker K) → (ℕ → Walker K) → Q K → Order K → Type 0
-Anew {K} H H′ W W′ S L = (v : ℕ) (T : Q K) (D : Order K) → Mem (scan v) L → ((f : Entry K) → Mem f D → Mem f L) → run T D ≡ run S L → Sight H (W v) T D → Sight H′ (W′ v) T D
+Anew {K} H H′ W W′ S L = (v : ℕ) (T : Q K) (D : Order K) → Mem (scan v) L → ((f : Entry K) → Mem f D → Mem f L) → run T D ≡ run S L → Sight H (W v) T D
+    → Sight H′ (W′ v) T D
 
 pub marks-map : {K : Keys} (H H′ : Hist) (W W′ : ℕ → Walker K) (S : Q K) (L : Order K) → Anew H H′ W W′ S L → Marks H W S L → Marks H′ W′ S L
 marks-map H H′ W W′ S [] f h = tt
 marks-map H H′ W W′ S (enqueue p ∷ L) f h = (tt, marks-map H H′ W W′ (p ∷ S) L (λ v T D m i. f v T D (there m) (λ d k. there (i d k))) (h .1))
 marks-map H H′ W W′ S (dequeue z c ∷ L) f h = (tt, marks-map H H′ W W′ (without S z) L (λ v T D m i. f v T D (there m) (λ d k. there (i d k))) (h .1))
 marks-map H H′ W W′ S (empty c ∷ L) f h = (tt, marks-map H H′ W W′ S L (λ v T D m i. f v T D (there m) (λ d k. there (i d k))) (h .1))
-marks-map H H′ W W′ S (scan w ∷ L) f h = (f w S L (here refl) (λ d m. there m) refl (h .0), marks-map H H′ W W′ S L (λ v T D m i. f v T D (there m) (λ d k. there (i d k))) (h .1))
+marks-map H H′ W W′ S (scan w ∷ L) f h =
+    (f w S L (here refl) (λ d m. there m) refl (h .0), marks-map H H′ W W′ S L (λ v T D m i. f v T D (there m) (λ d k. there (i d k))) (h .1))
 
 -- scans, when e is appended
 abbrev pub Longer : {K : Keys} → Hist → (ℕ → Walker K) → Q K → Order K → Entry K → Type 0
 Longer {K} H W S L e = (v : ℕ) (T : Q K) (D : Order K) → Mem (scan v) L → run T D ≡ run S L → Sight H (W v) T D → Sight H (W v) T (D ++ e ∷ [])
 
-pub marks-snoc : {K : Keys} (H : Hist) (W : ℕ → Walker K) (S : Q K) (L : Order K) (e : Entry K) → Longer H W S L e → Marks H W (run S L) (e ∷ []) → Marks H W S L → Marks H W S (L ++ e ∷ [])
+pub marks-snoc : {K : Keys} (H : Hist) (W : ℕ → Walker K) (S : Q K) (L : Order K) (e : Entry K) → Longer H W S L e → Marks H W (run S L) (e ∷ [])
+    → Marks H W S L → Marks H W S (L ++ e ∷ [])
 marks-snoc H W S [] e f n h = n
 marks-snoc H W S (enqueue p ∷ L) e f n h = (tt, marks-snoc H W (p ∷ S) L e (λ v T D m. f v T D (there m)) n (h .1))
 marks-snoc H W S (dequeue z c ∷ L) e f n h = (tt, marks-snoc H W (without S z) L e (λ v T D m. f v T D (there m)) n (h .1))
@@ -113,7 +122,8 @@ module _ {K : Keys} {H H′ : Hist} {c s : ℕ} (E : Ends H H′ c s) (B : Past 
     fresh = λ q t k e b. go q t k e b (ℕ-discrete (ticket q) c);
   }
     where
-      go : (q : Element K) (t : ℕ) → Mem (enqueue q) D → H′ .end (ticket q) ≡ ended t → bucket q ≤ W v .floor → Dec (ticket q ≡ c) → W v .epoch < H′ .late (ticket q)
+      go : (q : Element K) (t : ℕ) → Mem (enqueue q) D → H′ .end (ticket q) ≡ ended t → bucket q ≤ W v .floor → Dec (ticket q ≡ c)
+          → W v .epoch < H′ .late (ticket q)
       go q t k e b (yes n) = rw n (fresh v q m (i (enqueue q) k) n b)
       go q t k e b (no n) = rw (E .other-late (ticket q) n) (σ .fresh q t k (sym (E .other-end (ticket q) n) ∙ e) b)
 
@@ -142,7 +152,8 @@ module _ {K : Keys} (H : Hist) (W : ℕ → Walker K) (S : Q K) (L : Order K) (s
     (calls : (v : ℕ) → Mem (scan v) L → W v .call ≤ s)
     (I : Inv H W S L) where
   -- the enqueue of x, over at s
-  pub inv-enqueue : (x : Element K) → H .end (ticket x) ≡ ended s → ((v : ℕ) → Mem (scan v) L → bucket x ≤ W v .floor → W v .epoch < H .late (ticket x)) → Inv H W S (L ++ enqueue x ∷ [])
+  pub inv-enqueue : (x : Element K) → H .end (ticket x) ≡ ended s → ((v : ℕ) → Mem (scan v) L → bucket x ≤ W v .floor → W v .epoch < H .late (ticket x))
+      → Inv H W S (L ++ enqueue x ∷ [])
   inv-enqueue x e fr = record {
     legal = walk-append Ok S L (enqueue x ∷ []) (I .legal) (tt, tt);
     aged = walk-append (AgeAt H) S L (enqueue x ∷ []) (I .aged) (aged, tt);
@@ -172,7 +183,8 @@ module _ {K : Keys} (H : Hist) (W : ℕ → Walker K) (S : Q K) (L : Order K) (s
           young f (inl k) = σ .young f k
           young f (inr h) = rw (h, e) (calls v m)
 
-          fresh : (q : Element K) (t : ℕ) → Mem (enqueue q) D ⊎ (enqueue q ≡ enqueue x) → H .end (ticket q) ≡ ended t → bucket q ≤ W v .floor → W v .epoch < H .late (ticket q)
+          fresh : (q : Element K) (t : ℕ) → Mem (enqueue q) D ⊎ (enqueue q ≡ enqueue x) → H .end (ticket q) ≡ ended t → bucket q ≤ W v .floor
+              → W v .epoch < H .late (ticket q)
           fresh q t (inl k) i b = σ .fresh q t k i b
           fresh q t (inr h) i b = let j : q ≡ x = cc in rw j (fr v m (rw j at b))
 
@@ -199,7 +211,8 @@ module _ {K : Keys} (H : Hist) (W : ℕ → Walker K) (S : Q K) (L : Order K) (s
           young f (inl k) = σ .young f k
           young f (inr h) = rw (h, e) (calls v m)
 
-          fresh : (q : Element K) (t : ℕ) → Mem (enqueue q) D ⊎ (enqueue q ≡ empty c) → H .end (ticket q) ≡ ended t → bucket q ≤ W v .floor → W v .epoch < H .late (ticket q)
+          fresh : (q : Element K) (t : ℕ) → Mem (enqueue q) D ⊎ (enqueue q ≡ empty c) → H .end (ticket q) ≡ ended t → bucket q ≤ W v .floor
+              → W v .epoch < H .late (ticket q)
           fresh q t (inl k) i b = σ .fresh q t k i b
           fresh q t (inr h) i b = absurd (let z : _≡_ {A = ℕ} 0 1 = cc in omega arith)
 
@@ -235,8 +248,16 @@ module _ {K : Keys} (H : Hist) (W W′ : ℕ → Walker K) (S : Q K) (L : Order 
       let M : Order K = unscan L w in
       let g : run S L ≡ run S M = alike-run S (alike-unscan L w) in
       inv-alike H W′ S M (M ++ scan w ∷ []) (alike-snoc M w) (J .legal) (J .aged) (J .done) (J .timely)
-      (marks-snoc H W′ S M (scan w) (λ v T D m e σ. sight-alike H (W′ v) T D (D ++ scan w ∷ []) (alike-snoc D w) σ)
-      (record { kept = λ q m. m; above = λ q m. above q (subst (λ T. Mem q T) (sym g) m); ahead = λ q m. ahead q (subst (λ T. Mem q T) (sym g) m); young = λ f m. elim m [ ]; fresh = λ q t m. elim m [ ] }, tt)
+      (marks-snoc H W′ S M (scan w) (λ v T D m e σ. sight-alike H (W′ v) T D (D ++ scan w ∷ []) (alike-snoc D w) σ) (
+        record {
+          kept = λ q m. m;
+          above = λ q m. above q (subst (λ T. Mem q T) (sym g) m);
+          ahead = λ q m. ahead q (subst (λ T. Mem q T) (sym g) m);
+          young = λ f m. elim m [ ];
+          fresh = λ q t m. elim m [ ];
+        },
+        tt,
+      )
       (marks-map H H W W′ S M unchanged (J .marks)))
 
 -- ── w walks on: what lies ahead of it is less, but holds what is in the queue ──
@@ -244,7 +265,14 @@ module _ {K : Keys} (H : Hist) (W W′ : ℕ → Walker K) (S : Q K) (L : Order 
     (call : W′ w .call ≡ W w .call) (floor : W′ w .floor ≡ W w .floor) (epoch : W′ w .epoch ≡ W w .epoch)
     (ahead : (q : Element K) → Mem q (run S L) → W w .Ahead q → W′ w .Ahead q) where
   pub inv-walk : Inv H W′ S L
-  inv-walk = record { legal = I .legal; aged = I .aged; done = I .done; timely = I .timely; marks = marks-map H H W W′ S L (λ v T D m i g σ. go v T D g σ (ℕ-discrete v w)) (I .marks) }
+  inv-walk =
+      record {
+        legal = I .legal;
+        aged = I .aged;
+        done = I .done;
+        timely = I .timely;
+        marks = marks-map H H W W′ S L (λ v T D m i g σ. go v T D g σ (ℕ-discrete v w)) (I .marks);
+      }
     where
       at-w : (T : Q K) (D : Order K) → run T D ≡ run S L → Sight H (W w) T D → Sight H (W′ w) T D
       at-w T D g σ = record {
@@ -261,18 +289,21 @@ module _ {K : Keys} (H : Hist) (W W′ : ℕ → Walker K) (S : Q K) (L : Order 
 
 -- ── w has walked to the end of its bucket, and no enqueue was answered since: nothing in the queue is as low as that bucket (12, 13) ──
 module _ {K : Keys} (H : Hist) (W : ℕ → Walker K) (S : Q K) (L : Order K) (w : ℕ) (I : Inv H W S L) (scanning : Mem (scan w) L)
-    (none : (q : Element K) → ¬ (W w .Ahead q)) (lates : (q : Element K) (t : ℕ) → Mem (enqueue q) L → H .end (ticket q) ≡ ended t → H .late (ticket q) ≤ W w .epoch) where
+    (none : (q : Element K) → ¬ (W w .Ahead q))
+    (lates : (q : Element K) (t : ℕ) → Mem (enqueue q) L → H .end (ticket q) ≡ ended t → H .late (ticket q) ≤ W w .epoch) where
   pub walked-out : (q : Element K) → Mem q (run S L) → W w .floor < bucket q
   walked-out q m =
       let (A, D, g, σ) = marks-find H W S L w (I .marks) scanning in
       by-end A D g σ (H .end (ticket q)) refl (I .done q m)
     where
-      high : (A D : Order K) → A ++ scan w ∷ D ≡ L → Sight H (W w) (run S A) D → (t : ℕ) → H .end (ticket q) ≡ ended t → Mem q (run S A) ⊎ Mem (enqueue q) (scan w ∷ D) → ¬ (bucket q ≤ W w .floor)
+      high : (A D : Order K) → A ++ scan w ∷ D ≡ L → Sight H (W w) (run S A) D → (t : ℕ) → H .end (ticket q) ≡ ended t
+          → Mem q (run S A) ⊎ Mem (enqueue q) (scan w ∷ D) → ¬ (bucket q ≤ W w .floor)
       high A D g σ t e (inl k) b = none q (σ .ahead q k (omega (arith, σ .above q k)))
       high A D g σ t e (inr (here h)) b = let z : _≡_ {A = ℕ} 0 1 = cc in omega arith
       high A D g σ t e (inr (there k)) b = omega (arith, σ .fresh q t k e b, lates q t (subst (λ M. Mem (enqueue q) M) g (mem-right A (there k))) e)
 
-      by-end : (A D : Order K) → A ++ scan w ∷ D ≡ L → Sight H (W w) (run S A) D → (d : End) → H .end (ticket q) ≡ d → Settled (H .end (ticket q)) running → W w .floor < bucket q
+      by-end : (A D : Order K) → A ++ scan w ∷ D ≡ L → Sight H (W w) (run S A) D → (d : End) → H .end (ticket q) ≡ d → Settled (H .end (ticket q)) running
+          → W w .floor < bucket q
       by-end A D g σ running e h = absurd (not-settled (H .end (ticket q)) running e h)
       by-end A D g σ (ended t) e h =
           let n : ¬ (bucket q ≤ W w .floor) = high A D g σ t e (came (run S A) (scan w ∷ D) q (rw (← run-append, g) m)) in
@@ -280,7 +311,8 @@ module _ {K : Keys} (H : Hist) (W : ℕ → Walker K) (S : Q K) (L : Order K) (w
 
 -- ── what lies ahead of each walk has changed, but holds what is in the queue ──
 module _ {K : Keys} (H : Hist) (W W′ : ℕ → Walker K) (S : Q K) (L : Order K) (I : Inv H W S L)
-    (call : (v : ℕ) → Mem (scan v) L → W′ v .call ≡ W v .call) (floor : (v : ℕ) → Mem (scan v) L → W′ v .floor ≡ W v .floor) (epoch : (v : ℕ) → Mem (scan v) L → W′ v .epoch ≡ W v .epoch)
+    (call : (v : ℕ) → Mem (scan v) L → W′ v .call ≡ W v .call) (floor : (v : ℕ) → Mem (scan v) L → W′ v .floor ≡ W v .floor)
+    (epoch : (v : ℕ) → Mem (scan v) L → W′ v .epoch ≡ W v .epoch)
     (ahead : (v : ℕ) → Mem (scan v) L → (q : Element K) → Mem q (run S L) → W v .Ahead q → W′ v .Ahead q) where
   pub inv-shift : Inv H W′ S L
   inv-shift = record { legal = I .legal; aged = I .aged; done = I .done; timely = I .timely; marks = marks-map H H W W′ S L shift (I .marks) }

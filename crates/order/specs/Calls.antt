@@ -1,7 +1,15 @@
--- CALLS: each call has at most one entry; what inserting a dequeue at the last place does to the entries, and to the scans' number. Assumes nothing.
+-- CALLS: each call has at most one entry; what inserting a dequeue at the last place does to the entries, and to the scans' number.
+--     one-if, one-if-no                                                          1 where something holds, 0 where it does not
+--     Call, Apart, Distinct                                                      an entry of a call; of two calls; each call once
+--     strip-own, mem-strip                                                       what is left without the enqueue of x
+--     there-yet                                                                  what was enqueued and not taken is there
+--     distinct-a, distinct-b                                                     each call once after a dequeue goes in, and with its enqueue
+--     scans, scans-append, scans-strip, scans-staying, scans-unscan, scans-a     how many scans a worker has, after each change
+-- Assumes nothing.
 use mathlib.Core.Path.{_≡_, refl, sym, _∙_, ap, subst}
 use mathlib.Core.Logic.{_⊎_, inl, inr}
-use mathlib.Core.List.{[], _∷_, _++_, List·Memᴰ as Mem, List·Memᴰ·head as here, List·Memᴰ·tail as there, List·Memᴰ·cases-cons as mem-cons, Memᴰ·append-left as mem-left, Memᴰ·append-right as mem-right}
+use mathlib.Core.List.{[], _∷_, _++_, List·Memᴰ as Mem, List·Memᴰ·head as here, List·Memᴰ·tail as there, List·Memᴰ·cases-cons as mem-cons}
+use mathlib.Core.List.{Memᴰ·append-left as mem-left, Memᴰ·append-right as mem-right}
 use Prim.Native.Nat.{ℕ, _+_}
 use native.Mathlib.Omega.{arith}
 use native.Mathlib.Decide.{ℕ-discrete}
@@ -71,7 +79,8 @@ module _ {K : Keys} where
   own-enqueue : (f : Entry K) (x : Element K) → f ≡ enqueue x → Own f x
   own-enqueue f x g = subst (λ t. Own t x) (sym g) refl
 
-  module _ (S : Q K) (x : Element K) (L : Order K) (p : Place S x L) (c : ℕ) (D : Distinct L) (fresh : (f : Entry K) → Mem f L → Call f → ¬ (ticket-of f ≡ c)) where
+  module _ (S : Q K) (x : Element K) (L : Order K) (p : Place S x L) (c : ℕ) (D : Distinct L)
+      (fresh : (f : Entry K) → Mem f L → Call f → ¬ (ticket-of f ≡ c)) where
     whole : Distinct (p .front ++ p .back)
     whole = rw (p .split) D
 
@@ -82,9 +91,12 @@ module _ {K : Keys} where
     in-back f m = subst (λ M. Mem f M) (p .split) (mem-right (p .front) m)
 
     pub distinct-a : Distinct (with-dequeue S x L p c)
-    distinct-a = pairs-insert Apart (p .front) (p .back) _ _ (strip-mem (p .back) x) (pairs-strip Apart (p .back) x (pairs-right Apart (p .front) (p .back) whole)) (λ f m a b. fresh f (in-front f m) a) (λ f m a b e. fresh f (in-back f m) b (sym e)) whole
+    distinct-a =
+        pairs-insert Apart (p .front) (p .back) _ _ (strip-mem (p .back) x) (pairs-strip Apart (p .back) x (pairs-right Apart (p .front) (p .back) whole))
+        (λ f m a b. fresh f (in-front f m) a) (λ f m a b e. fresh f (in-back f m) b (sym e)) whole
 
-    pub distinct-b : ¬ (ticket x ≡ c) → ((f : Entry K) → Mem f L → Call f → ticket-of f ≡ ticket x → f ≡ enqueue x) → ((d : ℕ) → ¬ Mem (dequeue x d) L) → ¬ Mem x (run S (p .front)) → Distinct (with-enqueue S x L p c)
+    pub distinct-b : ¬ (ticket x ≡ c) → ((f : Entry K) → Mem f L → Call f → ticket-of f ≡ ticket x → f ≡ enqueue x) → ((d : ℕ) → ¬ Mem (dequeue x d) L)
+        → ¬ Mem x (run S (p .front)) → Distinct (with-enqueue S x L p c)
     distinct-b n o u h = pairs-insert Apart (p .front) _ _ (enqueue x) (λ f m. m) (pairs-right Apart (p .front) _ distinct-a) before behind distinct-a
       where
         before : (f : Entry K) → Mem f (p .front) → Apart f (enqueue x)
@@ -127,7 +139,8 @@ module _ {K : Keys} where
   scans-staying v S x (empty c ∷ A) = scans-staying v S x A
   scans-staying v S x (scan w ∷ A) = go (mem? S x) (scans-staying v S x A)
     where
-      go : (d : Dec (Mem x S)) → scans v (staying S x A) + scans v (moving S x A) ≡ scans v A → scans v (keep d (scan w) (staying S x A)) + scans v (only d (scan w) (moving S x A)) ≡ one-if (ℕ-discrete w v) + scans v A
+      go : (d : Dec (Mem x S)) → scans v (staying S x A) + scans v (moving S x A) ≡ scans v A
+          → scans v (keep d (scan w) (staying S x A)) + scans v (only d (scan w) (moving S x A)) ≡ one-if (ℕ-discrete w v) + scans v A
       go (yes h) ih = omega arith
       go (no n) ih = omega arith
 
@@ -143,9 +156,19 @@ module _ {K : Keys} where
       go (no m) ih = omega arith
 
   -- so step 11 leaves each other worker's scan one
-  pub scans-a : (S : Q K) (x : Element K) (L : Order K) (p : Place S x L) (c v w : ℕ) → ¬ (v ≡ w) → scans v (unscan (staying S x (p .front) ++ dequeue x c ∷ (moving S x (p .front) ++ strip (p .back) x)) w) ≡ scans v L
+  pub scans-a : (S : Q K) (x : Element K) (L : Order K) (p : Place S x L) (c v w : ℕ) → ¬ (v ≡ w)
+      → scans v (unscan (staying S x (p .front) ++ dequeue x c ∷ (moving S x (p .front) ++ strip (p .back) x)) w) ≡ scans v L
   scans-a S x L p c v w n =
       let A : Order K = staying S x (p .front) in
       let M : Order K = moving S x (p .front) in
       let B : Order K = strip (p .back) x in
-      omega (arith, scans-unscan v w (A ++ dequeue x c ∷ (M ++ B)) n, scans-append v A (dequeue x c ∷ (M ++ B)), scans-append v M B, scans-staying v S x (p .front), scans-strip v (p .back) x, scans-append v (p .front) (p .back), ap (scans v) (p .split))
+      omega (
+        arith,
+        scans-unscan v w (A ++ dequeue x c ∷ (M ++ B)) n,
+        scans-append v A (dequeue x c ∷ (M ++ B)),
+        scans-append v M B,
+        scans-staying v S x (p .front),
+        scans-strip v (p .back) x,
+        scans-append v (p .front) (p .back),
+        ap (scans v) (p .split),
+      )

@@ -1,4 +1,15 @@
--- The plain queue as a list of elements, the entries of the order, and the walks through it. Assumes nothing.
+-- The plain queue as a list of elements, the entries of the order, and the walks through it.
+--     Keys, Element, Entry, Q, Order                                   elements with their laws, entries, queues and orders
+--     keep                                                             a list with one more element, or not
+--     _≺_, ticket, bucket, bucket-up, irrefl, trans, at-most-below     the order of elements
+--     same?, below?                                                    it is decided
+--     without, without-yes, without-no, without-comm                   a queue without an element
+--     mem-without, without-mem                                         who is in it
+--     Below, any-below?, mem?                                          something in the queue is below x, or x is in it: decided
+--     step, run, Walk                                                  the queue past an entry, and past an order; a property at each entry
+--     Ok, Legal, Busy                                                  what an entry may do; LEGAL; something is below x behind each entry
+--     run-append, walk-append, walk-left, walk-right                   orders one behind the other
+-- Assumes nothing.
 use mathlib.Core.Path.{_≡_, refl, sym, _∙_, ap, subst}
 use mathlib.Core.Logic.{_⊎_, inl, inr}
 use mathlib.Core.List.{List, [], _∷_, _++_, List·Memᴰ as Mem, List·Memᴰ·head as here, List·Memᴰ·tail as there, List·Memᴰ·cases-cons as mem-cons}
@@ -100,7 +111,8 @@ module _ {K : Keys} where
   without-comm [] x y = refl
   without-comm (p ∷ S) x y = go (same? p x) (same? p y) (without-comm S x y)
     where
-      go : (d : Dec (p ≡ x)) (e : Dec (p ≡ y)) → without (without S y) x ≡ without (without S x) y → without (keep e p (without S y)) x ≡ without (keep d p (without S x)) y
+      go : (d : Dec (p ≡ x)) (e : Dec (p ≡ y)) → without (without S y) x ≡ without (without S x) y
+          → without (keep e p (without S y)) x ≡ without (keep d p (without S x)) y
       go (yes a) (yes b) ih = ih
       go (yes a) (no m) ih = without-yes p (without S y) x a ∙ ih
       go (no n) (yes b) ih = ih ∙ sym (without-yes p (without S x) y b)

@@ -1,18 +1,26 @@
--- The order after step 11's success, entry by entry. Assumes nothing.
+-- The order after step 11's success, entry by entry.
+--     alike-distinct, alike-call                 orders that differ in scans only have the same calls
+--     scans-in, scans-out, scans-b               scans, by membership and number
+--     still-once, taken-gone, taken-enqueued     what was enqueued once and taken is gone; what is taken was enqueued
+--     Found, found                               the order after the step, and that there is one
+-- Assumes nothing.
 use mathlib.Core.Path.{_≡_, refl, sym, ap, subst}
 use mathlib.Core.Logic.{_⊎_, inl, inr}
-use mathlib.Core.List.{[], _∷_, _++_, List·Memᴰ as Mem, List·Memᴰ·head as here, List·Memᴰ·tail as there, List·Memᴰ·append-cases as mem-append, Memᴰ·append-left as mem-left, Memᴰ·append-right as mem-right}
+use mathlib.Core.List.{[], _∷_, _++_, List·Memᴰ as Mem, List·Memᴰ·head as here, List·Memᴰ·tail as there, List·Memᴰ·append-cases as mem-append}
+use mathlib.Core.List.{Memᴰ·append-left as mem-left, Memᴰ·append-right as mem-right}
 use Prim.Native.Nat.{ℕ, _+_, _<_}
 use native.Mathlib.Omega.{arith}
 use native.Mathlib.Decide.{ℕ-discrete}
-use Rattle.order.specs.Entries.{Keys, Element, Entry, enqueue, dequeue, empty, scan, Q, Order, ticket, without, without-mem, mem?, step, run, Ok, Legal, run-append}
+use Rattle.order.specs.Entries.{Keys, Element, Entry, enqueue, dequeue, empty, scan, Q, Order, ticket, without, without-mem, mem?, step, run, Ok, Legal}
+use Rattle.order.specs.Entries.{run-append}
 use Rattle.order.specs.LastPlace.{Place, Own, own?, strip}
 use Rattle.order.specs.Insertion.{with-dequeue, with-enqueue}
 use Rattle.order.specs.RealTime.{running, Hist, ticket-of, strip-mem}
 use Rattle.order.specs.Scans.{Walker, Alike, alike-mem, alike-sym, alike-unscan, alike-pairs, staying, moving, unscan}
 use Rattle.order.specs.OrderAfterMark.{Inv, Taking, Where, came, place, after-a, after-b, alike-a, alike-b, inv-a, inv-b, queue-a, queue-b}
 use Rattle.order.specs.Appending.{unscan-mem}
-use Rattle.order.specs.Calls.{one-if, Call, Apart, Distinct, mem-strip, distinct-a, distinct-b, scans, scans-append, scans-strip, scans-staying, scans-unscan, scans-a}
+use Rattle.order.specs.Calls.{one-if, Call, Apart, Distinct, mem-strip, distinct-a, distinct-b, scans, scans-append, scans-strip, scans-staying}
+use Rattle.order.specs.Calls.{scans-unscan, scans-a}
 
 pub alike-distinct : {K : Keys} {L M : Order K} → Alike L M → Distinct L → Distinct M
 alike-distinct a d = alike-pairs Apart (λ w f k. absurd k) (λ e w k j. absurd j) a d
@@ -50,15 +58,35 @@ scans-out {K} v (scan w ∷ L) h = go (ℕ-discrete w v) h (scans-out v L)
     go (yes e) k ih = here (ap scan (sym e))
     go (no n) k ih = there (ih (omega arith))
 
-pub scans-b : {K : Keys} (S : Q K) (x : Element K) (L : Order K) (p : Place S x L) (c v w : ℕ) → ¬ (v ≡ w) → scans v (unscan (staying S x (p .front) ++ enqueue x ∷ dequeue x c ∷ (moving S x (p .front) ++ strip (p .back) x)) w) ≡ scans v L
+pub scans-b : {K : Keys} (S : Q K) (x : Element K) (L : Order K) (p : Place S x L) (c v w : ℕ) → ¬ (v ≡ w)
+    → scans v (unscan (staying S x (p .front) ++ enqueue x ∷ dequeue x c ∷ (moving S x (p .front) ++ strip (p .back) x)) w) ≡ scans v L
 scans-b {K} S x L p c v w n =
     let A : Order K = staying S x (p .front) in
     let M : Order K = moving S x (p .front) in
     let B : Order K = strip (p .back) x in
-    omega (arith, scans-unscan v w (A ++ enqueue x ∷ dequeue x c ∷ (M ++ B)) n, scans-append v A (enqueue x ∷ dequeue x c ∷ (M ++ B)), scans-append v M B, scans-staying v S x (p .front), scans-strip v (p .back) x, scans-append v (p .front) (p .back), ap (scans v) (p .split))
+    omega (
+      arith,
+      scans-unscan v w (A ++ enqueue x ∷ dequeue x c ∷ (M ++ B)) n,
+      scans-append v A (enqueue x ∷ dequeue x c ∷ (M ++ B)),
+      scans-append v M B,
+      scans-staying v S x (p .front),
+      scans-strip v (p .back) x,
+      scans-append v (p .front) (p .back),
+      ap (scans v) (p .split),
+    )
 
 -- ── what was enqueued once and taken is gone ──
-pub taken-gone : {K : Keys} (S : Q K) (L : Order K) (x : Element K) (d : ℕ) → Legal S L → Distinct L → (Mem x S → ¬ Mem (enqueue x) L) → Mem (dequeue x d) L → ¬ Mem x (run S L)
+-- what is in the queue past an entry is enqueued no more
+pub still-once : {K : Keys} (S : Q K) (L : Order K) (x : Element K) (f : Entry K) → ((h : Entry K) → Mem h L → Apart f h)
+    → (Mem x S → ¬ Mem (enqueue x) (f ∷ L)) → Mem x (step S f) → ¬ Mem (enqueue x) L
+still-once S L x (enqueue p) a o (here g) j = a (enqueue x) j tt tt (ap ticket (sym g))
+still-once S L x (enqueue p) a o (there i) j = o i (there j)
+still-once S L x (dequeue z c) a o i j = o (without-mem S z i .0) (there j)
+still-once S L x (empty c) a o i j = o i (there j)
+still-once S L x (scan w) a o i j = o i (there j)
+
+pub taken-gone : {K : Keys} (S : Q K) (L : Order K) (x : Element K) (d : ℕ) → Legal S L → Distinct L → (Mem x S → ¬ Mem (enqueue x) L) → Mem (dequeue x d) L
+    → ¬ Mem x (run S L)
 taken-gone {K} S (e ∷ L) x d l D once (here g) k = go (subst (λ f. Mem x (run (step S f) L)) (sym g) k) (subst (λ f. Ok S f) (sym g) (l .0) .0)
   where
     go : Mem x (run (without S x) L) → Mem x S → ⊥
@@ -67,14 +95,7 @@ taken-gone {K} S (e ∷ L) x d l D once (here g) k = go (subst (λ f. Mem x (run
         pick : Mem x (without S x) ⊎ Mem (enqueue x) L → ⊥
         pick (inl y) = without-mem S x y .1 refl
         pick (inr y) = once i (there y)
-taken-gone {K} S (e ∷ L) x d l D once (there m) k = taken-gone (step S e) L x d (l .1) (D .1) (fresh e (D .0) once) m k
-  where
-    fresh : (f : Entry K) → ((h : Entry K) → Mem h L → Apart f h) → (Mem x S → ¬ Mem (enqueue x) (f ∷ L)) → Mem x (step S f) → ¬ Mem (enqueue x) L
-    fresh (enqueue p) a o (here g) j = a (enqueue x) j tt tt (ap ticket (sym g))
-    fresh (enqueue p) a o (there i) j = o i (there j)
-    fresh (dequeue z c) a o i j = o (without-mem S z i .0) (there j)
-    fresh (empty c) a o i j = o i (there j)
-    fresh (scan w) a o i j = o i (there j)
+taken-gone {K} S (e ∷ L) x d l D once (there m) k = taken-gone (step S e) L x d (l .1) (D .1) (still-once S L x e (D .0) once) m k
 
 -- what is taken was there or was enqueued
 pub taken-enqueued : {K : Keys} (S : Q K) (L : Order K) (x : Element K) (d : ℕ) → Legal S L → Mem (dequeue x d) L → Mem x S ⊎ Mem (enqueue x) L
@@ -102,7 +123,8 @@ pub record Found {K : Keys} (H : Hist) (W : ℕ → Walker K) (L M : Order K) (w
 
 module _ {K : Keys} (H : Hist) (W : ℕ → Walker K) (L : Order K) (w : ℕ) (x : Element K) (I : Inv H W [] L) (G : Taking H W [] L w x) (D : Distinct L)
     (fresh : (f : Entry K) → Mem f L → Call f → ¬ (ticket-of f ≡ W w .call))
-    (only : (f : Entry K) → Mem f L → Call f → ticket-of f ≡ ticket x → f ≡ enqueue x) (apart : ¬ (ticket x ≡ W w .call)) (untaken : (d : ℕ) → ¬ Mem (dequeue x d) L) where
+    (only : (f : Entry K) → Mem f L → Call f → ticket-of f ≡ ticket x → f ≡ enqueue x) (apart : ¬ (ticket x ≡ W w .call))
+    (untaken : (d : ℕ) → ¬ Mem (dequeue x d) L) where
   split-mem : (p : Place [] x L) (e : Entry K) → Mem e L → Mem e (p .front) ⊎ Mem e (p .back)
   split-mem p e m = mem-append (p .front) (subst (λ N. Mem e N) (sym (p .split)) m)
 
@@ -132,12 +154,14 @@ module _ {K : Keys} (H : Hist) (W : ℕ → Walker K) (L : Order K) (w : ℕ) (x
       go (yes o) = mem-right (p .front) (here (own-is e o))
       go (no n) = mem-right (p .front) (there (there (mem-strip (p .back) x e n m)))
 
-  new-a : (p : Place [] x L) (e : Entry K) → Mem e (p .front) ⊎ Mem e (dequeue x (W w .call) ∷ strip (p .back) x) → Mem e L ⊎ (e ≡ dequeue x (W w .call)) ⊎ (e ≡ enqueue x)
+  new-a : (p : Place [] x L) (e : Entry K) → Mem e (p .front) ⊎ Mem e (dequeue x (W w .call) ∷ strip (p .back) x)
+      → Mem e L ⊎ (e ≡ dequeue x (W w .call)) ⊎ (e ≡ enqueue x)
   new-a p e (inl m) = inl (whole-mem p e (inl m))
   new-a p e (inr (here g)) = inr (inl g)
   new-a p e (inr (there m)) = inl (whole-mem p e (inr (strip-mem (p .back) x e m)))
 
-  new-b : (p : Place [] x L) (e : Entry K) → Mem e (p .front) ⊎ Mem e (enqueue x ∷ dequeue x (W w .call) ∷ strip (p .back) x) → Mem e L ⊎ (e ≡ dequeue x (W w .call)) ⊎ (e ≡ enqueue x)
+  new-b : (p : Place [] x L) (e : Entry K) → Mem e (p .front) ⊎ Mem e (enqueue x ∷ dequeue x (W w .call) ∷ strip (p .back) x)
+      → Mem e L ⊎ (e ≡ dequeue x (W w .call)) ⊎ (e ≡ enqueue x)
   new-b p e (inl m) = inl (whole-mem p e (inl m))
   new-b p e (inr (here g)) = inr (inr g)
   new-b p e (inr (there (here g))) = inr (inl g)
@@ -165,10 +189,12 @@ module _ {K : Keys} (H : Hist) (W : ℕ → Walker K) (L : Order K) (w : ℕ) (x
         has-dequeue = alike-call b (dequeue x (W w .call)) tt (alike-call a (dequeue x (W w .call)) tt (mem-right (p .front) (here refl)));
         has-enqueue = alike-call b (enqueue x) tt (alike-call a (enqueue x) tt (mem-left _ i));
         scan-in = λ v n m. scans-out v _ (omega (arith, scans-a [] x L p (W w .call) v w n, scans-in v L m));
-        scan-out = λ v m. let n = unscan-mem (after-a H W [] L w x I G p) w v m in (scans-out v L (omega (arith, scans-a [] x L p (W w .call) v w n, scans-in v _ m)), n);
+        scan-out = λ v m. let n = unscan-mem (after-a H W [] L w x I G p) w v m in
+            (scans-out v L (omega (arith, scans-a [] x L p (W w .call) v w n, scans-in v _ m)), n);
       }
 
-  found-b : (u : Where H W [] L w x I G) → ¬ Mem x (run [] (u .at .front)) → (H .end (ticket x) ≡ running) ⊎ Mem (enqueue x) (u .at .back) → Found H W L (unscan (after-b H W [] L w x I G (u .at)) w) w x
+  found-b : (u : Where H W [] L w x I G) → ¬ Mem x (run [] (u .at .front)) → (H .end (ticket x) ≡ running) ⊎ Mem (enqueue x) (u .at .back)
+      → Found H W L (unscan (after-b H W [] L w x I G (u .at)) w) w x
   found-b u h o =
       let p : Place [] x L = u .at in
       let a : Alike (with-enqueue [] x L p (W w .call)) (after-b H W [] L w x I G p) = alike-b H W [] L w x I G p in
@@ -182,13 +208,15 @@ module _ {K : Keys} (H : Hist) (W : ℕ → Walker K) (L : Order K) (w : ℕ) (x
         has-dequeue = alike-call b (dequeue x (W w .call)) tt (alike-call a (dequeue x (W w .call)) tt (mem-right (p .front) (there (here refl))));
         has-enqueue = alike-call b (enqueue x) tt (alike-call a (enqueue x) tt (mem-right (p .front) (here refl)));
         scan-in = λ v n m. scans-out v _ (omega (arith, scans-b [] x L p (W w .call) v w n, scans-in v L m));
-        scan-out = λ v m. let n = unscan-mem (after-b H W [] L w x I G p) w v m in (scans-out v L (omega (arith, scans-b [] x L p (W w .call) v w n, scans-in v _ m)), n);
+        scan-out = λ v m. let n = unscan-mem (after-b H W [] L w x I G p) w v m in
+            (scans-out v L (omega (arith, scans-b [] x L p (W w .call) v w n, scans-in v _ m)), n);
       }
 
   pub found : (M : Order K) × Found H W L M w x
   found = go (place H W [] L w x I G) (mem? (run [] (place H W [] L w x I G .at .front)) x) (G .kept-or-open)
     where
-      go : (u : Where H W [] L w x I G) → Dec (Mem x (run [] (u .at .front))) → Mem x (run [] L) ⊎ (H .end (ticket x) ≡ running) → (M : Order K) × Found H W L M w x
+      go : (u : Where H W [] L w x I G) → Dec (Mem x (run [] (u .at .front))) → Mem x (run [] L) ⊎ (H .end (ticket x) ≡ running)
+          → (M : Order K) × Found H W L M w x
       go u (yes h) o = (_, found-a u h)
       go u (no n) (inr o) = (_, found-b u n (inl o))
       go u (no n) (inl m) = (_, found-b u n (inr (back (came _ (u .at .back) x (rw (← run-append, u .at .split) m)))))

@@ -3,7 +3,8 @@ use mathlib.Core.Path.{_≡_, refl, sym, _∙_, ap, subst}
 use mathlib.Core.Logic.{_⊎_, inl, inr}
 use mathlib.Core.List.{[], _∷_, _++_, List·Memᴰ as Mem, List·Memᴰ·head as here, List·Memᴰ·tail as there, List·Memᴰ·cases-cons as mem-cons}
 use Prim.Native.Nat.{ℕ}
-use Rattle.order.specs.Entries.{Keys, Element, Entry, enqueue, dequeue, empty, scan, Q, Order, keep, _≺_, irrefl, without, without-yes, mem-without, Below, step, run, Ok, Legal, Busy, run-append, walk-append, walk-left, walk-right}
+use Rattle.order.specs.Entries.{Keys, Element, Entry, enqueue, dequeue, empty, scan, Q, Order, keep, _≺_, irrefl, without, without-yes, mem-without}
+use Rattle.order.specs.Entries.{Below, step, run, Ok, Legal, Busy, run-append, walk-append, walk-left, walk-right}
 use Rattle.order.specs.LastPlace.{Place, Own, own?, Calm, calm, strip, legal-less, run-less}
 
 module _ {K : Keys} where
@@ -45,7 +46,8 @@ module _ {K : Keys} where
     pub legal-a : Legal S L → Mem x (run S (p .front)) → Legal S with-dequeue
     legal-a l h =
         let l′ = rw (sym (p .split)) at l in
-        walk-append Ok S (p .front) _ (walk-left Ok S (p .front) (p .back) l′) ((h, p .clear), legal-less _ x (p .back) (p .busy) (walk-right Ok S (p .front) (p .back) l′))
+        walk-append Ok S (p .front) _ (walk-left Ok S (p .front) (p .back) l′)
+        ((h, p .clear), legal-less _ x (p .back) (p .busy) (walk-right Ok S (p .front) (p .back) l′))
 
     run-back : run (without (run S (p .front)) x) (strip (p .back) x) ≡ without (run S L) x
     run-back = run-less (run S (p .front)) x (p .back) ∙ ap (λ T. without T x) (sym (run-append S (p .front) (p .back)) ∙ ap (run S) (p .split))
@@ -57,7 +59,8 @@ module _ {K : Keys} where
     legal-b l =
         let l′ = rw (sym (p .split)) at l in
         let T : Q K = run S (p .front) in
-        walk-append Ok S (p .front) _ (walk-left Ok S (p .front) (p .back) l′) (tt, ((here refl, clear), rw (without-yes x T x refl) (legal-less T x (p .back) (p .busy) (walk-right Ok S (p .front) (p .back) l′))))
+        walk-append Ok S (p .front) _ (walk-left Ok S (p .front) (p .back) l′)
+        (tt, ((here refl, clear), rw (without-yes x T x refl) (legal-less T x (p .back) (p .busy) (walk-right Ok S (p .front) (p .back) l′))))
       where
         clear : ¬ Below (x ∷ run S (p .front)) x
         clear (q, here m, h) = irrefl q x m h

@@ -1,4 +1,6 @@
--- The laws can be met: an instance on numbers, a legal order, an illegal one, and a taking whose facts all hold. Assumes nothing.
+-- The laws can be met: an instance on numbers, a legal order, an illegal one, and a taking whose facts all hold.
+--     weak, K₀, a     numbers as keys and elements
+-- Assumes nothing.
 use mathlib.Core.Path.{_≡_, refl, ap}
 use mathlib.Core.Logic.{_⊎_, inl, inr, ite, if-pos, if-neg}
 use mathlib.Core.List.{[], _∷_, List·Memᴰ as Mem, List·Memᴰ·head as here, List·Memᴰ·tail as there}
@@ -18,7 +20,19 @@ weak x y z h = go (decLt x y)
     go (no n) = inr (omega arith)
 
 abbrev pub K₀ : Keys
-K₀ = record { X = ℕ; _<ₖ_ = _<_; irreflₖ = λ h. omega arith; transₖ = λ g h. omega arith; weakₖ = λ {x} {z} y h. weak x y z h; same?ₖ = ℕ-discrete; below?ₖ = decLt; ticketₖ = λ x. x; bucketₖ = λ x. 0; bucket-upₖ = λ h. omega arith }
+K₀ =
+    record {
+      X = ℕ;
+      _<ₖ_ = _<_;
+      irreflₖ = λ h. omega arith;
+      transₖ = λ g h. omega arith;
+      weakₖ = λ {x} {z} y h. weak x y z h;
+      same?ₖ = ℕ-discrete;
+      below?ₖ = decLt;
+      ticketₖ = λ x. x;
+      bucketₖ = λ x. 0;
+      bucket-upₖ = λ h. omega arith;
+    }
 
 abbrev pub a : ℕ → Element K₀
 a n = record { it = n }
@@ -60,7 +74,14 @@ end-4 : H₀ .end 4 ≡ running
 end-4 = if-neg (ℕ-discrete 4 5) (λ e. omega arith) (ended 6) running
 
 inv : Inv H₀ W₀ [] L₀
-inv = record { legal = (tt, (tt, tt)); aged = (aged, (λ q m. tt, tt)); done = done; timely = (λ f m. early f m, (λ f m. elim m [ ], tt)); marks = (tt, (sight, tt)) }
+inv =
+    record {
+      legal = (tt, (tt, tt));
+      aged = (aged, (λ q m. tt, tt));
+      done = done;
+      timely = (λ f m. early f m, (λ f m. elim m [ ], tt));
+      marks = (tt, (sight, tt));
+    }
   where
     it : (q : Element K₀) → Mem q (a 5 ∷ []) → q ≡ a 5
     it q (here e) = e
@@ -75,13 +96,30 @@ inv = record { legal = (tt, (tt, tt)); aged = (aged, (λ q m. tt, tt)); done = d
     early f (here e) = rw e tt
 
     sight : Sight H₀ (W₀ 1) (a 5 ∷ []) []
-    sight = record { kept = λ q m. m; above = λ q m. omega arith; ahead = λ q m e. rw (it q m) (omega arith); young = λ f m. elim m [ ]; fresh = λ q t m. elim m [ ] }
+    sight =
+        record {
+          kept = λ q m. m;
+          above = λ q m. omega arith;
+          ahead = λ q m e. rw (it q m) (omega arith);
+          young = λ f m. elim m [ ];
+          fresh = λ q t m. elim m [ ];
+        }
 
 it₀ : (q : Element K₀) → Mem q (a 5 ∷ []) → q ≡ a 5
 it₀ q (here e) = e
 
 taking : Taking H₀ W₀ [] L₀ 1 (a 5)
-taking = record { scanning = there (here refl); open-call = end-4; kept-or-open = inl (here refl); bucket-here = refl; first = λ z h g. omega arith; epochs = λ q s m e l. omega arith; total = λ q m u n. absurd (u (it₀ q m)); others = λ v q m g h e. omega arith }
+taking =
+    record {
+      scanning = there (here refl);
+      open-call = end-4;
+      kept-or-open = inl (here refl);
+      bucket-here = refl;
+      first = λ z h g. omega arith;
+      epochs = λ q s m e l. omega arith;
+      total = λ q m u n. absurd (u (it₀ q m));
+      others = λ v q m g h e. omega arith;
+    }
 
 after : (M : Order K₀) × Inv H₀ W₀ [] M × (run [] M ≡ without (run [] L₀) (a 5))
 after = taken H₀ W₀ [] L₀ 1 (a 5) inv taking

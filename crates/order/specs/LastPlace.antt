@@ -1,8 +1,16 @@
--- The last place of x in an order, and what stands behind it. Assumes nothing.
+-- The last place of x in an order, and what stands behind it.
+--     Place, last, last-place, place-behind     the last place, that there is one, and that it lies behind a point
+--     busy-prefix                               something is below x behind each part
+--     Own, own?, Calm, calm                     the enqueue of x; what takes only what is below x
+--     step-own, step-less, ok-less              a step on the queue less x
+--     strip, legal-less, run-less               an order without the enqueue of x: LEGAL, and its queue
+-- Assumes nothing.
 use mathlib.Core.Path.{_≡_, refl, _∙_, ap, subst}
 use mathlib.Core.Logic.{_⊎_, inl, inr}
 use mathlib.Core.List.{[], _∷_, _++_, append-assoc, List·Memᴰ as Mem, Memᴰ·append-right as mem-right}
-use Rattle.order.specs.Entries.{Keys, Element, Entry, enqueue, dequeue, empty, scan, Q, Order, keep, _≺_, irrefl, same?, at-most-below, without, without-yes, without-no, without-comm, mem-without, without-mem, Below, any-below?, step, run, Ok, Legal, Busy, run-append}
+use Rattle.order.specs.Entries.{Keys, Element, Entry, enqueue, dequeue, empty, scan, Q, Order, keep, _≺_, irrefl, same?, at-most-below, without}
+use Rattle.order.specs.Entries.{without-yes, without-no, without-comm, mem-without, without-mem, Below, any-below?, step, run, Ok, Legal, Busy}
+use Rattle.order.specs.Entries.{run-append}
 
 module _ {K : Keys} where
   -- L falls into A, behind which nothing is below x, and B, behind each of whose entries something is
@@ -35,10 +43,17 @@ module _ {K : Keys} where
       go (inr p) = p
 
   -- where nothing is below x behind A, the last place of A ++ D lies in D
-  pub place-behind : (S : Q K) (x : Element K) (A D L : Order K) → A ++ D ≡ L → ¬ Below (run S A) x → (q : Place S x L) × ((f : Entry K) → Mem f (q .back) → Mem f D)
+  pub place-behind : (S : Q K) (x : Element K) (A D L : Order K) → A ++ D ≡ L → ¬ Below (run S A) x
+      → (q : Place S x L) × ((f : Entry K) → Mem f (q .back) → Mem f D)
   place-behind S x A D L g n =
       let p = last-place (run S A) x D n in
-      let q : Place S x L = record { front = A ++ p .front; back = p .back; split = append-assoc A (p .front) (p .back) ∙ ap (A ++_) (p .split) ∙ g; clear = rw run-append (p .clear); busy = rw run-append (p .busy) } in
+      let q : Place S x L = record {
+        front = A ++ p .front;
+        back = p .back;
+        split = append-assoc A (p .front) (p .back) ∙ ap (A ++_) (p .split) ∙ g;
+        clear = rw run-append (p .clear);
+        busy = rw run-append (p .busy);
+      } in
       (q, λ f m. subst (λ M. Mem f M) (p .split) (mem-right (p .front) m))
 
   -- something is below x behind every non-empty part of B that B begins with
@@ -112,6 +127,7 @@ module _ {K : Keys} where
   run-less S x [] = refl
   run-less S x (e ∷ B) = go (own? e x) (run-less (step S e) x B)
     where
-      go : (d : Dec (Own e x)) → run (without (step S e) x) (strip B x) ≡ without (run (step S e) B) x → run (without S x) (keep d e (strip B x)) ≡ without (run (step S e) B) x
+      go : (d : Dec (Own e x)) → run (without (step S e) x) (strip B x) ≡ without (run (step S e) B) x
+          → run (without S x) (keep d e (strip B x)) ≡ without (run (step S e) B) x
       go (yes o) ih = rw (step-own S x e o) at ih
       go (no n) ih = rw (step-less S x e n) at ih

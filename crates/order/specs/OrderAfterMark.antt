@@ -1,14 +1,25 @@
--- Step 11's success on x by the walker w: the order after it, and that it keeps LEGAL, AGE, REAL TIME and SCAN. Assumes nothing.
+-- Step 11's success on x by the walker w: the order after it, and that it keeps LEGAL, AGE, REAL TIME and SCAN.
+--     Inv                                          LEGAL, AGE, REAL TIME and SCAN
+--     came, inv-alike, inv-unscan                  what is in the queue came into it; scans apart; less a scan
+--     Taking, Where, place                         what is known when the swap succeeds, and the place for the dequeue
+--     rest, after-a, after-b, alike-a, alike-b     the order after it, with the dequeue, and with the enqueue too
+--     queue-a, queue-b                             its queue is the old one without x
+--     inv-a, inv-b, taken                          it keeps the invariants; both cases in one
+-- Assumes nothing.
 use mathlib.Core.Path.{_≡_, refl, sym, _∙_, ap, subst}
 use mathlib.Core.Logic.{_⊎_, inl, inr}
 use mathlib.Core.List.{[], _∷_, _++_, List·Memᴰ as Mem, List·Memᴰ·head as here, List·Memᴰ·tail as there, Memᴰ·append-right as mem-right}
 use Prim.Native.Nat.{ℕ, _≤_, _<_}
 use native.Mathlib.Omega.{arith}
-use Rattle.order.specs.Entries.{Keys, Element, Entry, enqueue, dequeue, empty, scan, Q, Order, _≺_, ticket, bucket, bucket-up, without, without-yes, without-mem, Below, mem?, step, run, Ok, Legal, run-append, walk-right}
+use Rattle.order.specs.Entries.{Keys, Element, Entry, enqueue, dequeue, empty, scan, Q, Order, _≺_, ticket, bucket, bucket-up, without, without-yes}
+use Rattle.order.specs.Entries.{without-mem, Below, mem?, step, run, Ok, Legal, run-append, walk-right}
 use Rattle.order.specs.LastPlace.{Place, place-behind, Calm, strip, run-less}
 use Rattle.order.specs.Insertion.{calm-all, with-dequeue, with-enqueue, legal-a, legal-b, run-a, run-b}
-use Rattle.order.specs.RealTime.{End, running, ended, Hist, NotBefore, end-of, Timely, strip-mem, AgeAt, Aged, Done, after-ticket, aged-a, aged-b, timely-a, timely-b}
-use Rattle.order.specs.Scans.{Walker, Sight, Marks, Alike, both, From, alike-run, alike-walk, alike-timely, alike-append, alike-staying, alike-moving, alike-mem, alike-unscan, staying, moving, unscan, marks-find, marks-right, marks-back, marks-staying, marks-moving, marks-unscan, sight-moved}
+use Rattle.order.specs.RealTime.{End, running, ended, Hist, NotBefore, end-of, Timely, strip-mem, AgeAt, Aged, Done, after-ticket, aged-a, aged-b}
+use Rattle.order.specs.RealTime.{timely-a, timely-b}
+use Rattle.order.specs.Scans.{Walker, Sight, Marks, Alike, both, From, alike-run, alike-walk, alike-timely, alike-append, alike-staying, alike-moving}
+use Rattle.order.specs.Scans.{alike-mem, alike-unscan, staying, moving, unscan, marks-find, marks-right, marks-back, marks-staying, marks-moving}
+use Rattle.order.specs.Scans.{marks-unscan, sight-moved}
 
 pub record Inv {K : Keys} (H : Hist) (W : ℕ → Walker K) (S : Q K) (L : Order K) : Type 0 where
   pub legal : Legal S L
@@ -31,7 +42,8 @@ came {K} S (b ∷ B) x m = go b (came (step S b) B x m)
     go (scan w) (inl k) = inl k
 
 module _ {K : Keys} (H : Hist) where
-  pub inv-alike : (W : ℕ → Walker K) (S : Q K) (L M : Order K) → Alike L M → Legal S L → Aged H S L → Done H (run S L) → Timely H L → Marks H W S M → Inv H W S M
+  pub inv-alike : (W : ℕ → Walker K) (S : Q K) (L M : Order K) → Alike L M → Legal S L → Aged H S L → Done H (run S L) → Timely H L → Marks H W S M
+      → Inv H W S M
   inv-alike W S L M a l g d t m = record {
     legal = alike-walk Ok (λ S w. tt) S a l;
     aged = alike-walk (AgeAt H) (λ S w q m. tt) S a g;
@@ -83,7 +95,9 @@ module _ {K : Keys} (H : Hist) where
             omega arith
 
         later : (f : Entry K) → Mem f (p .back) → NotBefore (ticket x) (end-of H f)
-        later = after-ticket H (run S (p .front)) x (ticket x) (p .back) (λ q m h. absurd (p .clear (q, m, h))) (λ q m h. of-end q m h (H .end (ticket q)) refl) (p .busy) (walk-right (AgeAt H) S (p .front) (p .back) (rw (p .split) (I .aged)))
+        later =
+            after-ticket H (run S (p .front)) x (ticket x) (p .back) (λ q m h. absurd (p .clear (q, m, h))) (λ q m h. of-end q m h (H .end (ticket q)) refl)
+            (p .busy) (walk-right (AgeAt H) S (p .front) (p .back) (rw (p .split) (I .aged)))
 
     pub place : Where
     place =
@@ -125,10 +139,15 @@ module _ {K : Keys} (H : Hist) where
           go (inr (v, g)) = inr (ap (end-of H) g)
 
       marks-rest : Marks H W (without (run S (p .front)) x) (rest p)
-      marks-rest = marks-moving H W S x (p .front) (p .back) _ (strip (p .back) x) moved split-marks (marks-back H W _ x (p .back) (marks-right H W S (p .front) (p .back) split-marks))
+      marks-rest =
+          marks-moving H W S x (p .front) (p .back) _ (strip (p .back) x) moved split-marks
+          (marks-back H W _ x (p .back) (marks-right H W S (p .front) (p .back) split-marks))
         where
-          moved : (v : ℕ) (R : Q K) (D E : Order K) → Sight H (W v) R D → Mem x R → ((f : Entry K) → Mem f (p .back) → Mem f D) → Alike (strip (p .back) x) E → Sight H (W v) (without (run S (p .front)) x) E
-          moved v R D E s h i a = sight-moved H (W v) x R (run S (p .front)) D (p .back) E s h i (p .clear) calm-back a (λ q m. G .others v q (rw (← p .split, run-append) m)) (λ q m. G .total q (rw (← p .split, run-append) m))
+          moved : (v : ℕ) (R : Q K) (D E : Order K) → Sight H (W v) R D → Mem x R → ((f : Entry K) → Mem f (p .back) → Mem f D) → Alike (strip (p .back) x) E
+              → Sight H (W v) (without (run S (p .front)) x) E
+          moved v R D E s h i a =
+              sight-moved H (W v) x R (run S (p .front)) D (p .back) E s h i (p .clear) calm-back a (λ q m. G .others v q (rw (← p .split, run-append) m))
+              (λ q m. G .total q (rw (← p .split, run-append) m))
 
       marks-a : Marks H W S (after-a p)
       marks-a = marks-staying H W S x (p .front) (p .back) (dequeue x (W w .call) ∷ rest p) run-rest from split-marks (tt, marks-rest)
@@ -138,7 +157,10 @@ module _ {K : Keys} (H : Hist) where
           from f (there m) = from-rest f m
 
       marks-b : From H (p .back) (enqueue x) → Marks H W S (after-b p)
-      marks-b o = marks-staying H W S x (p .front) (p .back) (enqueue x ∷ dequeue x (W w .call) ∷ rest p) (ap (λ T. run T (rest p)) (without-yes x (run S (p .front)) x refl) ∙ run-rest) from split-marks (tt, (tt, rw (without-yes x (run S (p .front)) x refl) marks-rest))
+      marks-b o =
+          marks-staying H W S x (p .front) (p .back) (enqueue x ∷ dequeue x (W w .call) ∷ rest p)
+          (ap (λ T. run T (rest p)) (without-yes x (run S (p .front)) x refl)
+          ∙ run-rest) from split-marks (tt, (tt, rw (without-yes x (run S (p .front)) x refl) marks-rest))
         where
           from : (f : Entry K) → Mem f (enqueue x ∷ dequeue x (W w .call) ∷ rest p) → From H (p .back) f
           from f (here h) = subst (λ t. From H (p .back) t) (sym h) o
@@ -198,7 +220,8 @@ module _ {K : Keys} (H : Hist) where
     pub taken : (M : Order K) × Inv H W S M × (run S M ≡ without (run S L) x)
     taken = go place (mem? (run S (place .at .front)) x) (G .kept-or-open)
       where
-        go : (u : Where) → Dec (Mem x (run S (u .at .front))) → Mem x (run S L) ⊎ (H .end (ticket x) ≡ running) → (M : Order K) × Inv H W S M × (run S M ≡ without (run S L) x)
+        go : (u : Where) → Dec (Mem x (run S (u .at .front))) → Mem x (run S L) ⊎ (H .end (ticket x) ≡ running)
+            → (M : Order K) × Inv H W S M × (run S M ≡ without (run S L) x)
         go u (yes h) o = (unscan (after-a (u .at)) w, inv-a u h, queue-a (u .at))
         go u (no n) (inr o) = (unscan (after-b (u .at)) w, inv-b u (inl o), queue-b (u .at))
         go u (no n) (inl m) = (unscan (after-b (u .at)) w, inv-b u (inr (back (came _ (u .at .back) x (rw (← run-append, u .at .split) m)))), queue-b (u .at))

@@ -1,10 +1,21 @@
--- REAL TIME and AGE of an order, and what inserting a dequeue at the last place keeps of them. Assumes nothing.
+-- REAL TIME and AGE of an order, and what inserting a dequeue at the last place keeps of them.
+--     End, Hist, NotBefore, Settled                                              when calls ended, and who before whom
+--     settled-open, not-before-settled, ticket-of, end-of                        of ends and of entries
+--     strip-mem                                                                  who is left without the enqueue of x
+--     Pairs, pairs-right, pairs-cross, pairs-insert, pairs-strip, pairs-snoc     a relation of each entry to those behind it
+--     InTime, Timely                                                             REAL TIME
+--     Elder, AgeAt, Aged, Done                                                   AGE; every enqueue in the queue is over
+--     aged-less, done-at-place, after-ticket, elder-behind                       what stands behind the place
+--     aged-a, aged-b, timely-a, timely-b                                         both after a dequeue goes in, and with its enqueue
+-- Assumes nothing.
 use mathlib.Core.Path.{_≡_, refl, sym, _∙_, ap, subst}
 use mathlib.Core.Logic.{_⊎_, inl, inr}
-use mathlib.Core.List.{[], _∷_, _++_, List·Memᴰ as Mem, List·Memᴰ·head as here, List·Memᴰ·tail as there, List·Memᴰ·cases-cons as mem-cons, List·Memᴰ·append-cases as mem-append, Memᴰ·append-left as mem-left, Memᴰ·append-right as mem-right}
+use mathlib.Core.List.{[], _∷_, _++_, List·Memᴰ as Mem, List·Memᴰ·head as here, List·Memᴰ·tail as there, List·Memᴰ·cases-cons as mem-cons}
+use mathlib.Core.List.{List·Memᴰ·append-cases as mem-append, Memᴰ·append-left as mem-left, Memᴰ·append-right as mem-right}
 use Prim.Native.Nat.{ℕ, _≤_}
 use native.Mathlib.Omega.{arith}
-use Rattle.order.specs.Entries.{Keys, Element, Entry, enqueue, dequeue, empty, scan, Q, Order, keep, _≺_, ticket, without, without-yes, without-mem, Below, step, run, Walk, Ok, Legal, Busy, run-append, walk-append, walk-left, walk-right}
+use Rattle.order.specs.Entries.{Keys, Element, Entry, enqueue, dequeue, empty, scan, Q, Order, keep, _≺_, ticket, without, without-yes, without-mem}
+use Rattle.order.specs.Entries.{Below, step, run, Walk, Ok, Legal, Busy, run-append, walk-append, walk-left, walk-right}
 use Rattle.order.specs.LastPlace.{Place, Own, own?, Calm, step-own, step-less, strip}
 use Rattle.order.specs.Insertion.{calm-all, stays-step, with-dequeue, with-enqueue}
 
@@ -74,7 +85,8 @@ module _ {K : Keys} (R : Entry K → Entry K → Type 0) where
   pairs-cross (a ∷ A) B f g t (there m) k = pairs-cross A B f g (t .1) m k
 
   -- one entry more, and B thinned out
-  pub pairs-insert : (A B C : Order K) (e : Entry K) → ((f : Entry K) → Mem f C → Mem f B) → Pairs C → ((f : Entry K) → Mem f A → R f e) → ((f : Entry K) → Mem f B → R e f) → Pairs (A ++ B) → Pairs (A ++ e ∷ C)
+  pub pairs-insert : (A B C : Order K) (e : Entry K) → ((f : Entry K) → Mem f C → Mem f B) → Pairs C → ((f : Entry K) → Mem f A → R f e)
+      → ((f : Entry K) → Mem f B → R e f) → Pairs (A ++ B) → Pairs (A ++ e ∷ C)
   pairs-insert [] B C e s tC a b t = (λ f m. b f (s f m), tC)
   pairs-insert (h ∷ A) B C e s tC a b t = (λ f m. pick f (mem-append A m), pairs-insert A B C e s tC (λ f m. a f (there m)) b (t .1))
     where
@@ -153,7 +165,8 @@ module _ {K : Keys} (H : Hist) where
       → Busy S x B → Aged S B → (e : Entry K) → Mem e B → NotBefore n (end-of H e)
   after-ticket S x n (b ∷ B) i h w a e m = go (mem-cons m) (λ k. after-ticket (step S b) x n B i′ (λ q k. h q (there k)) (w .1) (a .1) e k)
     where
-      i-step : (f : Entry K) → ((q : Element K) → enqueue q ≡ f → q ≺ x → NotBefore n (H .end (ticket q))) → (q : Element K) → Mem q (step S f) → q ≺ x → NotBefore n (H .end (ticket q))
+      i-step : (f : Entry K) → ((q : Element K) → enqueue q ≡ f → q ≺ x → NotBefore n (H .end (ticket q))) → (q : Element K) → Mem q (step S f) → q ≺ x
+          → NotBefore n (H .end (ticket q))
       i-step (enqueue p) k q (here g) l = k q (ap enqueue g) l
       i-step (enqueue p) k q (there m) l = i q m l
       i-step (dequeue z c) k q m l = i q (without-mem S z m .0) l
@@ -175,7 +188,8 @@ module _ {K : Keys} (H : Hist) where
       go (inr k) ih = ih k
 
   -- what is not below x and in the queue at the place is elder than an enqueue behind the place
-  pub elder-behind : (S : Q K) (x : Element K) (B : Order K) (q r : Element K) → ((e : Entry K) → Mem e B → Calm e x) → ¬ (q ≺ x) → Aged S B → Mem q S → Mem (enqueue r) B → Elder q (enqueue r)
+  pub elder-behind : (S : Q K) (x : Element K) (B : Order K) (q r : Element K) → ((e : Entry K) → Mem e B → Calm e x) → ¬ (q ≺ x) → Aged S B → Mem q S
+      → Mem (enqueue r) B → Elder q (enqueue r)
   elder-behind S x (b ∷ B) q r c n a m k = go (mem-cons k) (λ j. elder-behind (step S b) x B q r (λ e i. c e (there i)) n (a .1) m′ j)
     where
       m′ : Mem q (step S b)
@@ -204,7 +218,8 @@ module _ {K : Keys} (H : Hist) where
       aged-a = walk-append AgeAt S (p .front) _ aged-front (at-dequeue, aged-less _ x (p .back) aged-back)
 
       pub aged-b : Legal S L → (H .end (ticket x) ≡ running) ⊎ Mem (enqueue x) (p .back) → Aged S (with-enqueue S x L p c)
-      aged-b l o = walk-append AgeAt S (p .front) _ aged-front (at-enqueue, rw (without-yes x (run S (p .front)) x refl) (at-dequeue, aged-less _ x (p .back) aged-back))
+      aged-b l o =
+          walk-append AgeAt S (p .front) _ aged-front (at-enqueue, rw (without-yes x (run S (p .front)) x refl) (at-dequeue, aged-less _ x (p .back) aged-back))
         where
           calm-back : (e : Entry K) → Mem e (p .back) → Calm e x
           calm-back = calm-all _ x (p .back) (p .busy) (walk-right Ok S (p .front) (p .back) (rw (p .split) l))
@@ -227,7 +242,8 @@ module _ {K : Keys} (H : Hist) where
       pub timely-a : Timely (with-dequeue S x L p c)
       timely-a = pairs-insert InTime (p .front) (p .back) _ _ (strip-mem (p .back) x) thin (λ f m. rw oc tt) u whole
 
-      pub timely-b : ((f : Entry K) → Mem f (p .back) → NotBefore (ticket x) (end-of H f)) → (H .end (ticket x) ≡ running) ⊎ Mem (enqueue x) (p .back) → Timely (with-enqueue S x L p c)
+      pub timely-b : ((f : Entry K) → Mem f (p .back) → NotBefore (ticket x) (end-of H f)) → (H .end (ticket x) ≡ running) ⊎ Mem (enqueue x) (p .back)
+          → Timely (with-enqueue S x L p c)
       timely-b v o = pairs-insert InTime (p .front) _ _ (enqueue x) (λ f m. m) (pairs-right InTime (p .front) _ timely-a) (λ f m. before f m o) behind timely-a
         where
           before : (f : Entry K) → Mem f (p .front) → (H .end (ticket x) ≡ running) ⊎ Mem (enqueue x) (p .back) → NotBefore (ticket-of f) (H .end (ticket x))

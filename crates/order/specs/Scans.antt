@@ -1,11 +1,27 @@
--- Scans: places of the order that are no entries. Orders that differ in scans only; SCAN's invariant and what keeps it. Assumes nothing.
+-- Scans: places of the order that are no entries. Orders that differ in scans only; SCAN's invariant and what keeps it.
+--     never-early                                                                 nothing is over before call 0
+--     Walker                                                                      what is known of a worker whose scan it is
+--     running-ended                                                               no call is running and over
+--     Alike, alike-refl, alike-sym, alike-append                                  orders that differ in scans only
+--     alike-run, alike-walk, alike-mem, alike-each, alike-pairs, alike-timely     what is the same of them
+--     Sees, sees?, staying, only, moving                                          scans that see x, those that stay and those that move
+--     alike-staying, alike-moving, unscan, alike-unscan                           the orders without them
+--     Sight, At, Marks                                                            SCAN: what is known at a scan, and at each
+--     marks-right, marks-find                                                     of a part; of one scan
+--     From, scan-from, from-append                                                what stood there, or is new and open
+--     sight-lost, marks-back, marks-staying                                       scans that stay, where the queue has lost x
+--     marks-moving, sight-moved                                                   scans that move
+--     sight-alike, marks-unscan                                                   a scan taken out
+-- Assumes nothing.
 use mathlib.Core.Path.{_≡_, refl, sym, _∙_, ap, subst}
 use mathlib.Core.Logic.{_⊎_, inl, inr}
-use mathlib.Core.List.{[], _∷_, _++_, List·Memᴰ as Mem, List·Memᴰ·head as here, List·Memᴰ·tail as there, List·Memᴰ·append-cases as mem-append, Memᴰ·append-left as mem-left, Memᴰ·append-right as mem-right}
+use mathlib.Core.List.{[], _∷_, _++_, List·Memᴰ as Mem, List·Memᴰ·head as here, List·Memᴰ·tail as there, List·Memᴰ·append-cases as mem-append}
+use mathlib.Core.List.{Memᴰ·append-left as mem-left, Memᴰ·append-right as mem-right}
 use Prim.Native.Nat.{ℕ, _≤_, _<_}
 use native.Mathlib.Omega.{arith}
 use native.Mathlib.Decide.{ℕ-discrete}
-use Rattle.order.specs.Entries.{Keys, Element, Entry, enqueue, dequeue, empty, scan, Q, Order, keep, _≺_, ticket, bucket, bucket-up, without, mem-without, without-mem, Below, mem?, step, run, Walk, run-append}
+use Rattle.order.specs.Entries.{Keys, Element, Entry, enqueue, dequeue, empty, scan, Q, Order, keep, _≺_, ticket, bucket, bucket-up, without, mem-without}
+use Rattle.order.specs.Entries.{without-mem, Below, mem?, step, run, Walk, run-append}
 use Rattle.order.specs.LastPlace.{Own, own?, Calm, step-own, step-less, strip, run-less}
 use Rattle.order.specs.Insertion.{stays}
 use Rattle.order.specs.RealTime.{End, running, ended, Hist, NotBefore, end-of, InTime, Timely, Pairs, strip-mem}
@@ -66,7 +82,8 @@ module _ {K : Keys} where
   alike-mem (right {w = v} a) f (there m) = alike-mem a f m
 
   -- so a fact of every entry that every scan has is kept
-  pub alike-each : (P : Entry K → Type 0) → ((w : ℕ) → P (scan w)) → {L M : Order K} → Alike L M → ((f : Entry K) → Mem f L → P f) → (f : Entry K) → Mem f M → P f
+  pub alike-each : (P : Entry K → Type 0) → ((w : ℕ) → P (scan w)) → {L M : Order K} → Alike L M → ((f : Entry K) → Mem f L → P f) → (f : Entry K) → Mem f M
+      → P f
   alike-each P t {L} a h f m = go (alike-mem a f m)
     where
       go : Mem f L ⊎ ((w : ℕ) × (f ≡ scan w)) → P f
@@ -151,7 +168,8 @@ module _ {K : Keys} where
       go (no n) ih = both ih
 
 -- so a fact of every two entries that scans have is kept
-pub alike-pairs : {K : Keys} (R : Entry K → Entry K → Type 0) → ((w : ℕ) (f : Entry K) → R (scan w) f) → ((e : Entry K) (w : ℕ) → R e (scan w)) → {L M : Order K} → Alike L M → Pairs R L → Pairs R M
+pub alike-pairs : {K : Keys} (R : Entry K → Entry K → Type 0) → ((w : ℕ) (f : Entry K) → R (scan w) f) → ((e : Entry K) (w : ℕ) → R e (scan w))
+    → {L M : Order K} → Alike L M → Pairs R L → Pairs R M
 alike-pairs R s t nil h = h
 alike-pairs R s t (both {e = e} a) h = (alike-each (R e) (t e) a (h .0), alike-pairs R s t a (h .1))
 alike-pairs R s t (left a) h = alike-pairs R s t a (h .1)
@@ -184,7 +202,8 @@ module _ {K : Keys} (H : Hist) where
   marks-right W S [] B h = h
   marks-right W S (e ∷ A) B h = marks-right W (step S e) A B (h .1)
 
-  pub marks-find : (W : ℕ → Walker K) (S : Q K) (L : Order K) (w : ℕ) → Marks W S L → Mem (scan w) L → (A : Order K) × (D : Order K) × (A ++ scan w ∷ D ≡ L) × Sight (W w) (run S A) D
+  pub marks-find : (W : ℕ → Walker K) (S : Q K) (L : Order K) (w : ℕ) → Marks W S L → Mem (scan w) L
+      → (A : Order K) × (D : Order K) × (A ++ scan w ∷ D ≡ L) × Sight (W w) (run S A) D
   marks-find W S (e ∷ L) w h (here g) = ([], L, ap (_∷ L) g, subst (λ f. At W S L f) (sym g) (h .0))
   marks-find W S (e ∷ L) w h (there m) =
       let (A, D, g, s) = marks-find W (step S e) L w (h .1) m in
@@ -195,7 +214,8 @@ module _ {K : Keys} (H : Hist) where
   From D f = Mem f D ⊎ (end-of H f ≡ running)
 
   -- a scan that stays, where the queue may have lost x
-  pub sight-lost : (W : Walker K) (x : Element K) (S T : Q K) (D E : Order K) → Sight W S D → ((q : Element K) → Mem q T → Mem q S × ¬ (q ≡ x)) → run T E ≡ without (run S D) x → ((f : Entry K) → Mem f E → From D f) → Sight W T E
+  pub sight-lost : (W : Walker K) (x : Element K) (S T : Q K) (D E : Order K) → Sight W S D → ((q : Element K) → Mem q T → Mem q S × ¬ (q ≡ x))
+      → run T E ≡ without (run S D) x → ((f : Entry K) → Mem f E → From D f) → Sight W T E
   sight-lost W x S T D E s i g o = record {
     kept = λ q m. rw g (mem-without (run S D) x (i q m .1) (s .kept q (i q m .0)));
     above = λ q m. s .above q (i q m .0);
@@ -243,7 +263,8 @@ module _ {K : Keys} (H : Hist) where
       go (inr k) = up (o f k)
 
   -- those that stay, over any N that stands for B
-  pub marks-staying : (W : ℕ → Walker K) (S : Q K) (x : Element K) (A B N : Order K) → run (run S A) N ≡ without (run (run S A) B) x → ((f : Entry K) → Mem f N → From B f) → Marks W S (A ++ B) → Marks W (run S A) N → Marks W S (staying S x A ++ N)
+  pub marks-staying : (W : ℕ → Walker K) (S : Q K) (x : Element K) (A B N : Order K) → run (run S A) N ≡ without (run (run S A) B) x
+      → ((f : Entry K) → Mem f N → From B f) → Marks W S (A ++ B) → Marks W (run S A) N → Marks W S (staying S x A ++ N)
   marks-staying W S x [] B N g o h n = n
   marks-staying W S x (enqueue p ∷ A) B N g o h n = (tt, marks-staying W (p ∷ S) x A B N g o (h .1) n)
   marks-staying W S x (dequeue z c ∷ A) B N g o h n = (tt, marks-staying W (without S z) x A B N g o (h .1) n)
@@ -264,7 +285,8 @@ module _ {K : Keys} (H : Hist) where
       go (no l) ih = (sight-lost (W w) x S S (A ++ B) (staying S x A ++ N) (h .0) (λ q m. (m, λ e. l (subst (λ t. Mem t S) e m))) same-run from, ih)
 
   -- those that move, over any C that keeps what was seen: U is the queue behind the dequeue
-  pub marks-moving : (W : ℕ → Walker K) (S : Q K) (x : Element K) (A B : Order K) (U : Q K) (C : Order K) → ((v : ℕ) (T : Q K) (D E : Order K) → Sight (W v) T D → Mem x T → ((f : Entry K) → Mem f B → Mem f D) → Alike C E → Sight (W v) U E) → Marks W S (A ++ B) → Marks W U C → Marks W U (moving S x A ++ C)
+  pub marks-moving : (W : ℕ → Walker K) (S : Q K) (x : Element K) (A B : Order K) (U : Q K) (C : Order K) → ((v : ℕ) (T : Q K) (D E : Order K) → Sight (W v) T D
+      → Mem x T → ((f : Entry K) → Mem f B → Mem f D) → Alike C E → Sight (W v) U E) → Marks W S (A ++ B) → Marks W U C → Marks W U (moving S x A ++ C)
   marks-moving W S x [] B U C k h n = n
   marks-moving W S x (enqueue p ∷ A) B U C k h n = marks-moving W (p ∷ S) x A B U C k (h .1) n
   marks-moving W S x (dequeue z c ∷ A) B U C k h n = marks-moving W (without S z) x A B U C k (h .1) n

@@ -12,8 +12,9 @@ use Rattle.arrival.specs.declared.Shape.{Shape}
 use Rattle.arrival.specs.declared.Worker.{Worker}
 use Rattle.calendar.specs.rules.Layout.{epochIn}
 use Rattle.calendar.specs.rules.EnqueueSteps.{currentHolds, step-7}
-use Rattle.calendar.specs.rules.Steps.{rules, no-step, step, step-at}
+use Rattle.calendar.specs.rules.Steps.{rules, no-step, step}
 use Rattle.calendar.specs.rules.Refusals.{firstOf, stepOwn}
+use Rattle.calendar.specs.facts.Changes.{step-at}
 use Rattle.words.specs.Done.{Done, done, refused, unlessRefused}
 
 -- a stage that there is none comes before a turn's own refusals

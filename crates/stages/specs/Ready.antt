@@ -8,7 +8,8 @@ use lib.ListN.{length}
 use Rattle.arrival.specs.declared.Shape.{Shape}
 use Rattle.arrival.specs.declared.Item.{Item}
 use Rattle.arrival.specs.declared.Worker.{Worker}
-use Rattle.calendar.specs.rules.Layout.{Place, cell, field, read, write, writeAll, valid, same, address, read-write, itemAt, distanceAt, successor, unmarked, unlinkedAt, started}
+use Rattle.calendar.specs.rules.Layout.{Place, cell, field, read, write, writeAll, address, itemAt, distanceAt, successor, unmarked, unlinkedAt, started}
+use Rattle.calendar.specs.facts.Places.{valid, same, read-write}
 use Rattle.calendar.specs.facts.Views.{view}
 use Rattle.calendar.specs.facts.RangeFacts.{StoreRanges, RecordRanges}
 use Rattle.calendar.specs.rules.SearchSteps.{unlink}

@@ -5,7 +5,7 @@ use Prim.Native.Nat.{ℕ, zero, suc, _+_, _<_}
 use native.Mathlib.Omega.{arith}
 use native.Mathlib.Numerals.{add-one}
 use lib.ListN.{length, set, drop}
-use Rattle.calendar.specs.rules.Opening.{wordsFrom}
+use Rattle.laws.specs.Lists.{wordsFrom}
 
 pub words-none : (g : ℕ → ℕ) (d : List ℕ) → d ≡ wordsFrom g 0 0 ++ drop 0 d
 unfolding wordsFrom

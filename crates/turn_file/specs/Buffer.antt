@@ -9,8 +9,8 @@ use lib.Dec.{leb}
 use lib.ListN.{length, take, drop, length-append}
 use lib.Seq.{sets, sets-eq, length-sets}
 use borrow.Author.Tests.{leb-true, le-leb, lt-leb}
-use Rattle.laws.specs.TestCases.{by-test, by-size}
-use Rattle.laws.specs.StoreRuns.{behind}
+use Rattle.laws.specs.Tests.{by-test, by-size}
+use Rattle.laws.specs.Storing.{behind}
 
 unfoldable pub written : List ℕ → ℕ → List ℕ → List ℕ
 written s at line = cond (leb (at + length line) (length s)) (take at s ++ line ++ drop (at + length line) s) s

@@ -9,7 +9,7 @@ use native.Mathlib.Omega.{arith}
 use lib.Dec.{ltb}
 use lib.ListN.{length, length-append}
 use borrow.Author.Tests.{lt-ltb, le-ltb}
-use Rattle.laws.specs.TestCases.{by-size}
+use Rattle.laws.specs.Tests.{by-size}
 
 -- Below ten one digit; else the digits of the tenth part, and the last one. The first number is a bound on the digits,
 -- the test whether the second is below ten.

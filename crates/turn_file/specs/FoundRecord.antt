@@ -5,13 +5,14 @@ use mathlib.Core.List.{List}
 use mathlib.Core.Bool.{Bool, true, false, cond}
 use mathlib.Core.Logic.{_⊎_, inl, inr}
 use Prim.Native.Nat.{ℕ, _+_, _<_, _≤_}
+use native.Mathlib.Nat.{pos-of-ne-zero}
 use native.Mathlib.Omega.{arith}
 use lib.Dec.{eqb, leb, ltb}
 use lib.ListN.{length}
 use borrow.Author.Tests.{eqb-false, ltb-false, lt-leb, le-ltb, ne-eqb}
+use Rattle.laws.specs.Tests.{by-test}
 use Rattle.turn_file.specs.declared.Read.{Read}
 use Rattle.turn_file.specs.declared.Read.the-variants.{End, Refused}
-use Rattle.laws.specs.TestCases.{by-test}
 use Rattle.turn_file.specs.Fields.{twoAt}
 use Rattle.turn_file.specs.Records.{Record, opens, acts, sizeOf, size-least}
 use Rattle.turn_file.specs.Reading.{fieldsAt, whole, markedAt, recordAt}
@@ -54,7 +55,7 @@ found s at r next =
     let ends : next ≡ at + sizeOf mark = same-next r (fieldsAt s at mark) next (at + sizeOf mark) (sym e) in
     let room : at + sizeOf mark ≤ length s = ltb-false (length s) (at + sizeOf mark) enough in
     record {
-      known = positive (sizeOf mark) (eqb-false (sizeOf mark) 0 unknown);
+      known = pos-of-ne-zero (eqb-false (sizeOf mark) 0 unknown);
       fields = same-record r (fieldsAt s at mark) next (at + sizeOf mark) (sym e);
       place = ends;
       within = omega arith;
@@ -62,9 +63,6 @@ found s at r next =
   where
     Told : Read → Type 0
     Told answer = answer ≡ whole r next → Found s at r next
-
-    positive : (n : ℕ) → (n ≡ 0 → ⊥) → 0 < n
-    positive n h = omega (arith, h)
 
 -- The other way: a known mark and enough bytes are answered with a record.
 pub enough : (s : List ℕ) (at : ℕ) → 0 < sizeOf (twoAt s at) → at + sizeOf (twoAt s at) ≤ length s
@@ -83,9 +81,11 @@ enough s at known room =
 pub refused-by : (s : List ℕ) (at k : ℕ) → recordAt s at ≡ Refused k → (k ≡ 7) ⊎ (k ≡ 8)
 unfolding recordAt markedAt
 refused-by s at k =
-    go (leb (length s) at) (leb (length s) (at + 1)) (eqb (sizeOf (twoAt s at)) 0) (ltb (length s) (at + sizeOf (twoAt s at))) (fieldsAt s at (twoAt s at)) (at + sizeOf (twoAt s at))
+    go (leb (length s) at) (leb (length s) (at + 1)) (eqb (sizeOf (twoAt s at)) 0) (ltb (length s) (at + sizeOf (twoAt s at))) (fieldsAt s at (twoAt s at))
+    (at + sizeOf (twoAt s at))
   where
-    go : (a b c d : Bool) (r : Record) (next : ℕ) → cond a End (cond b (Refused 8) (cond c (Refused 7) (cond d (Refused 8) (whole r next)))) ≡ Refused k → (k ≡ 7) ⊎ (k ≡ 8)
+    go : (a b c d : Bool) (r : Record) (next : ℕ) → cond a End (cond b (Refused 8) (cond c (Refused 7) (cond d (Refused 8) (whole r next)))) ≡ Refused k
+        → (k ≡ 7) ⊎ (k ≡ 8)
     go true b c d r next e = absurd (let z : _≡_ {A = ℕ} 0 1 = cc in omega arith)
     go false true c d r next e = let j : 8 ≡ k = cc in inr (sym j)
     go false false true d r next e = let j : 7 ≡ k = cc in inl (sym j)

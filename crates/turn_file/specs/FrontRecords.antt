@@ -1,11 +1,18 @@
 -- At the front of a list: bytes with a known mark are those of the record read, and a record's bytes are read as that record.
+--
+--     Bytes                                   each element is a byte
+--     front-encoded                           bytes with a known mark are those of the record read
+--     markOf, encoded-size, encoded-least     the mark and the size of an encoded record
+--     encoded-mark, encoded-fields            it is read as that record
+--     encoded-bytes                           it is bytes
 -- Assumes nothing.
-use mathlib.Core.Path.{_≡_, refl, ap}
+use mathlib.Core.Path.{_≡_, refl}
 use mathlib.Core.List.{List, [], _∷_, _++_}
 use Prim.Native.Nat.{ℕ, zero, suc, _+_, _*_, _/_, _%_, _<_, _≤_}
 use native.Mathlib.Omega.{arith}
 use lib.ListN.{length, take}
 use Rattle.arrival.specs.declared.Action.the-variants.{Enqueue, Dequeue, Step}
+use Rattle.laws.specs.Lists.{wordsFrom, take-words}
 use Rattle.turn_file.specs.Fields.{byteAt, twoAt, fourAt, shapeAt, arrivalAt}
 use Rattle.turn_file.specs.Records.{Record, opens, acts, OP, PU, TA, TU, sizeOf, by-mark}
 use Rattle.turn_file.specs.Reading.{fieldsAt}
@@ -14,16 +21,6 @@ use Rattle.turn_file.specs.Encoding.{encode, Fits}
 -- Each element is a byte.
 abbrev pub Bytes : List ℕ → Type 0
 Bytes s = (k : ℕ) → byteAt s k < 256
-
--- The first bytes of a list, one by one.
-abbrev firsts : ℕ → (ℕ → ℕ) → List ℕ
-firsts zero f = []
-firsts (suc n) f = f 0 ∷ firsts n (λ k. f (suc k))
-
-take-firsts : (n : ℕ) (t : List ℕ) → n ≤ length t → take n t ≡ firsts n (byteAt t)
-take-firsts zero t h = refl
-take-firsts (suc n) [] h = absurd (omega arith)
-take-firsts (suc n) (x ∷ t) h = ap (λ l. x ∷ l) (take-firsts n t (omega arith))
 
 -- What stands at the front, where `mark` stands there and the bytes are enough.
 unfoldable Front : List ℕ → ℕ → Type 0
@@ -54,19 +51,19 @@ module _ (t : List ℕ) (bytes : Bytes t) where
   letters x y h e = omega (arith, bytes 0)
 
   front-opening : Front t OP
-  unfolding Front sizeOf fieldsAt shapeAt encode Fits
+  unfolding Front sizeOf fieldsAt shapeAt encode Fits wordsFrom
   front-opening e h =
       let mark = letters 79 80 (omega arith) e in (
-        rw (take-firsts 9 t h, mark .0, mark .1, first 2, low 3, high 3, low 5, high 5, low 7, high 7),
+        rw (take-words t 0 9 (omega arith), mark .0, mark .1, first 2, low 3, high 3, low 5, high 5, low 7, high 7),
         (bytes 2, omega (arith, bytes 3, bytes 4), omega (arith, bytes 5, bytes 6), omega (arith, bytes 7, bytes 8)),
       )
 
   front-enqueue : Front t PU
-  unfolding Front sizeOf fieldsAt arrivalAt encode Fits
+  unfolding Front sizeOf fieldsAt arrivalAt encode Fits wordsFrom
   front-enqueue e h =
       let mark = letters 80 85 (omega arith) e in (
         rw (
-          take-firsts 12 t h,
+          take-words t 0 12 (omega arith),
           mark .0,
           mark .1,
           first 2,
@@ -91,16 +88,16 @@ module _ (t : List ℕ) (bytes : Bytes t) where
       )
 
   front-dequeue : Front t TA
-  unfolding Front sizeOf fieldsAt encode Fits
+  unfolding Front sizeOf fieldsAt encode Fits wordsFrom
   front-dequeue e h =
       let mark = letters 84 65 (omega arith) e in
-      (rw (take-firsts 3 t h, mark .0, mark .1, first 2), bytes 2)
+      (rw (take-words t 0 3 (omega arith), mark .0, mark .1, first 2), bytes 2)
 
   front-step : Front t TU
-  unfolding Front sizeOf fieldsAt encode Fits
+  unfolding Front sizeOf fieldsAt encode Fits wordsFrom
   front-step e h =
       let mark = letters 84 85 (omega arith) e in
-      (rw (take-firsts 3 t h, mark .0, mark .1, first 2), bytes 2)
+      (rw (take-words t 0 3 (omega arith), mark .0, mark .1, first 2), bytes 2)
 
   pub front-encoded : (mark : ℕ) → 0 < sizeOf mark → twoAt t 0 ≡ mark → sizeOf mark ≤ length t
       → (take (sizeOf mark) t ≡ encode (fieldsAt t 0 mark)) × Fits (fieldsAt t 0 mark)

@@ -1,4 +1,10 @@
 -- What is read at a position is read at the front of the bytes from there on, also where more bytes follow; only what is cut may be read otherwise then.
+--
+--     Unknown, Cut                          an unknown mark; too few bytes
+--     at-end, why-refused                   what no record and a refusal tell
+--     unknown-refused, cut-refused          the other way
+--     read-rest, unknown-rest, cut-rest     the same at the front of the rest
+--     cut-short                             a cut record is shorter than any record can be
 -- Assumes nothing.
 use mathlib.Core.Path.{_≡_, refl, sym, ap, _∙_}
 use mathlib.Core.List.{List, _++_}
@@ -59,9 +65,11 @@ Cut s at = (length s ≡ at + 1) ⊎ ((at + 1 < length s) × (length s < at + si
 pub at-end : (s : List ℕ) (at : ℕ) → recordAt s at ≡ End → length s ≤ at
 unfolding recordAt markedAt
 at-end s at =
-    go (leb (length s) at) refl (leb (length s) (at + 1)) (eqb (sizeOf (twoAt s at)) 0) (ltb (length s) (at + sizeOf (twoAt s at))) (fieldsAt s at (twoAt s at)) (at + sizeOf (twoAt s at))
+    go (leb (length s) at) refl (leb (length s) (at + 1)) (eqb (sizeOf (twoAt s at)) 0) (ltb (length s) (at + sizeOf (twoAt s at))) (fieldsAt s at (twoAt s at))
+    (at + sizeOf (twoAt s at))
   where
-    go : (a : Bool) → leb (length s) at ≡ a → (b c d : Bool) (r : Record) (next : ℕ) → cond a End (cond b (Refused 8) (cond c (Refused 7) (cond d (Refused 8) (whole r next)))) ≡ End → length s ≤ at
+    go : (a : Bool) → leb (length s) at ≡ a → (b c d : Bool) (r : Record) (next : ℕ)
+        → cond a End (cond b (Refused 8) (cond c (Refused 7) (cond d (Refused 8) (whole r next)))) ≡ End → length s ≤ at
     go true e b c d r next f = leb-true (length s) at e
     go false e true c d r next f = absurd (let z : _≡_ {A = ℕ} 0 1 = cc in omega arith)
     go false e false true d r next f = absurd (let z : _≡_ {A = ℕ} 0 1 = cc in omega arith)
@@ -71,19 +79,23 @@ at-end s at =
 pub why-refused : (s : List ℕ) (at k : ℕ) → recordAt s at ≡ Refused k → ((k ≡ 7) × Unknown s at) ⊎ ((k ≡ 8) × Cut s at)
 unfolding recordAt markedAt
 why-refused s at k =
-    go (leb (length s) at) refl (leb (length s) (at + 1)) refl (eqb (sizeOf (twoAt s at)) 0) refl (ltb (length s) (at + sizeOf (twoAt s at))) refl (fieldsAt s at (twoAt s at)) (at + sizeOf (twoAt s at))
+    go (leb (length s) at) refl (leb (length s) (at + 1)) refl (eqb (sizeOf (twoAt s at)) 0) refl (ltb (length s) (at + sizeOf (twoAt s at))) refl
+    (fieldsAt s at (twoAt s at)) (at + sizeOf (twoAt s at))
   where
-    go : (a : Bool) → leb (length s) at ≡ a → (b : Bool) → leb (length s) (at + 1) ≡ b → (c : Bool) → eqb (sizeOf (twoAt s at)) 0 ≡ c → (d : Bool) → ltb (length s) (at + sizeOf (twoAt s at)) ≡ d → (r : Record) (next : ℕ)
+    go : (a : Bool) → leb (length s) at ≡ a → (b : Bool) → leb (length s) (at + 1) ≡ b → (c : Bool) → eqb (sizeOf (twoAt s at)) 0 ≡ c → (d : Bool)
+        → ltb (length s) (at + sizeOf (twoAt s at)) ≡ d → (r : Record) (next : ℕ)
         → cond a End (cond b (Refused 8) (cond c (Refused 7) (cond d (Refused 8) (whole r next)))) ≡ Refused k → ((k ≡ 7) × Unknown s at) ⊎ ((k ≡ 8) × Cut s at)
     go true p b q c u d v r next e = absurd (let z : _≡_ {A = ℕ} 0 1 = cc in omega arith)
     go false p true q c u d v r next e = let j : 8 ≡ k = cc in inr (sym j, inl (omega (arith, leb-false (length s) at p, leb-true (length s) (at + 1) q)))
     go false p false q true u d v r next e = let j : 7 ≡ k = cc in inl (sym j, (leb-false (length s) (at + 1) q, eqb-true (sizeOf (twoAt s at)) 0 u))
-    go false p false q false u true v r next e = let j : 8 ≡ k = cc in inr (sym j, inr (leb-false (length s) (at + 1) q, ltb-true (length s) (at + sizeOf (twoAt s at)) v))
+    go false p false q false u true v r next e =
+        let j : 8 ≡ k = cc in inr (sym j, inr (leb-false (length s) (at + 1) q, ltb-true (length s) (at + sizeOf (twoAt s at)) v))
     go false p false q false u false v r next e = absurd (not-refused k r next (sym e))
 
 pub unknown-refused : (s : List ℕ) (at : ℕ) → Unknown s at → recordAt s at ≡ Refused 7
 unfolding recordAt markedAt
-unknown-refused s at h = rw (lt-leb (length s) at (omega (arith, h .0)), lt-leb (length s) (at + 1) (omega (arith, h .0)), eq-eqb (sizeOf (twoAt s at)) 0 (h .1))
+unknown-refused s at h =
+    rw (lt-leb (length s) at (omega (arith, h .0)), lt-leb (length s) (at + 1) (omega (arith, h .0)), eq-eqb (sizeOf (twoAt s at)) 0 (h .1))
 
 pub cut-refused : (s : List ℕ) (at : ℕ) → Cut s at → recordAt s at ≡ Refused 8
 unfolding recordAt markedAt
@@ -114,7 +126,8 @@ module _ (s : List ℕ) (at : ℕ) where
       let mark : twoAt (rest ++ more) 0 ≡ twoAt s at = mark-rest more (omega arith) in
       let known : 0 < sizeOf (twoAt (rest ++ more) 0) = rw mark (f .known) in
       let room : 0 + sizeOf (twoAt (rest ++ more) 0) ≤ length (rest ++ more) = rw mark (omega (arith, length-append rest more, length-drop at s)) in
-      let fields : fieldsAt (rest ++ more) 0 (twoAt s at) ≡ r = fields-more rest more (twoAt s at) (f .known) (omega (arith, length-drop at s)) ∙ sym (f .fields ∙ fields-front s at (twoAt s at)) in
+      let fields : fieldsAt (rest ++ more) 0 (twoAt s at) ≡ r = fields-more rest more (twoAt s at) (f .known) (omega (arith, length-drop at s))
+      ∙ sym (f .fields ∙ fields-front s at (twoAt s at)) in
       enough (rest ++ more) 0 known room
       ∙ ap (λ m. whole (fieldsAt (rest ++ more) 0 m) (0 + sizeOf m)) mark
       ∙ ap (λ q. whole q (0 + size)) fields

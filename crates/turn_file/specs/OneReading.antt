@@ -5,7 +5,8 @@ use mathlib.Core.List.{List, [], _++_, append-assoc}
 use Prim.Native.Nat.{ℕ, _+_, _-_, _<_, _≤_}
 use native.Mathlib.Omega.{arith}
 use lib.ListN.{length, take, drop, length-append, length-drop, take-append-drop}
-use lib.Seq.{slice, take-add, drop-at, drop-append-seam, getD-drop, length-take-le, take-take}
+use lib.Seq.{slice, drop-append-seam, getD-drop, length-take-le, take-take}
+use Rattle.laws.specs.Lists.{drop-take}
 use Rattle.turn_file.specs.Fields.{twoAt}
 use Rattle.turn_file.specs.Records.{Record, sizeOf, size-least}
 use Rattle.turn_file.specs.Reading.{fieldsAt, whole, recordAt}
@@ -31,8 +32,8 @@ dropped-bytes : (s : List ℕ) (at : ℕ) → Bytes s → Bytes (drop at s)
 dropped-bytes s at h k = rw getD-drop (h (at + k))
 
 -- The bytes of a part, counted from its start.
-part : (s : List ℕ) (at n : ℕ) → at ≤ length s → slice at (at + n) s ≡ take n (drop at s)
-part s at n h = rw take-add (drop-at (take at s) (take n (drop at s)) at (length-take-le at s h))
+part : (s : List ℕ) (at n : ℕ) → slice at (at + n) s ≡ take n (drop at s)
+part s at n = let e : at + n - at ≡ n = omega arith in drop-take at (at + n) s ∙ ap (λ k. take k (drop at s)) e
 
 -- What was read is what its bytes encode.
 pub read-is-encoded : (s : List ℕ) (at : ℕ) → Bytes s → (r : Record) (next : ℕ) → recordAt s at ≡ whole r next
@@ -47,7 +48,7 @@ read-is-encoded s at bytes r next e =
     let first : take (sizeOf mark) t ≡ encode r = front .0 ∙ ap encode same in
     let size : length (encode r) ≡ sizeOf mark = ap length (sym first) ∙ length-take-le (sizeOf mark) t (omega (arith, length-drop at s)) in
     record {
-      bytes = ap (λ k. slice at k s) (f .place) ∙ part s at (sizeOf mark) (omega arith) ∙ first;
+      bytes = ap (λ k. slice at k s) (f .place) ∙ part s at (sizeOf mark) ∙ first;
       size = omega (arith, f .place, size);
       within = f .within;
       fits = rw same at (front .1);

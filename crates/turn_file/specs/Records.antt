@@ -7,7 +7,7 @@ use lib.Dec.{eqb}
 use borrow.Author.Tests.{eqb-true}
 use Rattle.arrival.specs.declared.Shape.{Shape}
 use Rattle.arrival.specs.declared.Action.{Action}
-use Rattle.laws.specs.TestCases.{by-test, by-size}
+use Rattle.laws.specs.Tests.{by-test, by-size}
 
 pub data Record : Type 0 where
   opens : Shape → Record

@@ -1,14 +1,22 @@
--- What the code holds between rounds, as the definition of a round has it. Assumes nothing.
+-- What the code holds between rounds, as the definition of a round has it.
+--     inHand, further-on, in-hand-length     the bytes in hand, further on, and how many
+--     holding, leaves                        what is held before a round, and left by it
+--     Placed                                 the places lie in their buffers
+--     read-behind, nothing-read              what a read handed over stands behind what was kept; nothing was
+--     round-left                             the code's round is the definition's
+-- Assumes nothing.
 use mathlib.Core.Path.{_≡_, refl, sym, ap, _∙_, subst⁻¹}
 use mathlib.Core.Bool.{Bool, true, false, cond}
 use mathlib.Core.List.{List, [], _∷_, _++_}
 use mathlib.Core.Logic.{_⊎_, inl, inr}
-use Prim.Native.Nat.{ℕ, zero, suc, _+_, _-_, _≤_, _<_}
+use Prim.Native.Nat.{ℕ, _+_, _-_, _≤_, _<_}
 use native.Mathlib.Omega.{arith}
 use lib.Dec.{eqb}
 use lib.ListN.{length, take, drop, length-drop, take-append-drop}
-use lib.Seq.{drop-drop, take-nil, take-take, take-at, length-take-le}
+use lib.Seq.{drop-drop, take-take, take-at, length-take-le}
 use borrow.Author.Tests.{eqb-true, eqb-false, eq-eqb, ne-eqb}
+use Rattle.laws.specs.Lists.{drop-take}
+use Rattle.laws.specs.Storing.{moved}
 use Rattle.turn_file.specs.MoreBytes.{Unknown, Cut, at-end, why-refused, cut-short}
 use Rattle.turn_file.specs.Buffer.{written, after, written-length, after-within}
 use Rattle.batch.specs.declared.HeldPool.{HeldPool}
@@ -22,7 +30,6 @@ use Rattle.batch.specs.PartOfFile.{Reason, part-of-file}
 use Rattle.turns.specs.declared.Next.{Next}
 use Rattle.turns.specs.declared.Next.the-variants.{Read, Last}
 use Rattle.turns.specs.declared.Round.{Round}
-use Rattle.laws.specs.MoveFront.{moved}
 use Rattle.turns.specs.TurnsRun.{follows, lastLine, Held, Rounded, rounded, roundOf, isEmpty}
 
 -- the bytes from `at` to `have`
@@ -33,7 +40,8 @@ abbrev pub holding : HeldPool → List ℕ → Bool → List ℕ → List ℕ �
 holding d s ended bytes out = record { pool = record { shape = d .shape; memory = lentTo d s }; bytes = bytes; ended = ended; out = out }
 
 abbrev pub leaves : Round → ℕ → List ℕ → List ℕ → List ℕ → Rounded
-leaves r have input out s = record { pool = record { shape = r .pool .shape; memory = lentTo (r .pool) s }; rest = inHand (r .at) have input; out = out; to = r .to; next = r .next }
+leaves r have input out s =
+    record { pool = record { shape = r .pool .shape; memory = lentTo (r .pool) s }; rest = inHand (r .at) have input; out = out; to = r .to; next = r .next }
 
 -- the places within their buffers; of a cut record fewer bytes are kept than any record has
 pub record Placed (r : Round) (have : ℕ) (out : List ℕ) : Type 0 where
@@ -42,12 +50,6 @@ pub record Placed (r : Round) (have : ℕ) (out : List ℕ) : Type 0 where
   pub few : r .next ≡ Read → have - r .at < 12
 
 -- ── bytes in hand ──
-drop-take : (m n : ℕ) (l : List ℕ) → drop m (take n l) ≡ take (n - m) (drop m l)
-drop-take zero n l = let e : n ≡ n - 0 = omega arith in ap (λ (k : ℕ). take k l) e
-drop-take (suc m) zero l = let e : 0 ≡ 0 - suc m = omega arith in ap (λ (k : ℕ). take k (drop (suc m) l)) e
-drop-take (suc m) (suc n) [] = sym (take-nil (suc n - suc m))
-drop-take (suc m) (suc n) (x ∷ l) = let e : n - m ≡ suc n - suc m = omega arith in drop-take m n l ∙ ap (λ (k : ℕ). take k (drop m l)) e
-
 pub further-on : (at m have : ℕ) (input : List ℕ) → drop m (inHand at have input) ≡ inHand (at + m) have input
 further-on at m have input =
     let e : have - at - m ≡ have - (at + m) = omega arith in
@@ -57,7 +59,8 @@ pub in-hand-length : (at have : ℕ) (input : List ℕ) → at ≤ have → have
 in-hand-length at have input h k = length-take-le (have - at) (drop at input) (omega (arith, length-drop at input))
 
 -- what was kept, and behind it what a read handed over
-pub read-behind : (at have more : ℕ) (input kept read : List ℕ) → at ≤ have → have ≤ length input → kept ≡ moved at (have - at) input → take (have - at) read ≡ take (have - at) kept → have - at ≤ more → more ≤ length read
+pub read-behind : (at have more : ℕ) (input kept read : List ℕ) → at ≤ have → have ≤ length input → kept ≡ moved at (have - at) input
+    → take (have - at) read ≡ take (have - at) kept → have - at ≤ more → more ≤ length read
     → inHand 0 more read ≡ inHand at have input ++ take (more - (have - at)) (drop (have - at) read)
 unfolding moved
 read-behind at have more input kept read h k e f l m =
@@ -76,7 +79,10 @@ empty-by-length (b ∷ l) n e = sym (ne-eqb n 0 (λ z. omega arith))
 
 -- a read handed over nothing where there are as many bytes as were kept
 pub nothing-read : (kept more : ℕ) (read : List ℕ) → kept ≤ more → more ≤ length read → eqb more kept ≡ isEmpty (take (more - kept) (drop kept read))
-nothing-read kept more read l m = sym (empty-by-length (take (more - kept) (drop kept read)) (more - kept) (length-take-le (more - kept) (drop kept read) (omega (arith, length-drop kept read))) ∙ same (eqb more kept) refl)
+nothing-read kept more read l m =
+    sym (empty-by-length (take (more - kept) (drop kept read)) (more - kept) (length-take-le (more - kept) (drop kept read)
+    (omega (arith, length-drop kept read)))
+    ∙ same (eqb more kept) refl)
   where
     same : (b : Bool) → eqb more kept ≡ b → eqb (more - kept) 0 ≡ eqb more kept
     same true e = eq-eqb (more - kept) 0 (omega (arith, eqb-true more kept e)) ∙ sym e
@@ -111,10 +117,12 @@ module _ (d : HeldPool) (s : List ℕ) (ended : Bool) (at have : ℕ) (input out
       now = cc (further-on at (p .at) have input)
 
   out-length : length out′ ≡ length out
-  out-length = ap length holds ∙ written-length lines (p .to) (lastLine next) ∙ within b (begins d s 0 out 0) (ends s′ lines p) worked (omega arith) (omega arith) .lines
+  out-length =
+      ap length holds ∙ written-length lines (p .to) (lastLine next) ∙ within b (begins d s 0 out 0) (ends s′ lines p) worked (omega arith) (omega arith) .lines
 
   at-within : at + p .at ≤ have
-  at-within = let w = within b (begins d s 0 out 0) (ends s′ lines p) worked (omega arith) (omega arith) in omega (arith, w .at, in-hand-length at have input h k)
+  at-within =
+      let w = within b (begins d s 0 out 0) (ends s′ lines p) worked (omega arith) (omega arith) in omega (arith, w .at, in-hand-length at have input h k)
 
   placed : Placed r have out′
   placed =
@@ -123,7 +131,9 @@ module _ (d : HeldPool) (s : List ℕ) (ended : Bool) (at have : ℕ) (input out
       record {
         at = at-within;
         to = rw (holds, written-length lines (p .to) (lastLine next), closed) (a .1);
-        few = λ e. let why : Reason b (ends s′ lines p .progress) (ends s′ lines p .stop) = subst⁻¹ (λ (q : Stopped). Reason b (q .progress) (q .stop)) worked (part-of-file b [] (length b + 1) (begins d s 0 out 0) (omega arith) .reason) in let l = few-kept b ended (ends s′ lines p .progress) (p .stop) why (sym follow ∙ e) in omega (arith, in-hand-length at have input h k);
+        few = λ e. let why : Reason b (ends s′ lines p .progress) (ends s′ lines p .stop) = subst⁻¹ (λ (q : Stopped). Reason b (q .progress) (q .stop)) worked
+            (part-of-file b [] (length b + 1) (begins d s 0 out 0) (omega arith) .reason) in
+            let l = few-kept b ended (ends s′ lines p .progress) (p .stop) why (sym follow ∙ e) in omega (arith, in-hand-length at have input h k);
       }
 
   -- THE CODE'S ROUND

@@ -20,7 +20,12 @@ unfolding after written
 nothing-written lines to = go (leb (to + 0) (length lines))
   where
     go : (b : Bool) → (cond b (to + 0) to ≡ to) × (cond b (take to lines ++ [] ++ drop (to + 0) lines) lines ≡ lines)
-    go true = (add-zero to, ap (λ (l : List ℕ). l ++ drop (to + 0) lines) (append-nil (take to lines)) ∙ ap (λ (n : ℕ). take to lines ++ drop n lines) (add-zero to) ∙ take-append-drop to lines)
+    go true = (
+      add-zero to,
+      ap (λ (l : List ℕ). l ++ drop (to + 0) lines) (append-nil (take to lines))
+          ∙ ap (λ (n : ℕ). take to lines ++ drop n lines) (add-zero to)
+          ∙ take-append-drop to lines,
+    )
     go false = (refl, refl)
 
 pub unclosed : (lines : List ℕ) (to : ℕ) (next : Next) → lastLine next ≡ [] → (to ≡ after lines to (lastLine next)) × (lines ≡ written lines to (lastLine next))

@@ -1,5 +1,12 @@
 -- The loop follows the rounds: what has been done, and what is done from here on, is what the rounds do on what was read; where a round
--- ends the run, that is what the turn file does. Assumes nothing.
+-- ends the run, that is what the turn file does.
+--     allRounds                              as many as a run may take
+--     Followed, at-start                     what has been done, and what is to come
+--     Whole, After, Interrupted, Outcome     what a run left, by why it ended
+--     working, reading                       the loop goes on; reads on
+--     closed, Ends, finished, spent          it is closed; the file has ended; the rounds are spent
+--     first-held, after-read                 before the first round; after a read
+-- Assumes nothing.
 use mathlib.Core.Path.{_≡_, refl, sym, ap, _∙_, subst, subst⁻¹}
 use mathlib.Core.List.{List, [], _∷_, _++_}
 use mathlib.Core.Bool.{false}
@@ -8,6 +15,7 @@ use native.Mathlib.Omega.{arith}
 use lib.Dec.{eqb}
 use lib.ListN.{length, take, drop}
 use lib.Seq.{append-snoc}
+use Rattle.laws.specs.Storing.{moved}
 use Rattle.batch.specs.declared.HeldPool.{HeldPool}
 use Rattle.batch.specs.Batch.{Pool}
 use Rattle.batch.specs.TurnFile.{Ran, behind, zeros, turnFile}
@@ -17,7 +25,6 @@ use Rattle.turns.specs.declared.Ended.the-variants.{Finished, Closed, Sp
 use Rattle.turns.specs.declared.Next.{Next}
 use Rattle.turns.specs.declared.Next.the-variants.{More, Read, End, Last}
 use Rattle.turns.specs.declared.Round.{Round}
-use Rattle.laws.specs.MoveFront.{moved}
 use Rattle.turns.specs.TurnsRun.{lent, Held, Rounded, roundOf, Reads, worked-on, read-on, nextRound, rounds, atFirst, inputOf}
 use Rattle.turns.specs.InPieces.{load, in-pieces}
 use Rattle.turns.specs.BetweenRounds.{inHand, holding, leaves, read-behind, nothing-read}
@@ -57,22 +64,28 @@ Outcome start store Closed = Interrupted start store
 Outcome start store Spent = After allRounds start store
 
 pub at-start : (start : Held) → Followed start start allRounds
-at-start start = record { count = 0; reads = []; lines = []; all = refl; same = λ n future. let e : 0 + n ≡ n = omega arith in ap (λ (k : ℕ). rounds k future start) e }
+at-start start =
+    record { count = 0; reads = []; lines = []; all = refl; same = λ n future. let e : 0 + n ≡ n = omega arith in ap (λ (k : ℕ). rounds k future start) e }
 
 module _ (start h : Held) (left : ℕ) (F : Followed start h left) where
   one-more : (n : ℕ) (future : Reads) → rounds (F .count + 1 + n) (F .reads ++ future) start ≡ behind (F .lines) (rounds (suc n) future h)
-  one-more n future = let e : F .count + 1 + n ≡ F .count + suc n = omega arith in ap (λ (k : ℕ). rounds k (F .reads ++ future) start) e ∙ F .same (suc n) future
+  one-more n future =
+      let e : F .count + 1 + n ≡ F .count + suc n = omega arith in ap (λ (k : ℕ). rounds k (F .reads ++ future) start) e ∙ F .same (suc n) future
 
   -- all rounds are used up
   pub spent : left ≡ 0 → (store : List ℕ) → store ≡ h .pool .memory .store → After allRounds start store
   unfolding rounds
   spent none store e =
       let all : F .count + 0 ≡ allRounds = omega (arith, F .all, none) in
-      record { reads = F .reads ++ []; same = e ∙ sym (ap (λ (q : Ran). q .pool .memory .store) (F .same 0 [])) ∙ ap (λ (k : ℕ). rounds k (F .reads ++ []) start .pool .memory .store) all }
+      record {
+        reads = F .reads ++ [];
+        same = e ∙ sym (ap (λ (q : Ran). q .pool .memory .store) (F .same 0 [])) ∙ ap (λ (k : ℕ). rounds k (F .reads ++ []) start .pool .memory .store) all;
+      }
 
   module _ (r : Rounded) (is : r ≡ roundOf h) where
     -- what the rounds do by what follows this one
-    by-next : (m : Next) → r .next ≡ m → (n : ℕ) (future : Reads) → rounds (F .count + 1 + n) (F .reads ++ future) start ≡ behind (F .lines) (behind (take (r .to) (r .out)) (nextRound (rounds n) future (h .ended) r m))
+    by-next : (m : Next) → r .next ≡ m → (n : ℕ) (future : Reads)
+        → rounds (F .count + 1 + n) (F .reads ++ future) start ≡ behind (F .lines) (behind (take (r .to) (r .out)) (nextRound (rounds n) future (h .ended) r m))
     unfolding rounds
     by-next m e n future =
         one-more n future
@@ -94,7 +107,9 @@ module _ (start h : Held) (left : ℕ) (F : Followed start h left) where
       reads = F .reads ++ (piece ∷ []);
       lines = F .lines ++ take (r .to) (r .out);
       all = omega (arith, F .all, one);
-      same = λ n future. ap (λ (l : Reads). rounds (F .count + 1 + n) l start) (append-snoc (F .reads) piece future) ∙ by-next Read e n (piece ∷ future) ∙ sym (behind-behind (F .lines) (take (r .to) (r .out)) _);
+      same = λ n future. ap (λ (l : Reads). rounds (F .count + 1 + n) l start) (append-snoc (F .reads) piece future)
+          ∙ by-next Read e n (piece ∷ future)
+          ∙ sym (behind-behind (F .lines) (take (r .to) (r .out)) _);
     }
 
     stops : (m : Next) → nextRound (rounds 0) [] (h .ended) r m .pool ≡ r .pool
@@ -134,21 +149,27 @@ module _ (out : List ℕ) (big : 89 ≤ length out) (h : Held) (left : ℕ) (F :
       let n : ℕ = suc (suc (load reads)) in
       record {
         reads = reads;
-        same = e ∙ ap (λ (x : Pool). x .memory .store) (sym (ap (λ (q : Ran). q .pool) (by-next (atFirst lent out) h left F r is (r .next) refl n []) ∙ nothing-more r (r .next) ends n []))
+        same =
+            e ∙ ap (λ (x : Pool). x .memory .store) (sym (ap (λ (q : Ran). q .pool) (by-next (atFirst lent out) h left F r is (r .next) refl n [])
+            ∙ nothing-more r (r .next) ends n []))
             ∙ ap (λ (q : Ran). q .pool .memory .store) (in-pieces reads lent out big (F .count + 1 + n) (omega arith));
       }
 
 -- ── as the code holds it ──
 -- before the first round
-pub first-held : (d : HeldPool) (s input out : List ℕ) → d .shape ≡ zeros → d .records ≡ 64 → d .table ≡ lent .table → s ≡ lent .store → atFirst lent out ≡ holding d s false (inHand 0 0 input) out
+pub first-held : (d : HeldPool) (s input out : List ℕ) → d .shape ≡ zeros → d .records ≡ 64 → d .table ≡ lent .table → s ≡ lent .store
+    → atFirst lent out ≡ holding d s false (inHand 0 0 input) out
 unfolding lent
 first-held d s input out shape records table store = cc (shape, ap (λ (n : ℕ). take n (d .table)) records ∙ ap (take 64) table, store)
 
 -- behind the kept rest stands what was read
-pub after-read : (start : Held) (r : Round) (have kept more : ℕ) (input front read out s : List ℕ) → r .at ≤ have → have ≤ length input → kept ≡ have - r .at → front ≡ moved (r .at) (have - r .at) input
-    → take kept read ≡ take kept front → kept ≤ more → more ≤ length read → (left : ℕ) → ((piece : List ℕ) → Followed start (read-on piece (leaves r have input out s)) left)
+pub after-read : (start : Held) (r : Round) (have kept more : ℕ) (input front read out s : List ℕ) → r .at ≤ have → have ≤ length input → kept ≡ have - r .at
+    → front ≡ moved (r .at) (have - r .at) input
+    → take kept read ≡ take kept front → kept ≤ more → more ≤ length read → (left : ℕ)
+    → ((piece : List ℕ) → Followed start (read-on piece (leaves r have input out s)) left)
     → Followed start (holding (r .pool) s (eqb more kept) (inHand 0 more read) out) left
-after-read start r have kept more input front read out s h k is e f l m left F = subst (λ (g : Held). Followed start g left) (sym same) (F (take (more - kept) (drop kept read)))
+after-read start r have kept more input front read out s h k is e f l m left F =
+    subst (λ (g : Held). Followed start g left) (sym same) (F (take (more - kept) (drop kept read)))
   where
     bytes : inHand 0 more read ≡ inHand (r .at) have input ++ take (more - kept) (drop kept read)
     bytes =

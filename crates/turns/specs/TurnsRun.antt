@@ -5,10 +5,10 @@ use Prim.Native.Nat.{ℕ, zero, suc}
 use lib.Dec.{eqb}
 use lib.ListN.{take, drop, replicate}
 use Rattle.arrival.specs.declared.Response.the-variants.{Refused}
-use Rattle.calendar.specs.rules.Ranges.{blank}
-use Rattle.calendar.specs.rules.Operations.{Memory}
 use Rattle.turn_file.specs.Lines.{lineOf}
 use Rattle.turn_file.specs.Buffer.{written, after}
+use Rattle.calendar.specs.rules.Ranges.{blank}
+use Rattle.calendar.specs.rules.Operations.{Memory}
 use Rattle.batch.specs.declared.Stop.{Stop}
 use Rattle.batch.specs.declared.Stop.the-variants.{Drained, Full, Halted}
 use Rattle.batch.specs.Batch.{Pool, Stopped, workedAll}

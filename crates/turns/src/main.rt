@@ -5,7 +5,7 @@ ghost use lib.ListN.{length, take};
 ghost use Rattle.turn_file.specs.Buffer.{written, after};
 ghost use Rattle.batch.specs.TurnFile.{zeros};
 ghost use Rattle.batch.specs.CodeView.{Sound};
-ghost use Rattle.laws.specs.MoveFront.{moved};
+ghost use Rattle.laws.specs.Storing.{moved};
 ghost use Rattle.turns.specs.TurnsRun.{lent, follows, lastLine, roundOf, atFirst};
 ghost use Rattle.turns.specs.BetweenRounds.{inHand, holding, leaves, Placed};
 ghost use Rattle.turns.specs.RunFollows.{Outcome};
@@ -111,7 +111,8 @@ fn close(next: Next, out: &mut [u8], to: usize) -> usize
 // Moves the bytes from `at` to `have` to the front: how many they are.
 fn keep_rest(input: &mut [u8], at: usize, have: usize) -> usize
     requires { ⌜ (at ≤ have) × (have ≤ length (now input)) ⌝ }
-    ensures { λ r. ⌜ (r ≡ have - at) × (length (now (input .exit)) ≡ length (now (input .entry))) × (now (input .exit) ≡ moved at (have - at) (now (input .entry))) ⌝ }
+    ensures { λ r. ⌜ (r ≡ have - at) × (length (now (input .exit)) ≡ length (now (input .entry)))
+        × (now (input .exit) ≡ moved at (have - at) (now (input .entry))) ⌝ }
 {
     let n = have - at;
     let mut i: usize = 0;

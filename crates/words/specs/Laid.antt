@@ -4,7 +4,8 @@ use Prim.Native.Nat.{ℕ, _+_, _<_, _≤_}
 use native.Mathlib.Omega.{arith}
 use lib.ListN.{length}
 use Rattle.arrival.specs.declared.Shape.{Shape}
-use Rattle.calendar.specs.rules.Layout.{Place, word, cell, field, address, layout, write, length-write, word-inside, cell-inside, field-inside}
+use Rattle.calendar.specs.rules.Layout.{Place, word, cell, field, address, layout, write}
+use Rattle.calendar.specs.facts.Places.{length-write, word-inside, cell-inside, field-inside}
 use Rattle.calendar.specs.facts.RangeFacts.{Limits}
 
 -- the shape's limits that bound addresses, and a store long enough

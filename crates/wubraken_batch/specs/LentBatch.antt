@@ -10,7 +10,7 @@ use lib.Seq.{length-take-le, getD-take, take-take, take-at}
 use borrow.Author.Tests.{ltb-true, ltb-false, le-ltb}
 use Rattle.arrival.specs.declared.Shape.{Shape}
 use Rattle.arrival.specs.declared.Worker.{Worker}
-use Rattle.laws.specs.Every.{every, every-same}
+use Rattle.laws.specs.Counting.{every, every-same}
 use Rattle.calendar.specs.rules.Ranges.{shapeInRange, blank, recordInRange, tableInRange, worker}
 use Rattle.calendar.specs.facts.RangeFacts.{limits}
 use Rattle.calendar.specs.rules.Operations.{Memory}

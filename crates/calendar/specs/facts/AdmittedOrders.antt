@@ -1,21 +1,28 @@
 -- All orders of a ledger's calls that may be a linearization, listed by a search: an order is built from the front, and a call
 -- comes next only if no call that is left had ended before it started, and the sequential queue answers as the pool did. The
--- order of every linearization is in the list; where the list is empty, there is none. Assumes nothing.
-use mathlib.Core.Path.{_≡_, refl, sym, ap, _∙_, subst}
-use mathlib.Core.List.{List, [], _∷_, _++_, map, List·Memᴰ, List·Memᴰ·head, List·Memᴰ·tail, List·Memᴰ·not-nil, List·Memᴰ·cases-cons, Memᴰ·append-left, Memᴰ·append-right}
+-- order of every linearization is in the list; where the list is empty, there is none.
+--     isFinished, endedBefore, sameReply, all     tests on calls
+--     mayEnd, mayBeNext                           what is left may be left out; a call may come next
+--     ordersOf, upTo, admitted                    the orders found; of the calls 1 to n; of a ledger
+--     linearization-admitted                      the order of every linearization is among them
+-- Assumes nothing.
+use mathlib.Core.Path.{_≡_, refl, _∙_, subst}
+use mathlib.Core.List.{List, [], _∷_, _++_, map, List·Memᴰ, List·Memᴰ·head, List·Memᴰ·tail, List·Memᴰ·not-nil, List·Memᴰ·cases-cons, Memᴰ·cast, Memᴰ·map}
+use mathlib.Core.List.{Memᴰ·append-left, Memᴰ·append-right}
 use mathlib.Core.Bool.{Bool, true, false, cond, not, _&&_, _||_}
 use mathlib.Core.Option.{Option, none, some}
-use mathlib.Core.Logic.{_≢_, _⊎_, inl, inr}
-use Prim.Native.Nat.{ℕ, zero, suc, _≤_, _<_}
+use mathlib.Core.Logic.{_⊎_, inl, inr}
+use Prim.Native.Nat.{ℕ, zero, suc, _-_, _≤_}
 use native.Mathlib.Omega.{arith}
 use lib.Dec.{eqb, ltb}
-use lib.ListN.{length}
-use borrow.Author.Tests.{eqb-true, eqb-false, eq-eqb, ltb-true}
+use lib.ListN.{length, length-map}
+use borrow.Author.Tests.{eq-eqb, ltb-true}
 use Rattle.arrival.specs.declared.Response.{Response}
 use Rattle.arrival.specs.declared.Response.the-variants.{Opened, Begun, On, Stored, Took, Empty, Refused}
 use Rattle.arrival.specs.Queue.{Reply, Items, reply, after, replies}
+use Rattle.laws.specs.Lists.{mem-behind, Once, without, without-in, in-without, without-less, below, below-in, length-below}
 use Rattle.calendar.specs.rules.Ledger.{Ledger}
-use Rattle.calendar.specs.rules.Linearizability.{Finished, EndedBefore, Once, RespectsTime, poolReply, Agree, Linearization}
+use Rattle.calendar.specs.rules.Linearizability.{Finished, EndedBefore, RespectsTime, poolReply, Agree, Linearization}
 
 -- ── tests ──
 abbrev pub isFinished : Option ℕ → Bool
@@ -54,10 +61,6 @@ abbrev pub all : (ℕ → Bool) → List ℕ → Bool
 all f [] = true
 all f (x ∷ xs) = f x && all f xs
 
-abbrev pub without : ℕ → List ℕ → List ℕ
-without c [] = []
-without c (x ∷ xs) = cond (eqb c x) (without c xs) (x ∷ without c xs)
-
 -- ── the search ──
 -- what is left need not be there: none of it has finished
 abbrev pub mayEnd : Ledger → List ℕ → Bool
@@ -65,7 +68,8 @@ mayEnd L rest = all (λ c. not (isFinished (L .ended c))) rest
 
 -- c comes next, the queue holding S
 abbrev pub mayBeNext : Ledger → Items → List ℕ → ℕ → Bool
-mayBeNext L S rest c = all (λ y. not (endedBefore (L .ended y) c)) (without c rest) && (not (isFinished (L .ended c)) || sameReply (reply S (L .asked c)) (poolReply L c))
+mayBeNext L S rest c =
+    all (λ y. not (endedBefore (L .ended y) c)) (without c rest) && (not (isFinished (L .ended c)) || sameReply (reply S (L .asked c)) (poolReply L c))
 
 abbrev gathered : (ℕ → List (List ℕ)) → List ℕ → List (List ℕ)
 gathered f [] = []
@@ -83,9 +87,8 @@ ordersOf L zero S rest = ended (mayEnd L rest)
 ordersOf L (suc n) S rest = ended (mayEnd L rest) ++ gathered (λ c. next (mayBeNext L S rest c) c (ordersOf L n (after S (L .asked c)) (without c rest))) rest
 
 -- the calls 1 to n
-unfoldable pub upTo : ℕ → List ℕ
-upTo zero = []
-upTo (suc n) = suc n ∷ upTo n
+abbrev pub upTo : ℕ → List ℕ
+upTo n = map suc (below n)
 
 abbrev pub admitted : Ledger → List (List ℕ)
 admitted L = ordersOf L (L .started) [] (upTo (L .started))
@@ -102,45 +105,6 @@ all-true : (f : ℕ → Bool) (xs : List ℕ) → ((x : ℕ) → List·Memᴰ x 
 all-true f [] h = refl
 all-true f (x ∷ xs) h = rw (h x (List·Memᴰ·head refl)) (all-true f xs (λ y i. h y (List·Memᴰ·tail i)))
 
-without-in : (c x : ℕ) (xs : List ℕ) → List·Memᴰ x (without c xs) → (List·Memᴰ x xs) × (c ≢ x)
-without-in c x [] i = absurd (List·Memᴰ·not-nil i)
-without-in c x (y ∷ ys) i = go (eqb c y) refl i (without-in c x ys)
-  where
-    go : (t : Bool) → eqb c y ≡ t → List·Memᴰ x (cond t (without c ys) (y ∷ without c ys)) → (List·Memᴰ x (without c ys) → (List·Memᴰ x ys) × (c ≢ x)) → (List·Memᴰ x (y ∷ ys)) × (c ≢ x)
-    go true e j rec = let (p, q) = rec j in (List·Memᴰ·tail p, q)
-    go false e j rec = pick (List·Memᴰ·cases-cons j)
-      where
-        pick : (x ≡ y) ⊎ List·Memᴰ x (without c ys) → (List·Memᴰ x (y ∷ ys)) × (c ≢ x)
-        pick (inl p) = (List·Memᴰ·head p, λ q. eqb-false c y e (q ∙ p))
-        pick (inr p) = let (a, b) = rec p in (List·Memᴰ·tail a, b)
-
-in-without : (c x : ℕ) (xs : List ℕ) → List·Memᴰ x xs → c ≢ x → List·Memᴰ x (without c xs)
-in-without c x [] i h = absurd (List·Memᴰ·not-nil i)
-in-without c x (y ∷ ys) i h = go (eqb c y) refl (List·Memᴰ·cases-cons i) (λ j. in-without c x ys j h)
-  where
-    go : (t : Bool) → eqb c y ≡ t → (x ≡ y) ⊎ List·Memᴰ x ys → (List·Memᴰ x ys → List·Memᴰ x (without c ys)) → List·Memᴰ x (cond t (without c ys) (y ∷ without c ys))
-    go true e (inl p) rec = absurd (h (eqb-true c y e ∙ sym p))
-    go true e (inr p) rec = rec p
-    go false e (inl p) rec = List·Memᴰ·head p
-    go false e (inr p) rec = List·Memᴰ·tail (rec p)
-
-without-shorter : (c : ℕ) (xs : List ℕ) → length (without c xs) ≤ length xs
-without-shorter c [] = omega arith
-without-shorter c (y ∷ ys) = go (eqb c y) (without-shorter c ys)
-  where
-    go : (t : Bool) → length (without c ys) ≤ length ys → length (cond t (without c ys) (y ∷ without c ys)) ≤ suc (length ys)
-    go true h = omega arith
-    go false h = omega arith
-
-without-less : (c : ℕ) (xs : List ℕ) → List·Memᴰ c xs → length (without c xs) < length xs
-without-less c [] i = absurd (List·Memᴰ·not-nil i)
-without-less c (y ∷ ys) i = go (eqb c y) refl (List·Memᴰ·cases-cons i) (without-less c ys)
-  where
-    go : (t : Bool) → eqb c y ≡ t → (c ≡ y) ⊎ List·Memᴰ c ys → (List·Memᴰ c ys → length (without c ys) < length ys) → length (cond t (without c ys) (y ∷ without c ys)) < suc (length ys)
-    go true e p rec = omega (arith, without-shorter c ys)
-    go false e (inl p) rec = absurd (eqb-false c y e p)
-    go false e (inr p) rec = omega (arith, rec p)
-
 gathered-in : (f : ℕ → List (List ℕ)) (cs : List ℕ) (c : ℕ) (o : List ℕ) → List·Memᴰ c cs → List·Memᴰ o (f c) → List·Memᴰ o (gathered f cs)
 gathered-in f [] c o i j = absurd (List·Memᴰ·not-nil i)
 gathered-in f (d ∷ ds) c o i j = pick (List·Memᴰ·cases-cons i) (λ k. gathered-in f ds c o k j)
@@ -149,34 +113,11 @@ gathered-in f (d ∷ ds) c o i j = pick (List·Memᴰ·cases-cons i) (λ k. gath
     pick (inl e) rec = Memᴰ·append-left (gathered f ds) (subst (λ x. List·Memᴰ o (f x)) e j)
     pick (inr k) rec = Memᴰ·append-right (f d) (rec k)
 
-in-map : (c : ℕ) (o : List ℕ) (os : List (List ℕ)) → List·Memᴰ o os → List·Memᴰ (c ∷ o) (map (λ (o : List ℕ). c ∷ o) os)
-in-map c o [] i = absurd (List·Memᴰ·not-nil i)
-in-map c o (p ∷ os) i = pick (List·Memᴰ·cases-cons i) (in-map c o os)
-  where
-    pick : (o ≡ p) ⊎ List·Memᴰ o os → (List·Memᴰ o os → List·Memᴰ (c ∷ o) (map (λ (o : List ℕ). c ∷ o) os)) → List·Memᴰ (c ∷ o) ((c ∷ p) ∷ map (λ (o : List ℕ). c ∷ o) os)
-    pick (inl e) rec = List·Memᴰ·head (ap (λ (q : List ℕ). c ∷ q) e)
-    pick (inr j) rec = List·Memᴰ·tail (rec j)
-
-behind : (c d : ℕ) (o : List ℕ) → c ≢ d → List·Memᴰ d (c ∷ o) → List·Memᴰ d o
-behind c d o apart i = pick (List·Memᴰ·cases-cons i)
-  where
-    pick : (d ≡ c) ⊎ List·Memᴰ d o → List·Memᴰ d o
-    pick (inl e) = absurd (apart (sym e))
-    pick (inr j) = j
-
 up-to-in : (n c : ℕ) → 1 ≤ c → c ≤ n → List·Memᴰ c (upTo n)
-unfolding upTo
-up-to-in zero c lo hi = absurd (omega arith)
-up-to-in (suc n) c lo hi = pick (eqb c (suc n)) refl (up-to-in n c lo)
-  where
-    pick : (t : Bool) → eqb c (suc n) ≡ t → (c ≤ n → List·Memᴰ c (upTo n)) → List·Memᴰ c (suc n ∷ upTo n)
-    pick true e rec = List·Memᴰ·head (eqb-true c (suc n) e)
-    pick false e rec = List·Memᴰ·tail (rec (omega (arith, eqb-false c (suc n) e)))
+up-to-in n c lo hi = Memᴰ·cast (omega arith) (Memᴰ·map suc (below-in n (c - 1) (omega arith)))
 
 length-up-to : (n : ℕ) → length (upTo n) ≡ n
-unfolding upTo
-length-up-to zero = refl
-length-up-to (suc n) = ap suc (length-up-to n)
+length-up-to n = length-map (below n) suc ∙ length-below n
 
 module _ (L : Ledger) where
   not-finished : (c : ℕ) → (Finished L c → ⊥) → not (isFinished (L .ended c)) ≡ true
@@ -209,13 +150,16 @@ module _ (L : Ledger) where
   stops rest fin = all-true (λ c. not (isFinished (L .ended c))) rest (λ c i. not-finished c (λ f. List·Memᴰ·not-nil (fin c i f)))
 
   -- what stands first may come next
-  comes-next : (S : Items) (rest : List ℕ) (c : ℕ) (o : List ℕ) → ((d : ℕ) → List·Memᴰ d rest → Finished L d → List·Memᴰ d (c ∷ o)) → RespectsTime L (c ∷ o) → (Finished L c → Same (reply S (L .asked c)) (poolReply L c))
+  comes-next : (S : Items) (rest : List ℕ) (c : ℕ) (o : List ℕ) → ((d : ℕ) → List·Memᴰ d rest → Finished L d → List·Memᴰ d (c ∷ o)) → RespectsTime L (c ∷ o)
+      → (Finished L c → Same (reply S (L .asked c)) (poolReply L c))
       → mayBeNext L S rest c ≡ true
   comes-next S rest c o fin time agree =
-      rw (all-true (λ y. not (endedBefore (L .ended y) c)) (without c rest) (λ y i. let (j, apart) = without-in c y rest i in not-ended y c (λ (s, e, l). time .0 y (behind c y o apart (fin y j (s, e))) (s, e, l))))
+      rw (all-true (λ y. not (endedBefore (L .ended y) c)) (without c rest) (λ y i. let (j, apart) = without-in c y rest i in
+      not-ended y c (λ (s, e, l). time .0 y (mem-behind apart (fin y j (s, e))) (s, e, l))))
       (answered c (reply S (L .asked c)) agree)
 
-  listed : (n : ℕ) (S : Items) (rest o : List ℕ) → length rest ≤ n → ((c : ℕ) → List·Memᴰ c o → List·Memᴰ c rest) → Once o → ((c : ℕ) → List·Memᴰ c rest → Finished L c → List·Memᴰ c o)
+  listed : (n : ℕ) (S : Items) (rest o : List ℕ) → length rest ≤ n → ((c : ℕ) → List·Memᴰ c o → List·Memᴰ c rest) → Once o
+      → ((c : ℕ) → List·Memᴰ c rest → Finished L c → List·Memᴰ c o)
       → RespectsTime L o → Agree L o (replies S (map (L .asked) o)) → List·Memᴰ o (ordersOf L n S rest)
   unfolding ordersOf
   listed zero S rest [] fuel sub one fin time agree = rw (stops rest fin) (List·Memᴰ·head refl)
@@ -225,10 +169,10 @@ module _ (L : Ledger) where
       Memᴰ·append-right (ended (mayEnd L rest))
       (gathered-in (λ d. next (mayBeNext L S rest d) d (ordersOf L n (after S (L .asked d)) (without d rest))) rest c (c ∷ o) (sub c (List·Memᴰ·head refl))
       (rw (comes-next S rest c o fin time (agree .0))
-      (in-map c o (ordersOf L n (after S (L .asked c)) (without c rest))
+      (Memᴰ·map (λ (o : List ℕ). c ∷ o)
       (listed n (after S (L .asked c)) (without c rest) o (omega (arith, without-less c rest (sub c (List·Memᴰ·head refl))))
       (λ d i. in-without c d rest (sub d (List·Memᴰ·tail i)) (one .0 d i)) (one .1)
-      (λ d i f. let (j, apart) = without-in c d rest i in behind c d o apart (fin d j f)) (time .1) (agree .1)))))
+      (λ d i f. let (j, apart) = without-in c d rest i in mem-behind apart (fin d j f)) (time .1) (agree .1)))))
 
   -- THE ORDER OF EVERY LINEARIZATION IS IN THE LIST
   pub linearization-admitted : (X : Linearization L) → List·Memᴰ (X .order) (admitted L)

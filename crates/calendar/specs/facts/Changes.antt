@@ -1,5 +1,10 @@
--- The turn as data: what a turn did and what its tests found. One match on it serves every property of turns. Assumes nothing.
-use mathlib.Core.Path.{_≡_, refl}
+-- The turn as data: what a turn did and what its tests found. One match on it serves every property of turns.
+--     Found, Settled, Walked     a search at its end; right set in a search, and in a take's walk
+--     Change                     what a turn did, stage by stage
+--     by-stage, step-is          a property of every rule; every turn is one of the changes
+--     step-at                    at a known stage the turn is that stage's rule
+-- Assumes nothing.
+use mathlib.Core.Path.{_≡_, refl, ap}
 use mathlib.Core.List.{List, [], _∷_}
 use mathlib.Core.Bool.{true, false}
 use mathlib.Core.Logic.{_≢_}
@@ -12,12 +17,13 @@ use Rattle.arrival.specs.declared.Shape.{Shape}
 use Rattle.arrival.specs.declared.Worker.{Worker}
 use Rattle.arrival.specs.declared.Response.the-variants.{Stored, Empty}
 use Rattle.laws.specs.Tests.{by-test}
-use Rattle.laws.specs.Every.{Each, each-of}
+use Rattle.laws.specs.Counting.{Each, each-of}
 use Rattle.calendar.specs.rules.Layout.{Write, _≔_, word, head, link, linkCell, current, successor, bucketIn}
 use Rattle.calendar.specs.rules.Outcome.{Outcome, on, answer, withOwn, withBucket, withLeft, withRight, withSeen, withCurrent}
 use Rattle.calendar.specs.rules.SearchSteps.{answered, found, settle, rightIsMarked, rightIsLower, leftHolds, unlink, step-1, step-2, step-3}
 use Rattle.calendar.specs.rules.EnqueueSteps.{prepare, linkOwn, currentIsLower, currentHolds, renewCurrent, step-4, step-5, step-6, step-7}
-use Rattle.calendar.specs.rules.DequeueSteps.{moreBuckets, walk, nodeIsMarked, nodeIsNewer, linkHolds, markNode, nextCurrent, advances, stillCurrent, step-8, step-9, step-10, step-11, step-12, step-13}
+use Rattle.calendar.specs.rules.DequeueSteps.{moreBuckets, walk, nodeIsMarked, nodeIsNewer, linkHolds, markNode, nextCurrent, advances, stillCurrent}
+use Rattle.calendar.specs.rules.DequeueSteps.{step-8, step-9, step-10, step-11, step-12, step-13}
 use Rattle.calendar.specs.rules.Steps.{Rule, rules, no-step, step}
 
 module _ (sh : Shape) (s : List ℕ) where
@@ -42,7 +48,8 @@ module _ (sh : Shape) (s : List ℕ) where
     mark-seen : w .stage ≡ 2 → rightIsMarked sh s w ≡ true → Change w (on [] 3 (withSeen (link sh s (w .right)) w))
     passed : {o : Outcome} → w .stage ≡ 2 → rightIsMarked sh s w ≡ false → rightIsLower sh s w ≡ true
         → Settled [] (withLeft (linkCell sh (w .right)) (withRight (successor (link sh s (w .right))) (withSeen (link sh s (w .right)) w))) o → Change w o
-    stopped : {o : Outcome} → w .stage ≡ 2 → rightIsMarked sh s w ≡ false → rightIsLower sh s w ≡ false → Found [] (withSeen (link sh s (w .right)) w) o → Change w o
+    stopped : {o : Outcome} → w .stage ≡ 2 → rightIsMarked sh s w ≡ false → rightIsLower sh s w ≡ false → Found [] (withSeen (link sh s (w .right)) w) o
+        → Change w o
     unlinked : {o : Outcome} → w .stage ≡ 3 → leftHolds sh s w ≡ true → Settled (unlink sh s w) (withRight (successor (w .seen)) w) o → Change w o
     again-3 : w .stage ≡ 3 → leftHolds sh s w ≡ false → Change w (on [] 1 w)
     prepared : w .stage ≡ 4 → Change w (on (prepare sh s w) 5 (withCurrent (current sh s) w))
@@ -54,12 +61,14 @@ module _ (sh : Shape) (s : List ℕ) where
     back-6 : w .stage ≡ 7 → currentHolds sh s w ≡ false → Change w (on [] 6 w)
     current-read : w .stage ≡ 8 → Change w (on [] 9 (withBucket (bucketIn (current sh s)) (withCurrent (current sh s) w)))
     first-read : {o : Outcome} → w .stage ≡ 9 → Walked (withRight (successor (head sh s (w .bucket))) w) o → Change w o
-    mark-passed : {o : Outcome} → w .stage ≡ 10 → nodeIsMarked sh s w ≡ true → Walked (withRight (successor (link sh s (w .right))) (withSeen (link sh s (w .right)) w)) o → Change w o
+    mark-passed : {o : Outcome} → w .stage ≡ 10 → nodeIsMarked sh s w ≡ true
+        → Walked (withRight (successor (link sh s (w .right))) (withSeen (link sh s (w .right)) w)) o → Change w o
     newer : w .stage ≡ 10 → nodeIsMarked sh s w ≡ false → nodeIsNewer sh s w ≡ true → Change w (on [] 8 (withSeen (link sh s (w .right)) w))
     on-11 : w .stage ≡ 10 → nodeIsMarked sh s w ≡ false → nodeIsNewer sh s w ≡ false → Change w (on [] 11 (withSeen (link sh s (w .right)) w))
     marked : w .stage ≡ 11 → linkHolds sh s w ≡ true → Change w (on (markNode sh w) 1 (withOwn (w .right) w))
     back-10 : w .stage ≡ 11 → linkHolds sh s w ≡ false → Change w (on [] 10 w)
-    advanced : w .stage ≡ 12 → advances sh s w ≡ true → Change w (on ((word 0 ≔ nextCurrent w) ∷ []) 9 (withBucket (w .bucket + 1) (withCurrent (nextCurrent w) w)))
+    advanced : w .stage ≡ 12 → advances sh s w ≡ true
+        → Change w (on ((word 0 ≔ nextCurrent w) ∷ []) 9 (withBucket (w .bucket + 1) (withCurrent (nextCurrent w) w)))
     back-12 : w .stage ≡ 12 → advances sh s w ≡ false → Change w (on [] 8 w)
     emptied : w .stage ≡ 13 → stillCurrent sh s w ≡ true → Change w (answer [] w Empty)
     back-13 : w .stage ≡ 13 → stillCurrent sh s w ≡ false → Change w (on [] 8 w)
@@ -70,7 +79,9 @@ module _ (sh : Shape) (s : List ℕ) where
 
   settled-is : (ws : List Write) (v : Worker) → Settled ws v (settle sh s ws v)
   unfolding settle
-  settled-is ws v = by-test (Settled ws v) (eqb (v .right) (sh .nodes)) (λ e. at-end (eqb-true (v .right) (sh .nodes) e) (found-is ws v)) (λ e. goes-on (eqb-false (v .right) (sh .nodes) e))
+  settled-is ws v =
+      by-test (Settled ws v) (eqb (v .right) (sh .nodes)) (λ e. at-end (eqb-true (v .right) (sh .nodes) e) (found-is ws v))
+      (λ e. goes-on (eqb-false (v .right) (sh .nodes) e))
 
   walked-is : (v : Worker) → Walked v (walk sh v)
   unfolding walk
@@ -92,7 +103,8 @@ step-is sh s w busy l =
       (
         λ q. head-read q (settled-is sh s _ _),
         (
-          λ q. by-test C (rightIsMarked sh s w) (mark-seen q) (λ e. by-test C (rightIsLower sh s w) (λ f. passed q e f (settled-is sh s _ _)) (λ f. stopped q e f (found-is sh s _ _))),
+          λ q. by-test C (rightIsMarked sh s w) (mark-seen q)
+              (λ e. by-test C (rightIsLower sh s w) (λ f. passed q e f (settled-is sh s _ _)) (λ f. stopped q e f (found-is sh s _ _))),
           (
             λ q. by-test C (leftHolds sh s w) (λ e. unlinked q e (settled-is sh s _ _)) (again-3 q),
             (
@@ -108,7 +120,8 @@ step-is sh s w busy l =
                       (
                         λ q. first-read q (walked-is sh s _),
                         (
-                          λ q. by-test C (nodeIsMarked sh s w) (λ e. mark-passed q e (walked-is sh s _)) (λ e. by-test C (nodeIsNewer sh s w) (newer q e) (on-11 q e)),
+                          λ q. by-test C (nodeIsMarked sh s w) (λ e. mark-passed q e (walked-is sh s _))
+                              (λ e. by-test C (nodeIsNewer sh s w) (newer q e) (on-11 q e)),
                           (
                             λ q. by-test C (linkHolds sh s w) (marked q) (back-10 q),
                             (
@@ -134,3 +147,8 @@ step-is sh s w busy l =
   where
     C : Outcome → Type 0
     C o = Change sh s w o
+
+-- At a known stage the turn is that stage's rule.
+pub step-at : (sh : Shape) (s : List ℕ) (w : Worker) (k : ℕ) → w .stage ≡ k → step sh s w ≡ getD rules k no-step sh s w
+unfolding step
+step-at sh s w k e = ap (λ (i : ℕ). getD rules i no-step sh s w) e

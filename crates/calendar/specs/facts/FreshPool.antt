@@ -1,31 +1,30 @@
 -- What an opened store and table hold, place by place. Assumes nothing.
-use mathlib.Core.Path.{_≡_, refl, sym, ap, _∙_}
-use mathlib.Core.List.{List, [], _∷_, _++_}
-use mathlib.Core.Bool.{Bool, true, false, cond, _&&_}
-use mathlib.Core.Logic.{inl, inr}
-use Prim.Native.Nat.{ℕ, zero, suc, _+_, _*_, _-_, _/_, _%_, _≤_, _<_}
+use mathlib.Core.Path.{_≡_, ap, _∙_}
+use mathlib.Core.List.{List}
+use mathlib.Core.Logic.{inr}
+use Prim.Native.Nat.{ℕ, _+_, _*_, _-_, _≤_, _<_}
 use native.Mathlib.Omega.{arith}
-use lib.Dec.{eqb, leb, ltb, lit<}
-use lib.ListN.{length, getD, drop, replicate, getD-replicate, length-replicate, List·getD-append}
-use borrow.Author.Tests.{eq-eqb, ne-eqb, le-leb, lt-ltb, le-ltb, lt-leb}
+use lib.Dec.{lit<}
+use lib.ListN.{drop, replicate, getD-replicate, length-replicate, List·getD-append}
+use borrow.Author.Tests.{ne-eqb, le-leb, lt-ltb, le-ltb}
 use Rattle.arrival.specs.declared.Shape.{Shape}
 use Rattle.arrival.specs.declared.Worker.{Worker}
-use Rattle.calendar.specs.rules.Layout.{Place, word, cell, field, address, layout, read, word-inside, cell-inside, field-inside}
-use Rattle.calendar.specs.facts.Views.{View, view}
+use Rattle.laws.specs.Lists.{wordsFrom, words-at, length-words}
+use Rattle.calendar.specs.rules.Layout.{Place, word, cell, field, address, layout, read}
 use Rattle.calendar.specs.rules.Ranges.{blank, worker}
+use Rattle.calendar.specs.rules.Opening.{openWord, openStore, openTable}
+use Rattle.calendar.specs.facts.Places.{word-inside, cell-inside, field-inside}
+use Rattle.calendar.specs.facts.Views.{view}
 use Rattle.calendar.specs.facts.RangeFacts.{StoreRanges, RecordRanges, Limits}
-use Rattle.calendar.specs.rules.Opening.{openWord, wordsFrom, openStore, openTable}
-
-words-at : (g : ℕ → ℕ) (i n k : ℕ) (d : List ℕ) → k < n → getD (wordsFrom g i n ++ d) k 0 ≡ g (i + k)
-unfolding wordsFrom
-words-at g i zero k d h = absurd (omega arith)
-words-at g i (suc n) zero d h = let e : i + 0 ≡ i = omega arith in rw e
-words-at g i (suc n) (suc k) d h = let e : suc i + k ≡ i + suc k = omega arith in words-at g (suc i) n k d (omega arith) ∙ ap g e
 
 module _ (sh : Shape) (s : List ℕ) where
   at-place : (p : Place) → address sh p < layout sh → read sh (openStore sh s) p ≡ openWord sh (address sh p)
   unfolding openStore read
-  at-place p h = let e : 0 + address sh p ≡ address sh p = omega arith in words-at (openWord sh) 0 (layout sh) (address sh p) (drop (layout sh) s) h ∙ ap (openWord sh) e
+  at-place p h =
+      let e : 0 + address sh p ≡ address sh p = omega arith in
+      List·getD-append (wordsFrom (openWord sh) 0 (layout sh)) (drop (layout sh) s) 0 (address sh p) (rw (length-words (openWord sh) 0 (layout sh)) h)
+      ∙ words-at (openWord sh) 0 (layout sh) (address sh p) h
+      ∙ ap (openWord sh) e
 
   pub open-current : read sh (openStore sh s) (word 0) ≡ 0
   unfolding address
@@ -52,7 +51,9 @@ module _ (sh : Shape) (s : List ℕ) where
 
   pub open-link : (n : ℕ) → n < sh .nodes → read sh (openStore sh s) (cell (sh .buckets + n)) ≡ 0
   unfolding address
-  open-link n h = at-place (cell (sh .buckets + n)) (cell-inside sh (sh .buckets + n) (omega arith)) ∙ zero-beyond (3 + (sh .buckets + n) + 7 * (sh .buckets + n - sh .buckets)) (omega arith)
+  open-link n h =
+      at-place (cell (sh .buckets + n)) (cell-inside sh (sh .buckets + n) (omega arith))
+      ∙ zero-beyond (3 + (sh .buckets + n) + 7 * (sh .buckets + n - sh .buckets)) (omega arith)
 
   pub open-field : (f n : ℕ) → f < 8 → n < sh .nodes → read sh (openStore sh s) (field f n) ≡ 0
   unfolding address
@@ -61,7 +62,8 @@ module _ (sh : Shape) (s : List ℕ) where
 pub open-worker : (sh : Shape) (t : List Worker) (i : ℕ) → i < sh .workers → worker (openTable sh t) i ≡ blank
 unfolding openTable
 open-worker sh t i h =
-    List·getD-append (replicate (sh .workers) blank) (drop (sh .workers) t) blank i (rw (length-replicate (sh .workers) blank) h) ∙ getD-replicate (sh .workers) i blank blank h
+    List·getD-append (replicate (sh .workers) blank) (drop (sh .workers) t) blank i (rw (length-replicate (sh .workers) blank) h)
+    ∙ getD-replicate (sh .workers) i blank blank h
 
 -- so every field is in its range
 pub open-store-ranged : (sh : Shape) (s : List ℕ) → Limits sh → StoreRanges sh (view sh (openStore sh s))

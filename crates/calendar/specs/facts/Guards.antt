@@ -8,9 +8,10 @@ use Rattle.arrival.specs.declared.Response.the-variants.{Stored, Empty}
 use Rattle.arrival.specs.Keys.{lower}
 use Rattle.arrival.specs.Energy.{energyOf}
 use Rattle.arrival.specs.Queue.{enqueue, dequeue, taken}
+use Rattle.laws.specs.Lists.{below}
 use Rattle.calendar.specs.rules.Ledger.{Ledger, new, begins, ends, marks}
 use Rattle.calendar.specs.rules.Linearizability.{Linearization}
-use Rattle.calendar.specs.facts.AdmittedOrders.{upTo, ordersOf, admitted, linearization-admitted}
+use Rattle.calendar.specs.facts.AdmittedOrders.{ordersOf, admitted, linearization-admitted}
 
 -- ── from the list of orders to linearizations ──
 pub none-there : (L : Ledger) → admitted L ≡ [] → Linearization L → ⊥
@@ -65,29 +66,29 @@ unfinished = takes 1 (item 10 1) (asks 1 (begins 0 (enqueue (item 10 1)) new))
 -- ── what they admit ──
 -- PASSING OVER 15 AND TAKING 20: no order
 pub passed-over : Linearization (paused (item 20 2)) → ⊥
-unfolding paused item stores asks takes ordersOf upTo lower energyOf
+unfolding paused item stores asks takes ordersOf below lower energyOf
 passed-over = none-there (paused (item 20 2)) refl
 
 -- taking 15: one order
 pub not-passed-over : (X : Linearization (paused (item 15 5))) → X .order ≡ 1 ∷ 2 ∷ 4 ∷ 5 ∷ 6 ∷ 7 ∷ 3 ∷ []
-unfolding paused item stores asks takes ordersOf upTo lower energyOf
+unfolding paused item stores asks takes ordersOf below lower energyOf
 not-passed-over = forced (paused (item 15 5)) _ refl
 
 -- the later of two equal arrivals first: no order, though all answers read the same
 pub later-twin-first : Linearization (twins (item 10 2) (item 10 1)) → ⊥
-unfolding twins item stores asks takes ordersOf upTo lower energyOf
+unfolding twins item stores asks takes ordersOf below lower energyOf
 later-twin-first = none-there (twins (item 10 2) (item 10 1)) refl
 
 pub earlier-twin-first : (X : Linearization (twins (item 10 1) (item 10 2))) → X .order ≡ 1 ∷ 2 ∷ 3 ∷ 4 ∷ []
-unfolding twins item stores asks takes ordersOf upTo lower energyOf
+unfolding twins item stores asks takes ordersOf below lower energyOf
 earlier-twin-first = forced (twins (item 10 1) (item 10 2)) _ refl
 
 -- empty after something was stored: no order
 pub not-empty : Linearization emptied → ⊥
-unfolding emptied item stores asks finds-none ordersOf upTo lower energyOf
+unfolding emptied item stores asks finds-none ordersOf below lower energyOf
 not-empty = none-there emptied refl
 
 -- the unfinished put has to be added
 pub put-added : (X : Linearization unfinished) → X .order ≡ 1 ∷ 2 ∷ []
-unfolding unfinished item asks takes ordersOf upTo lower energyOf
+unfolding unfinished item asks takes ordersOf below lower energyOf
 put-added = forced unfinished _ refl

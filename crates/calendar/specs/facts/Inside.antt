@@ -1,9 +1,14 @@
--- Every word that a start or turn writes lies in the layout, and none of them answers a refusal. Assumes nothing.
-use mathlib.Core.Path.{_≡_, refl, sym, ap, _∙_}
+-- Every word that a start or turn writes lies in the layout, and none of them answers a refusal.
+--     enqueue-inside, dequeue-inside                  what starts write lies in the layout
+--     found-writes, settled-writes, walked-writes     what the ends of a search and of a walk write
+--     change-inside                                   what turns write lies in the layout
+--     change-said                                     no turn answers a refusal
+--     length-writeAll                                 writing keeps the length
+-- Assumes nothing.
+use mathlib.Core.Path.{_≡_, refl, _∙_}
 use mathlib.Core.List.{List, [], _∷_}
-use mathlib.Core.Bool.{Bool, true, false}
 use mathlib.Core.Logic.{_≢_}
-use Prim.Native.Nat.{ℕ, _+_, _≤_, _<_}
+use Prim.Native.Nat.{ℕ, _+_, _<_}
 use native.Mathlib.Omega.{arith}
 use lib.Dec.{lit<}
 use lib.ListN.{length}
@@ -11,18 +16,28 @@ use Rattle.arrival.specs.declared.Shape.{Shape}
 use Rattle.arrival.specs.declared.Arrival.{Arrival}
 use Rattle.arrival.specs.declared.Worker.{Worker}
 use Rattle.arrival.specs.Responses.{said}
-use Rattle.calendar.specs.rules.Layout.{Place, word, cell, field, Write, _≔_, writeAll, write, address, layout, valid, length-write, word-inside, cell-inside, field-inside}
-use Rattle.calendar.specs.facts.Views.{AllInside}
-use Rattle.calendar.specs.facts.RangeFacts.{RecordRanges}
+use Rattle.calendar.specs.rules.Layout.{field, Write, _≔_, writeAll, write, address, layout}
 use Rattle.calendar.specs.rules.Outcome.{Outcome}
 use Rattle.calendar.specs.rules.Starts.{enqueueStart, dequeueStart}
-use Rattle.calendar.specs.facts.Changes.{Found, put-found, take-ends, Settled, at-end, goes-on, Walked, out, out-last, meets, Change, head-read, mark-seen, passed, stopped, unlinked, again-3, prepared, linked, again-5, stored-6, on-7, stored-7, back-6, current-read, first-read, mark-passed, newer, on-11, marked, back-10, advanced, back-12, emptied, back-13}
+use Rattle.calendar.specs.facts.Places.{length-write, word-inside, cell-inside, field-inside}
+use Rattle.calendar.specs.facts.Views.{AllInside}
+use Rattle.calendar.specs.facts.RangeFacts.{RecordRanges}
+use Rattle.calendar.specs.facts.Changes.{Found, put-found, take-ends, Settled, at-end, goes-on, Walked, out, out-last, meets, Change, head-read}
+use Rattle.calendar.specs.facts.Changes.{mark-seen, passed, stopped, unlinked, again-3, prepared, linked, again-5, stored-6, on-7, stored-7, back-6}
+use Rattle.calendar.specs.facts.Changes.{current-read, first-read, mark-passed, newer, on-11, marked, back-10, advanced, back-12, emptied, back-13}
 
 -- ── the starts ──
 pub enqueue-inside : (sh : Shape) (s : List ℕ) (n : ℕ) (a : Arrival) (w : Worker) → n < sh .nodes → AllInside sh (enqueueStart sh s n a w .writes)
 unfolding enqueueStart
-enqueue-inside sh s n a w h =
-    (refl, word-inside sh 1 (lit< tt), (refl, word-inside sh 2 (lit< tt), (refl, at 1 (lit< tt), (refl, at 2 (lit< tt), (refl, at 3 (lit< tt), (refl, at 4 (lit< tt), (refl, at 5 (lit< tt), (refl, at 7 (lit< tt), tt))))))))
+enqueue-inside sh s n a w h = (
+  refl,
+  word-inside sh 1 (lit< tt),
+  (
+    refl,
+    word-inside sh 2 (lit< tt),
+    (refl, at 1 (lit< tt), (refl, at 2 (lit< tt), (refl, at 3 (lit< tt), (refl, at 4 (lit< tt), (refl, at 5 (lit< tt), (refl, at 7 (lit< tt), tt)))))),
+  ),
+)
   where
     at : (f : ℕ) → f < 8 → address sh (field f n) < layout sh
     at f l = field-inside sh f n l h
@@ -61,7 +76,8 @@ module _ (sh : Shape) (s : List ℕ) where
     change-inside (unlinked a b c) = rw (settled-writes c)
         (refl, cell-inside sh (w .left) (r .left), (refl, field-inside sh 7 (w .right) (lit< tt) (right-node (r .searches (omega arith) (omega arith))), tt))
     change-inside (again-3 a b) = tt
-    change-inside (prepared a) = (refl, field-inside sh 6 (w .own) (lit< tt) (r .own), (refl, cell-inside sh (sh .buckets + w .own) (omega (arith, r .own)), tt))
+    change-inside (prepared a) =
+        (refl, field-inside sh 6 (w .own) (lit< tt) (r .own), (refl, cell-inside sh (sh .buckets + w .own) (omega (arith, r .own)), tt))
     change-inside (linked a b) = (refl, cell-inside sh (w .left) (r .left), tt)
     change-inside (again-5 a b) = tt
     change-inside (stored-6 a b) = tt

@@ -1,20 +1,20 @@
 -- A run with its ledger: a put and a take, what is written down of them, and the list in between. Assumes nothing.
 use mathlib.Core.Path.{_≡_, refl}
 use mathlib.Core.List.{List, [], _∷_, _++_}
-use mathlib.Core.Option.{Option, none, some}
-use Prim.Native.Nat.{ℕ, zero, suc, _+_}
-use lib.ListN.{replicate}
+use mathlib.Core.Option.{none, some}
+use Prim.Native.Nat.{ℕ}
 use Rattle.arrival.specs.declared.Item.{Item}
 use Rattle.arrival.specs.declared.Action.{Action}
 use Rattle.arrival.specs.declared.Response.the-variants.{Stored, Took}
 use Rattle.arrival.specs.Keys.{lower, bucketOf}
 use Rattle.arrival.specs.Energy.{energyOf}
-use Rattle.arrival.specs.Queue.{Call, enqueue, dequeue}
+use Rattle.arrival.specs.Queue.{enqueue, dequeue}
+use Rattle.laws.specs.Counting.{every, count}
+use Rattle.laws.specs.Lists.{wordsFrom}
 use Rattle.calendar.specs.rules.Layout.{address, read, write}
-use Rattle.laws.specs.Every.{every, count}
 use Rattle.calendar.specs.rules.Ranges.{blank, storeInRange, tableInRange}
 use Rattle.calendar.specs.rules.Reclaim.{isFree, firstFreeOf, firstFree}
-use Rattle.calendar.specs.rules.Opening.{wordsFrom, openStore, openTable}
+use Rattle.calendar.specs.rules.Opening.{openStore, openTable}
 use Rattle.calendar.specs.rules.Starts.{enqueueStart, dequeueStart}
 use Rattle.calendar.specs.rules.SearchSteps.{found, settle, step-1, step-2, step-3}
 use Rattle.calendar.specs.rules.EnqueueSteps.{step-4, step-5, step-6, step-7}
@@ -68,5 +68,8 @@ pub ledger-run :
     × (unmarkedIn two-workers (words half) (0 ∷ []) ≡ 0)
     × (workersWith two-workers (run two-workers start half .table) hasMarked ≡ 1)
     × (workersWith two-workers (run two-workers start (put 1 (arrival 5 3) 3) .table) hasLinked ≡ 1)
-unfolding start half whole item after words two-workers arrival turns put take lent address read write every count blank storeInRange tableInRange isFree firstFreeOf firstFree wordsFrom openStore openTable enqueueStart dequeueStart found settle step-1 step-2 step-3 step-4 step-5 step-6 step-7 walk step-8 step-9 step-10 step-11 step-12 step-13 no-step step openRefusal enqueueRefusal dequeueRefusal stepRefusal open-pool act run ledger nodesFrom unmarkedIn unmarkedOf lower bucketOf energyOf
+unfolding start half whole item after words two-workers arrival turns put take lent address read write every count blank storeInRange tableInRange isFree
+    firstFreeOf firstFree wordsFrom openStore openTable enqueueStart dequeueStart found settle step-1 step-2 step-3 step-4 step-5 step-6 step-7 walk step-8
+    step-9 step-10 step-11 step-12 step-13 no-step step openRefusal enqueueRefusal dequeueRefusal stepRefusal open-pool act run ledger nodesFrom unmarkedIn
+    unmarkedOf lower bucketOf energyOf
 ledger-run = (refl, refl, refl, refl, refl, refl, refl, refl, refl, refl, refl, refl, refl, refl, refl, refl, refl, refl, refl, refl, refl, refl)

@@ -1,5 +1,11 @@
 -- One shared word a turn: the word that each stage reads or changes, that a turn depends on no other shared word, and that it
--- writes to no other. Assumes nothing.
+-- writes to no other.
+--     current-word, head-word, left-word, right-link     the words that calls share
+--     sharedWords, sharedWord                            the one that the turn of each stage reads or changes
+--     SameSeen, one-shared-word                          two stores that agree on it; a turn does the same on both
+--     bookkeepingAt, OneWord, AllTo                      what a turn may write: its shared word and bookkeeping
+--     one-word-written                                   it writes nothing else
+-- Assumes nothing.
 use mathlib.Core.Path.{_≡_, refl, sym, ap, _∙_, subst}
 use mathlib.Core.List.{List, [], _∷_, List·Memᴰ, List·Memᴰ·head, List·Memᴰ·tail}
 use mathlib.Core.Bool.{Bool, true, false, cond}
@@ -15,13 +21,16 @@ use Rattle.arrival.specs.declared.Worker.{Worker}
 use Rattle.arrival.specs.declared.Response.the-variants.{Stored, Empty}
 use Rattle.arrival.specs.Keys.{SameKey, lower-by-key}
 use Rattle.arrival.specs.Queue.{taken}
-use Rattle.calendar.specs.rules.Layout.{Place, word, cell, field, Write, _≔_, read, started, linkCell, itemAt, epochAt, successor, isMarked, unmarked, unlinkedAt, bucketIn, epochIn}
+use Rattle.calendar.specs.rules.Layout.{Place, word, cell, field, Write, _≔_, read, started, linkCell, itemAt, epochAt, successor, isMarked, unmarked}
+use Rattle.calendar.specs.rules.Layout.{unlinkedAt, bucketIn, epochIn}
 use Rattle.calendar.specs.rules.Outcome.{Outcome, on, answer, withOwn, withBucket, withLeft, withRight, withSeen, withCurrent}
 use Rattle.calendar.specs.rules.SearchSteps.{found, settle, unlink, step-1, step-2, step-3}
 use Rattle.calendar.specs.rules.EnqueueSteps.{linkOwn, renewCurrent, step-4, step-5, step-6, step-7}
 use Rattle.calendar.specs.rules.DequeueSteps.{walk, markNode, thisCurrent, nextCurrent, step-8, step-9, step-10, step-11, step-12, step-13}
 use Rattle.calendar.specs.rules.Steps.{Rule, no-step, step}
-use Rattle.calendar.specs.facts.Changes.{Change, head-read, mark-seen, passed, stopped, unlinked, again-3, prepared, linked, again-5, stored-6, on-7, stored-7, back-6, current-read, first-read, mark-passed, newer, on-11, marked, back-10, advanced, back-12, emptied, back-13, by-stage, step-is}
+use Rattle.calendar.specs.facts.Changes.{Change, head-read, mark-seen, passed, stopped, unlinked, again-3, prepared, linked, again-5, stored-6, on-7}
+use Rattle.calendar.specs.facts.Changes.{stored-7, back-6, current-read, first-read, mark-passed, newer, on-11, marked, back-10, advanced, back-12}
+use Rattle.calendar.specs.facts.Changes.{emptied, back-13, by-stage, step-is}
 use Rattle.calendar.specs.facts.Inside.{found-writes, settled-writes, walked-writes}
 
 -- ── the word ──
@@ -70,7 +79,8 @@ module _ (sh : Shape) (s s′ : List ℕ) where
   unfolding found
   found-same ws v e = go (eqb (v .kind) 0) refl
     where
-      go : (b : Bool) → eqb (v .kind) 0 ≡ b → cond b (on ws 4 v) (answer ws v (taken (itemAt sh s′ (v .own)))) ≡ cond b (on ws 4 v) (answer ws v (taken (itemAt sh s (v .own))))
+      go : (b : Bool) → eqb (v .kind) 0 ≡ b
+          → cond b (on ws 4 v) (answer ws v (taken (itemAt sh s′ (v .own)))) ≡ cond b (on ws 4 v) (answer ws v (taken (itemAt sh s (v .own))))
       go true q = refl
       go false q = ap (λ (x : Item). answer ws v (taken x)) (e (eqb-false (v .kind) 0 q))
 
@@ -83,7 +93,8 @@ module _ (sh : Shape) (s s′ : List ℕ) where
     Same k rule = w .stage ≡ k → SameSeen sh w s s′ → rule sh s′ w ≡ rule sh s w
 
     -- the shared word at a known stage
-    shared-at : (k : ℕ) → w .stage ≡ k → SameSeen sh w s s′ → read sh s′ (getD (sharedWords sh w) k current-word) ≡ read sh s (getD (sharedWords sh w) k current-word)
+    shared-at : (k : ℕ) → w .stage ≡ k → SameSeen sh w s s′
+        → read sh s′ (getD (sharedWords sh w) k current-word) ≡ read sh s (getD (sharedWords sh w) k current-word)
     shared-at k q h = rw (← q) (h .shared)
 
     same-0 : Same 0 no-step
@@ -160,7 +171,9 @@ module _ (sh : Shape) (s s′ : List ℕ) where
 
     same-12 : Same 12 step-12
     unfolding step-12
-    same-12 q h = ap (λ x. cond (eqb x (thisCurrent w)) (on ((word 0 ≔ nextCurrent w) ∷ []) 9 (withBucket (w .bucket + 1) (withCurrent (nextCurrent w) w))) (on [] 8 w)) (shared-at 12 q h)
+    same-12 q h =
+        ap (λ x. cond (eqb x (thisCurrent w)) (on ((word 0 ≔ nextCurrent w) ∷ []) 9 (withBucket (w .bucket + 1) (withCurrent (nextCurrent w) w))) (on [] 8 w))
+        (shared-at 12 q h)
 
     same-13 : Same 13 step-13
     unfolding step-13
@@ -170,7 +183,10 @@ module _ (sh : Shape) (s s′ : List ℕ) where
     pub one-shared-word : w .stage ≤ 13 → SameSeen sh w s s′ → step sh s′ w ≡ step sh s w
     unfolding step
     one-shared-word l h =
-        by-stage Same (same-0, (same-1, (same-2, (same-3, (same-4, (same-5, (same-6, (same-7, (same-8, (same-9, (same-10, (same-11, (same-12, (same-13, tt)))))))))))))) (w .stage) l refl h
+        by-stage Same (
+          same-0,
+          (same-1, (same-2, (same-3, (same-4, (same-5, (same-6, (same-7, (same-8, (same-9, (same-10, (same-11, (same-12, (same-13, tt))))))))))))),
+        ) (w .stage) l refl h
 
 -- ── where a turn writes ──
 -- The host's bookkeeping by stage: at 3 the standing of the node that is unlinked, at 4 epoch and link of a put's own node,
@@ -202,7 +218,8 @@ module _ (sh : Shape) (s : List ℕ) (w : Worker) where
   changed-there (stopped a b c d) = none (found-writes sh s d)
   changed-there (unlinked q b c) = rw (settled-writes sh s c) (the-word 3 q, (kept 3 (field 7 (w .right)) q (List·Memᴰ·head refl), tt))
   changed-there (again-3 a b) = tt
-  changed-there (prepared q) = (kept 4 (field 6 (w .own)) q (List·Memᴰ·head refl), (kept 4 (cell (linkCell sh (w .own))) q (List·Memᴰ·tail (List·Memᴰ·head refl)), tt))
+  changed-there (prepared q) =
+      (kept 4 (field 6 (w .own)) q (List·Memᴰ·head refl), (kept 4 (cell (linkCell sh (w .own))) q (List·Memᴰ·tail (List·Memᴰ·head refl)), tt))
   changed-there (linked q b) = (the-word 5 q, tt)
   changed-there (again-5 a b) = tt
   changed-there (stored-6 a b) = tt

@@ -1,32 +1,27 @@
--- The range tests as facts on numbers, in both directions. Assumes nothing.
-use mathlib.Core.Path.{_≡_, refl, sym, ap, _∙_}
+-- The range tests as facts on numbers, in both directions.
+--     Limits, limits                                     the shape
+--     NodeWords, NodeRanges, HeadRanges, StoreRanges     the store
+--     store-ranges, store-tests                          its test tells the facts; the facts tell the test
+--     RecordRanges, record-ranges, record-tests          a record, both ways
+--     table-ranges, table-tests                          the table, both ways
+-- Assumes nothing.
+use mathlib.Core.Path.{_≡_, refl}
 use mathlib.Core.List.{List}
-use mathlib.Core.Bool.{Bool, true, false, _&&_, _||_, not}
+use mathlib.Core.Bool.{Bool, true, false, _||_, not}
 use mathlib.Core.Logic.{_⊎_, inl, inr, _≢_}
-use Prim.Native.Nat.{ℕ, _+_, _*_, _-_, _/_, _%_, _<_, _≤_}
-use native.Mathlib.Omega.{arith}
-use lib.Dec.{eqb, leb, ltb}
-use borrow.Author.Tests.{eqb-true, eqb-false, leb-true, ltb-true, leb-false, not-true, le-leb, lt-ltb, eq-eqb, ne-eqb}
+use Prim.Native.Nat.{ℕ, _+_, _-_, _/_, _%_, _<_, _≤_}
+use lib.Dec.{eqb, leb}
+use borrow.Author.Tests.{eqb-true, leb-true, ltb-true, le-leb, lt-ltb, eq-eqb}
 use Rattle.arrival.specs.declared.Shape.{Shape}
 use Rattle.arrival.specs.declared.Worker.{Worker}
-use Rattle.laws.specs.Tests.{parts, never}
-use Rattle.calendar.specs.rules.Layout.{current, started, lastNode, head, link, timeAt, ticketAt, pathAt, orderAt, distanceAt, epochAt, standing, bucketIn}
-use Rattle.calendar.specs.facts.Views.{View, view}
-use Rattle.laws.specs.Every.{every, every-at, every-all}
+use Rattle.laws.specs.Tests.{parts, never, both, either, or-left, or-right, inside, within, isnt, is-not}
+use Rattle.laws.specs.Counting.{every-at, every-all}
+use Rattle.calendar.specs.rules.Layout.{current, started, lastNode, head, link, timeAt, ticketAt, pathAt, orderAt, distanceAt, epochAt, standing}
+use Rattle.calendar.specs.rules.Layout.{bucketIn}
 use Rattle.calendar.specs.rules.Ranges.{shapeInRange, headInRange, nodeInRange, storeInRange, recordInRange, tableInRange, worker, implies, between}
+use Rattle.calendar.specs.facts.Views.{View, view}
 
--- ── tests joined by "or" and "implies" ──
-either : (a b : Bool) → (a || b) ≡ true → (a ≡ true) ⊎ (b ≡ true)
-either true b e = inl refl
-either false b e = inr e
-
-or-left : (a b : Bool) → a ≡ true → (a || b) ≡ true
-or-left a b e = rw e
-
-or-right : (a b : Bool) → b ≡ true → (a || b) ≡ true
-or-right true b e = refl
-or-right false b e = e
-
+-- ── tests joined by "implies" ──
 follows : (a b : Bool) → implies a b ≡ true → a ≡ true → b ≡ true
 follows true b e h = e
 follows false b e h = never h
@@ -34,21 +29,6 @@ follows false b e h = never h
 implied : (a b : Bool) → (a ≡ true → b ≡ true) → implies a b ≡ true
 implied true b f = f refl
 implied false b f = refl
-
-both : {a b : Bool} → a ≡ true → b ≡ true → (a && b) ≡ true
-both {a} {b} p q = rw (p, q)
-
-inside : (a b x : ℕ) → a ≤ x → x ≤ b → between a b x ≡ true
-inside a b x p q = rw (le-leb a x p, le-leb x b q)
-
-within : (a b x : ℕ) → between a b x ≡ true → (a ≤ x) × (x ≤ b)
-within a b x e = let (p, q) = parts (leb a x) (leb x b) e in (leb-true a x p, leb-true x b q)
-
-isnt : (a b : ℕ) → not (eqb a b) ≡ true → a ≢ b
-isnt a b e = eqb-false a b (not-true _ e)
-
-is-not : (a b : ℕ) → a ≢ b → not (eqb a b) ≡ true
-is-not a b h = rw (ne-eqb a b h)
 
 -- ── the shape ──
 pub record Limits (sh : Shape) : Type 0 where
@@ -246,7 +226,8 @@ record-tests sh w r =
     (implied (eqb (w .stage) 12) (not (eqb (w .bucket) (sh .buckets - 1))) (λ e. is-not (w .bucket) (sh .buckets - 1) (r .further (eqb-true (w .stage) 12 e)))))
     (lt-ltb (w .left) (sh .buckets + sh .nodes) (r .left)))
     (le-leb (w .right) (sh .nodes) (r .right)))
-    (implied (between 2 3 (w .stage) || between 10 11 (w .stage)) (not (eqb (w .right) (sh .nodes))) (λ e. is-not (w .right) (sh .nodes) (stands (either _ _ e)))))
+    (implied (between 2 3 (w .stage) || between 10 11 (w .stage)) (not (eqb (w .right) (sh .nodes))) (λ e. is-not (w .right) (sh .nodes)
+    (stands (either _ _ e)))))
     (le-leb (w .seen / 2) (sh .nodes) (r .seen)))
     (lt-ltb (bucketIn (w .current)) (sh .buckets) (r .current)))
     (lt-ltb (w .ticket) 4294967296 (r .ticket)))

@@ -1,4 +1,8 @@
--- Records beyond the workers are not read: on a longer table an operation does the same, and keeps the rest. Assumes nothing.
+-- Records beyond the workers are not read: on a longer table an operation does the same, and keeps the rest.
+--     longer, keeping                                  records behind the table; a result that keeps them
+--     act-same, open-same                              where the table has a record for each worker they do not matter, and are kept
+--     act-beyond, open-refusal-beyond, open-beyond     so it is with 64 records, for any shape
+-- Assumes nothing.
 use mathlib.Core.Path.{_≡_, refl, sym, ap, _∙_}
 use mathlib.Core.List.{List, [], _∷_, _++_, append-assoc}
 use mathlib.Core.Bool.{Bool, true, false, cond, not}
@@ -13,15 +17,16 @@ use Rattle.arrival.specs.declared.Worker.{Worker}
 use Rattle.arrival.specs.declared.Action.{Action}
 use Rattle.arrival.specs.declared.Action.the-variants.{Enqueue, Dequeue, Step}
 use Rattle.arrival.specs.declared.Response.the-variants.{Opened, Refused}
-use Rattle.laws.specs.Every.{every-same}
+use Rattle.laws.specs.Counting.{every-same}
 use Rattle.calendar.specs.rules.Ranges.{shapeInRange, blank, worker, recordInRange, tableInRange}
 use Rattle.calendar.specs.rules.Reclaim.{startedBy, isFree, nodeAfter, firstFreeOf, firstFree}
 use Rattle.calendar.specs.rules.Layout.{standing}
 use Rattle.calendar.specs.rules.Opening.{openStore, openTable}
-use Rattle.calendar.specs.rules.Refusals.{firstOf, badShape, tooShort, outOfRange, noWorker, badArrival, tooLate, busy, idle, noTicket, noEpoch, noNode, openRefusal, enqueueRefusal, dequeueRefusal, stepRefusal}
+use Rattle.calendar.specs.rules.Refusals.{firstOf, badShape, tooShort, outOfRange, noWorker, badArrival, tooLate, busy, idle, noTicket, noEpoch, noNode}
+use Rattle.calendar.specs.rules.Refusals.{openRefusal, enqueueRefusal, dequeueRefusal, stepRefusal}
+use Rattle.calendar.specs.rules.Operations.{Memory, Result, perform, actor, refusal, outcome, act, open-pool}
 use Rattle.calendar.specs.facts.RangeFacts.{limits}
 use Rattle.calendar.specs.facts.Accepted.{enqueue-accepted, dequeue-accepted, step-accepted}
-use Rattle.calendar.specs.rules.Operations.{Memory, Result, perform, actor, refusal, outcome, act, open-pool}
 
 abbrev pub longer : Memory → List Worker → Memory
 longer m u = record { store = m .store; table = m .table ++ u }
@@ -52,7 +57,9 @@ module _ (sh : Shape) (s : List ℕ) (t u : List Worker) (long : sh .workers ≤
 
   free-same : (x : ℕ) → isFree sh (t ++ u) x ≡ isFree sh t x
   unfolding isFree
-  free-same x = rw (every-same (λ i. not (startedBy (x - 2) (worker (t ++ u) i))) (λ i. not (startedBy (x - 2) (worker t i))) (sh .workers) (λ k h. ap (λ w. not (startedBy (x - 2) w)) (same k h)))
+  free-same x =
+      rw (every-same (λ i. not (startedBy (x - 2) (worker (t ++ u) i))) (λ i. not (startedBy (x - 2) (worker t i))) (sh .workers)
+      (λ k h. ap (λ w. not (startedBy (x - 2) w)) (same k h)))
 
   first-of-same : (k n : ℕ) → firstFreeOf sh s (t ++ u) k n ≡ firstFreeOf sh s t k n
   unfolding firstFreeOf
@@ -67,13 +74,16 @@ module _ (sh : Shape) (s : List ℕ) (t u : List Worker) (long : sh .workers ≤
   unfolding enqueueRefusal dequeueRefusal stepRefusal
   refusal-same (Enqueue i x) =
       rw (long-enough, table-same, first-same)
-      (after-4 (badShape sh) (tooShort sh s t) (outOfRange sh s t) (noWorker sh i) (λ w. (5, badArrival x) ∷ (6, tooLate sh x) ∷ (9, busy w) ∷ (11, noTicket sh s) ∷ (12, noNode sh s t) ∷ []) _ _ (λ h. same i (leb-false (sh .workers) i h)))
+      (after-4 (badShape sh) (tooShort sh s t) (outOfRange sh s t) (noWorker sh i) (λ w. (5, badArrival x) ∷ (6, tooLate sh x) ∷ (9, busy w)
+      ∷ (11, noTicket sh s) ∷ (12, noNode sh s t) ∷ []) _ _ (λ h. same i (leb-false (sh .workers) i h)))
   refusal-same (Dequeue i) =
       rw (long-enough, table-same)
-      (after-4 (badShape sh) (tooShort sh s t) (outOfRange sh s t) (noWorker sh i) (λ w. (9, busy w) ∷ (11, noTicket sh s) ∷ []) _ _ (λ h. same i (leb-false (sh .workers) i h)))
+      (after-4 (badShape sh) (tooShort sh s t) (outOfRange sh s t) (noWorker sh i) (λ w. (9, busy w) ∷ (11, noTicket sh s) ∷ []) _ _
+      (λ h. same i (leb-false (sh .workers) i h)))
   refusal-same (Step i) =
       rw (long-enough, table-same)
-      (after-4 (badShape sh) (tooShort sh s t) (outOfRange sh s t) (noWorker sh i) (λ w. (10, idle w) ∷ (11, noEpoch sh s w) ∷ []) _ _ (λ h. same i (leb-false (sh .workers) i h)))
+      (after-4 (badShape sh) (tooShort sh s t) (outOfRange sh s t) (noWorker sh i) (λ w. (10, idle w) ∷ (11, noEpoch sh s w) ∷ []) _ _
+      (λ h. same i (leb-false (sh .workers) i h)))
 
   exists : (a : Action) → refusal sh (record { store = s; table = t }) a ≡ 0 → actor a < sh .workers
   exists (Enqueue i x) e = enqueue-accepted sh s t i x e .usable .exists
@@ -90,12 +100,17 @@ module _ (sh : Shape) (s : List ℕ) (t u : List Worker) (long : sh .workers ≤
   act-same a = rw (refusal-same a) (go (eqb (refusal sh m a) 0) refl)
     where
       go : (b : Bool) → eqb (refusal sh (record { store = s; table = t }) a) 0 ≡ b
-          → cond b (perform sh (record { store = s; table = t ++ u }) (actor a) (outcome sh (record { store = s; table = t ++ u }) a)) (record { memory = record { store = s; table = t ++ u }; response = Refused (refusal sh (record { store = s; table = t }) a) })
-          ≡ keeping (cond b (perform sh (record { store = s; table = t }) (actor a) (outcome sh (record { store = s; table = t }) a)) (record { memory = record { store = s; table = t }; response = Refused (refusal sh (record { store = s; table = t }) a) })) u
+          → cond b (perform sh (record { store = s; table = t ++ u }) (actor a) (outcome sh (record { store = s; table = t ++ u }) a))
+          (record { memory = record { store = s; table = t ++ u }; response = Refused (refusal sh (record { store = s; table = t }) a) })
+          ≡ keeping (cond b (perform sh (record { store = s; table = t }) (actor a) (outcome sh (record { store = s; table = t }) a))
+          (record { memory = record { store = s; table = t }; response = Refused (refusal sh (record { store = s; table = t }) a) })) u
       go true e =
           let h = exists a (eqb-true (refusal sh m a) 0 e) in
           ap (λ o. perform sh (record { store = s; table = t ++ u }) (actor a) o) (outcome-same a h)
-          ∙ ap (λ (x : List Worker). record { memory = record { store = perform sh m (actor a) (outcome sh m a) .memory .store; table = x }; response = outcome sh m a .response })
+          ∙ ap (λ (x : List Worker). record {
+            memory = record { store = perform sh m (actor a) (outcome sh m a) .memory .store; table = x };
+            response = outcome sh m a .response;
+          })
           (set-append-left t u (actor a) (outcome sh m a .worker) (omega (arith, long, h)))
       go false e = refl
 
@@ -104,11 +119,18 @@ module _ (sh : Shape) (s : List ℕ) (t u : List Worker) (long : sh .workers ≤
   open-same = rw (long-enough) (go (eqb (openRefusal sh s t) 0))
     where
       go : (b : Bool)
-          → cond b (record { memory = record { store = openStore sh s; table = replicate (sh .workers) blank ++ drop (sh .workers) (t ++ u) }; response = Opened }) (record { memory = record { store = s; table = t ++ u }; response = Refused (openRefusal sh s t) })
-          ≡ keeping (cond b (record { memory = record { store = openStore sh s; table = replicate (sh .workers) blank ++ drop (sh .workers) t }; response = Opened }) (record { memory = record { store = s; table = t }; response = Refused (openRefusal sh s t) })) u
+          → cond b (record {
+            memory = record { store = openStore sh s; table = replicate (sh .workers) blank ++ drop (sh .workers) (t ++ u) };
+            response = Opened;
+          }) (record { memory = record { store = s; table = t ++ u }; response = Refused (openRefusal sh s t) })
+          ≡ keeping (cond b (record {
+            memory = record { store = openStore sh s; table = replicate (sh .workers) blank ++ drop (sh .workers) t };
+            response = Opened;
+          }) (record { memory = record { store = s; table = t }; response = Refused (openRefusal sh s t) })) u
       go true =
           ap (λ (x : List Worker). record { memory = record { store = openStore sh s; table = x }; response = Opened })
-          (ap (λ (x : List Worker). replicate (sh .workers) blank ++ x) (drop-append-le (sh .workers) t u long) ∙ sym (append-assoc (replicate (sh .workers) blank) (drop (sh .workers) t) u))
+          (ap (λ (x : List Worker). replicate (sh .workers) blank ++ x) (drop-append-le (sh .workers) t u long)
+          ∙ sym (append-assoc (replicate (sh .workers) blank) (drop (sh .workers) t) u))
       go false = refl
 
 -- ── any shape: one within its limits has at most 64 workers ──

@@ -1,8 +1,13 @@
--- The starred cases of "Arrivals to check by hand", as one table under one theorem: computed, entry by entry. Assumes nothing.
+-- The starred cases of "Arrivals to check by hand", as one table under one theorem: computed, entry by entry.
+--     Case                                             a history after an opening, its responses, and current at its end
+--     two-workers, arrival, turns, put, take, lent     what the cases are made of
+--     table                                            the thirteen cases
+--     Holds, All, starred-cases                        every case holds
+--     words-after                                      every word after a put and a take
+-- Assumes nothing.
 use mathlib.Core.Path.{_≡_, refl}
 use mathlib.Core.List.{List, [], _∷_, _++_}
-use Prim.Native.Nat.{ℕ, zero, suc, _+_}
-use lib.Dec.{eqb}
+use Prim.Native.Nat.{ℕ}
 use lib.ListN.{replicate}
 use Rattle.arrival.specs.declared.Shape.{Shape}
 use Rattle.arrival.specs.declared.Arrival.{Arrival}
@@ -12,11 +17,12 @@ use Rattle.arrival.specs.declared.Response.{Response}
 use Rattle.arrival.specs.declared.Response.the-variants.{Opened, Begun, On, Stored, Took, Empty, Refused}
 use Rattle.arrival.specs.Keys.{lower, bucketOf}
 use Rattle.arrival.specs.Energy.{energyOf}
-use Rattle.calendar.specs.rules.Layout.{address, read, write, current, currentWord, layout}
-use Rattle.laws.specs.Every.{every}
+use Rattle.laws.specs.Counting.{every}
+use Rattle.laws.specs.Lists.{wordsFrom}
+use Rattle.calendar.specs.rules.Layout.{address, read, write, current, currentWord}
 use Rattle.calendar.specs.rules.Ranges.{blank, storeInRange, tableInRange}
 use Rattle.calendar.specs.rules.Reclaim.{isFree, firstFreeOf, firstFree}
-use Rattle.calendar.specs.rules.Opening.{wordsFrom, openStore, openTable}
+use Rattle.calendar.specs.rules.Opening.{openStore, openTable}
 use Rattle.calendar.specs.rules.Starts.{enqueueStart, dequeueStart}
 use Rattle.calendar.specs.rules.SearchSteps.{found, settle, step-1, step-2, step-3}
 use Rattle.calendar.specs.rules.EnqueueSteps.{step-4, step-5, step-6, step-7}
@@ -64,13 +70,25 @@ table =
     -- fresh, take: 5 turns, empty, current (1, 0)
     record { shape = two-workers; history = take 0 5; gives = Begun 1 ∷ (ons 4 ++ (Empty ∷ [])); bucket = 1; epoch = 0 }
     -- then put at 5: 5 turns, current (0, 1)
-    ∷ record { shape = two-workers; history = take 0 5 ++ put 1 (arrival 5 3) 5; gives = (Begun 1 ∷ (ons 4 ++ (Empty ∷ []))) ++ stored 2 4; bucket = 0; epoch = 1 }
+    ∷ record {
+      shape = two-workers;
+      history = take 0 5 ++ put 1 (arrival 5 3) 5;
+      gives = (Begun 1 ∷ (ons 4 ++ (Empty ∷ []))) ++ stored 2 4;
+      bucket = 0;
+      epoch = 1;
+    }
     -- fresh, put at 15: 4 turns
     ∷ record { shape = two-workers; history = put 0 (arrival 15 3) 4; gives = stored 1 3; bucket = 0; epoch = 0 }
     -- fresh, put at 5: 5 turns
     ∷ record { shape = two-workers; history = put 0 (arrival 5 3) 5; gives = stored 1 4; bucket = 0; epoch = 1 }
     -- then take: 7 turns, gives 5
-    ∷ record { shape = two-workers; history = put 0 (arrival 5 3) 5 ++ take 0 7; gives = stored 1 4 ++ (Begun 2 ∷ (ons 6 ++ (Took 5 7 1 3 1864135 ∷ []))); bucket = 0; epoch = 1 }
+    ∷ record {
+      shape = two-workers;
+      history = put 0 (arrival 5 3) 5 ++ take 0 7;
+      gives = stored 1 4 ++ (Begun 2 ∷ (ons 6 ++ (Took 5 7 1 3 1864135 ∷ [])));
+      bucket = 0;
+      epoch = 1;
+    }
     -- time 19 begins, 20 is 6
     ∷ record { shape = two-workers; history = Enqueue 0 (arrival 19 3) ∷ []; gives = Begun 1 ∷ []; bucket = 0; epoch = 0 }
     ∷ record { shape = two-workers; history = Enqueue 0 (arrival 20 3) ∷ []; gives = Refused 6 ∷ []; bucket = 0; epoch = 0 }
@@ -98,14 +116,36 @@ table =
       epoch = 0;
     }
     -- distance 1 gives 16,777,216, 5 gives 671,088, 1,024 gives 16
-    ∷ record { shape = two-workers; history = put 0 (arrival 5 1) 5 ++ take 0 7; gives = stored 1 4 ++ (Begun 2 ∷ (ons 6 ++ (Took 5 7 1 1 16777216 ∷ []))); bucket = 0; epoch = 1 }
-    ∷ record { shape = two-workers; history = put 0 (arrival 5 5) 5 ++ take 0 7; gives = stored 1 4 ++ (Begun 2 ∷ (ons 6 ++ (Took 5 7 1 5 671088 ∷ []))); bucket = 0; epoch = 1 }
-    ∷ record { shape = two-workers; history = put 0 (arrival 5 1024) 5 ++ take 0 7; gives = stored 1 4 ++ (Begun 2 ∷ (ons 6 ++ (Took 5 7 1 1024 16 ∷ []))); bucket = 0; epoch = 1 }
+    ∷ record {
+      shape = two-workers;
+      history = put 0 (arrival 5 1) 5 ++ take 0 7;
+      gives = stored 1 4 ++ (Begun 2 ∷ (ons 6 ++ (Took 5 7 1 1 16777216 ∷ [])));
+      bucket = 0;
+      epoch = 1;
+    }
+    ∷ record {
+      shape = two-workers;
+      history = put 0 (arrival 5 5) 5 ++ take 0 7;
+      gives = stored 1 4 ++ (Begun 2 ∷ (ons 6 ++ (Took 5 7 1 5 671088 ∷ [])));
+      bucket = 0;
+      epoch = 1;
+    }
+    ∷ record {
+      shape = two-workers;
+      history = put 0 (arrival 5 1024) 5 ++ take 0 7;
+      gives = stored 1 4 ++ (Begun 2 ∷ (ons 6 ++ (Took 5 7 1 1024 16 ∷ [])));
+      bucket = 0;
+      epoch = 1;
+    }
     ∷ []
 
 -- memory as it is lent, with something in it and more of it than the shape needs
 unfoldable pub lent : Memory
-lent = record { store = replicate 40 9; table = replicate 5 (record { stage = 3; kind = 1; own = 9; bucket = 9; left = 9; right = 9; seen = 9; current = 9; ticket = 9 }) }
+lent =
+    record {
+      store = replicate 40 9;
+      table = replicate 5 (record { stage = 3; kind = 1; own = 9; bucket = 9; left = 9; right = 9; seen = 9; current = 9; ticket = 9 });
+    }
 
 pub Holds : Case → Type 0
 Holds c = let m = open-pool (c .shape) lent .memory in
@@ -118,13 +158,38 @@ All [] = Unit {0}
 All (c ∷ cs) = Holds c × All cs
 
 pub starred-cases : All table
-unfolding All Holds table lent two-workers four-workers arrival turns ons put stored take address read write every blank storeInRange tableInRange isFree firstFreeOf firstFree wordsFrom openStore openTable enqueueStart dequeueStart found settle step-1 step-2 step-3 step-4 step-5 step-6 step-7 walk step-8 step-9 step-10 step-11 step-12 step-13 no-step step openRefusal enqueueRefusal dequeueRefusal stepRefusal open-pool act run responses lower bucketOf energyOf
-starred-cases =
-    ((refl, refl, refl), ((refl, refl, refl), ((refl, refl, refl), ((refl, refl, refl), ((refl, refl, refl), ((refl, refl, refl), ((refl, refl, refl), ((refl, refl, refl), ((refl, refl, refl), ((refl, refl, refl), ((refl, refl, refl), ((refl, refl, refl), ((refl, refl, refl), tt)))))))))))))
+unfolding All Holds table lent two-workers four-workers arrival turns ons put stored take address read write every blank storeInRange tableInRange isFree
+    firstFreeOf firstFree wordsFrom openStore openTable enqueueStart dequeueStart found settle step-1 step-2 step-3 step-4 step-5 step-6 step-7 walk step-8
+    step-9 step-10 step-11 step-12 step-13 no-step step openRefusal enqueueRefusal dequeueRefusal stepRefusal open-pool act run responses lower bucketOf
+    energyOf
+starred-cases = (
+  (refl, refl, refl),
+  (
+    (refl, refl, refl),
+    (
+      (refl, refl, refl),
+      (
+        (refl, refl, refl),
+        (
+          (refl, refl, refl),
+          (
+            (refl, refl, refl),
+            (
+              (refl, refl, refl),
+              ((refl, refl, refl), ((refl, refl, refl), ((refl, refl, refl), ((refl, refl, refl), ((refl, refl, refl), ((refl, refl, refl), tt)))))),
+            ),
+          ),
+        ),
+      ),
+    ),
+  ),
+)
 
 -- Every word after an arrival was put and taken: current (0, 1), two calls, node 0 handed out and retired when two calls had
 -- started, its item and its marked link as they were.
 pub words-after : run two-workers (open-pool two-workers lent .memory) (put 0 (arrival 5 3) 5 ++ take 0 7) .store
     ≡ 1 ∷ 2 ∷ 0 ∷ 8 ∷ 8 ∷ 9 ∷ 5 ∷ 1 ∷ 7 ∷ 1 ∷ 3 ∷ 0 ∷ 4 ∷ (replicate 24 0 ++ (9 ∷ 9 ∷ 9 ∷ []))
-unfolding lent two-workers arrival turns put take address read write every blank storeInRange tableInRange isFree firstFreeOf firstFree wordsFrom openStore openTable enqueueStart dequeueStart found settle step-1 step-2 step-3 step-4 step-5 step-6 step-7 walk step-8 step-9 step-10 step-11 step-12 step-13 no-step step openRefusal enqueueRefusal dequeueRefusal stepRefusal open-pool act run lower bucketOf energyOf
+unfolding lent two-workers arrival turns put take address read write every blank storeInRange tableInRange isFree firstFreeOf firstFree wordsFrom openStore
+    openTable enqueueStart dequeueStart found settle step-1 step-2 step-3 step-4 step-5 step-6 step-7 walk step-8 step-9 step-10 step-11 step-12 step-13 no-step
+    step openRefusal enqueueRefusal dequeueRefusal stepRefusal open-pool act run lower bucketOf energyOf
 words-after = refl

@@ -1,7 +1,7 @@
 -- What a call stands on, stage by stage, as a table: a guard of `holds`; and that a turn looks into no other node. Assumes nothing.
 use mathlib.Core.Path.{_≡_, refl}
 use mathlib.Core.List.{List, [], _∷_}
-use mathlib.Core.Bool.{Bool, true, false, cond, _||_}
+use mathlib.Core.Bool.{true, cond, _||_, or-true}
 use mathlib.Core.Logic.{_⊎_, inl, inr}
 use Prim.Native.Nat.{ℕ, zero, suc, _≤_}
 use native.Mathlib.Omega.{arith}
@@ -53,14 +53,9 @@ stood-on = (refl, refl, refl, refl, refl, refl, refl, refl, refl, refl, refl, re
 
 -- the nodes whose arrival or epoch a turn looks at (OneWord) are among them
 module _ (sh : Shape) (w : Worker) where
-  third : (a b : Bool) → (a || b || true) ≡ true
-  third true b = refl
-  third false true = refl
-  third false false = refl
-
   pub own-stood-on : 1 ≤ w .stage → w .stage ≤ 3 → holds sh w (w .own) ≡ true
   own-stood-on lo hi = rw (le-leb 1 (w .stage) lo, le-leb (w .stage) 7 (omega arith), eq-eqb (w .own) (w .own) refl)
 
   pub right-stood-on : (w .stage ≡ 2) ⊎ (w .stage ≡ 10) → holds sh w (w .right) ≡ true
-  right-stood-on (inl q) = rw (q, eq-eqb (w .right) (w .right) refl) (third (eqb (w .own) (w .right)) (eqb (w .left) (linkCell sh (w .right))))
+  right-stood-on (inl q) = rw (q, eq-eqb (w .right) (w .right) refl) (or-true (eqb (w .own) (w .right) || eqb (w .left) (linkCell sh (w .right))))
   right-stood-on (inr q) = rw (q, eq-eqb (w .right) (w .right) refl)

@@ -1,43 +1,52 @@
 -- What no operation changes: a refused one changes nothing; words beyond the layout, records beyond the workers and the
--- records of other workers stay; lengths stay. Assumes nothing.
-use mathlib.Core.Path.{_≡_, refl, sym, ap, _∙_, subst}
-use mathlib.Core.List.{List, [], _∷_, _++_}
+-- records of other workers stay; lengths stay.
+--     outcome-said                                      what is accepted answers no refusal
+--     act-refused-untouched, open-refused-untouched     what is refused changes nothing
+--     SameSize, SameBeyond                              as long; the same beyond the layout and the workers
+--     act-same-size, act-same-beyond                    starts and turns keep both
+--     outcome-inside                                    an accepted action acts for a worker of the shape, and writes in the layout
+--     others-untouched                                  other workers' records stay
+--     open-same-size, open-same-beyond                  the opening keeps both
+--     run-same-size, run-same-beyond                    so does a history
+-- Assumes nothing.
+use mathlib.Core.Path.{_≡_, refl, ap, _∙_}
+use mathlib.Core.List.{List, [], _∷_}
 use mathlib.Core.Bool.{Bool, true, false, cond}
 use mathlib.Core.Logic.{_≢_}
-use Prim.Native.Nat.{ℕ, zero, suc, _+_, _≤_, _<_}
+use Prim.Native.Nat.{ℕ, suc, _<_}
 use native.Mathlib.Omega.{arith}
 use lib.Dec.{eqb}
-use lib.ListN.{length, set, drop, getD, replicate, length-set, length-append, length-drop, length-replicate}
+use lib.ListN.{length, drop, replicate, length-set, length-append, length-drop, length-replicate}
 use lib.Seq.{drop-set-lt, drop-at, getD-set-other}
-use borrow.Author.Tests.{eqb-true, eqb-false}
+use borrow.Author.Tests.{eqb-true}
 use Rattle.arrival.specs.declared.Shape.{Shape}
-use Rattle.arrival.specs.declared.Arrival.{Arrival}
-use Rattle.arrival.specs.declared.Worker.{Worker}
 use Rattle.arrival.specs.declared.Action.{Action}
 use Rattle.arrival.specs.declared.Action.the-variants.{Enqueue, Dequeue, Step}
 use Rattle.arrival.specs.declared.Response.{Response}
 use Rattle.arrival.specs.declared.Response.the-variants.{Opened, Refused}
 use Rattle.arrival.specs.Responses.{said}
+use Rattle.laws.specs.Lists.{wordsFrom, length-words}
 use Rattle.calendar.specs.rules.Layout.{Write, _≔_, write, writeAll, layout, address}
 use Rattle.calendar.specs.rules.Ranges.{blank, worker}
-use Rattle.calendar.specs.rules.Opening.{openWord, wordsFrom, openStore, openTable}
+use Rattle.calendar.specs.rules.Opening.{openWord, openStore, openTable}
 use Rattle.calendar.specs.rules.Reclaim.{firstFree}
-use Rattle.calendar.specs.facts.FirstFree.{first-free-node}
 use Rattle.calendar.specs.rules.Outcome.{Outcome}
 use Rattle.calendar.specs.rules.Starts.{enqueueStart, dequeueStart}
 use Rattle.calendar.specs.rules.Refusals.{openRefusal}
-use Rattle.calendar.specs.facts.Accepted.{Lent, open-accepted, enqueue-accepted, dequeue-accepted, step-accepted}
+use Rattle.calendar.specs.rules.Operations.{Memory, Result, unless, perform, open-pool, actor, refusal, outcome, act, run}
+use Rattle.calendar.specs.facts.FirstFree.{first-free-node}
+use Rattle.calendar.specs.facts.Accepted.{open-accepted, enqueue-accepted, dequeue-accepted, step-accepted}
 use Rattle.calendar.specs.facts.Views.{AllInside}
 use Rattle.calendar.specs.facts.Changes.{step-is}
 use Rattle.calendar.specs.facts.Inside.{enqueue-inside, dequeue-inside, change-inside, change-said, length-writeAll}
-use Rattle.calendar.specs.rules.Operations.{Memory, Result, unless, perform, open-pool, actor, refusal, outcome, act, run}
 
 -- ── a refused operation ──
 -- A refusal as response: the memory is as it was.
 refused : (k n : ℕ) (m : Memory) (r : Result) → (k ≡ 0 → said (r .response) .number ≡ 0) → unless k m r .response ≡ Refused (suc n) → unless k m r .memory ≡ m
 refused k n m r ok e = go (eqb k 0) refl e
   where
-    go : (t : Bool) → eqb k 0 ≡ t → cond t r (record { memory = m; response = Refused k }) .response ≡ Refused (suc n) → cond t r (record { memory = m; response = Refused k }) .memory ≡ m
+    go : (t : Bool) → eqb k 0 ≡ t → cond t r (record { memory = m; response = Refused k }) .response ≡ Refused (suc n)
+        → cond t r (record { memory = m; response = Refused k }) .memory ≡ m
     go true q e = absurd (omega (arith, ok (eqb-true k 0 q), ap (λ (x : Response). said x .number) e))
     go false q e = refl
 
@@ -55,7 +64,9 @@ act-refused-untouched sh m a n e = refused (refusal sh m a) n m (perform sh m (a
 
 pub open-refused-untouched : (sh : Shape) (m : Memory) (n : ℕ) → open-pool sh m .response ≡ Refused (suc n) → open-pool sh m .memory ≡ m
 unfolding open-pool
-open-refused-untouched sh m n e = refused (openRefusal sh (m .store) (m .table)) n m (record { memory = record { store = openStore sh (m .store); table = openTable sh (m .table) }; response = Opened }) (λ q. refl) e
+open-refused-untouched sh m n e =
+    refused (openRefusal sh (m .store) (m .table)) n m
+    (record { memory = record { store = openStore sh (m .store); table = openTable sh (m .table) }; response = Opened }) (λ q. refl) e
 
 -- ── lengths, and what lies beyond ──
 pub record SameSize (m m′ : Memory) : Type 0 where
@@ -88,13 +99,17 @@ perform-beyond sh m i o l h = record { store = writeAll-beyond sh (m .store) (o 
 pub act-same-size : (sh : Shape) (m : Memory) (a : Action) → SameSize m (act sh m a .memory)
 unfolding act
 act-same-size sh m a =
-    by-refusal (SameSize m) (refusal sh m a) m (perform sh m (actor a) (outcome sh m a)) (record { store = refl; table = refl }) (λ e. perform-size sh m (actor a) (outcome sh m a))
+    by-refusal (SameSize m) (refusal sh m a) m (perform sh m (actor a) (outcome sh m a)) (record { store = refl; table = refl })
+    (λ e. perform-size sh m (actor a) (outcome sh m a))
 
 -- an accepted action acts for a worker of the shape, and writes inside the layout
 pub outcome-inside : (sh : Shape) (m : Memory) (a : Action) → refusal sh m a ≡ 0 → (actor a < sh .workers) × AllInside sh (outcome sh m a .writes)
 outcome-inside sh m (Enqueue i a) e =
-    let A = enqueue-accepted sh (m .store) (m .table) i a e in
-    (A .usable .exists, enqueue-inside sh (m .store) (firstFree sh (m .store) (m .table)) a (worker (m .table) i) (first-free-node sh (m .store) (m .table) (A .usable .store .last) (A .node)))
+    let A = enqueue-accepted sh (m .store) (m .table) i a e in (
+      A .usable .exists,
+      enqueue-inside sh (m .store) (firstFree sh (m .store) (m .table)) a (worker (m .table) i)
+          (first-free-node sh (m .store) (m .table) (A .usable .store .last) (A .node)),
+    )
 outcome-inside sh m (Dequeue i) e = (dequeue-accepted sh (m .store) (m .table) i e .usable .exists, dequeue-inside sh (m .store) (worker (m .table) i))
 outcome-inside sh m (Step i) e =
     let A = step-accepted sh (m .store) (m .table) i e in
@@ -115,19 +130,16 @@ others-untouched sh m a j h =
     (λ e. getD-set-other (m .table) (actor a) j (outcome sh m a .worker) blank h)
 
 -- ── the opening ──
-length-words : (g : ℕ → ℕ) (i n : ℕ) → length (wordsFrom g i n) ≡ n
-unfolding wordsFrom
-length-words g i zero = refl
-length-words g i (suc n) = ap suc (length-words g (suc i) n)
-
 pub open-same-size : (sh : Shape) (m : Memory) → SameSize m (open-pool sh m .memory)
 unfolding open-pool openStore openTable
 open-same-size sh m =
     by-refusal (SameSize m) (openRefusal sh (m .store) (m .table)) m _ (record { store = refl; table = refl })
     (λ e. let A = open-accepted sh (m .store) (m .table) e in
     record {
-      store = length-append (wordsFrom (openWord sh) 0 (layout sh)) (drop (layout sh) (m .store)) ∙ omega (arith, length-words (openWord sh) 0 (layout sh), length-drop (layout sh) (m .store), A .store);
-      table = length-append (replicate (sh .workers) blank) (drop (sh .workers) (m .table)) ∙ omega (arith, length-replicate (sh .workers) blank, length-drop (sh .workers) (m .table), A .table);
+      store = length-append (wordsFrom (openWord sh) 0 (layout sh)) (drop (layout sh) (m .store))
+          ∙ omega (arith, length-words (openWord sh) 0 (layout sh), length-drop (layout sh) (m .store), A .store);
+      table = length-append (replicate (sh .workers) blank) (drop (sh .workers) (m .table))
+          ∙ omega (arith, length-replicate (sh .workers) blank, length-drop (sh .workers) (m .table), A .table);
     })
 
 pub open-same-beyond : (sh : Shape) (m : Memory) → SameBeyond sh m (open-pool sh m .memory)

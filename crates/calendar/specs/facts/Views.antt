@@ -1,18 +1,16 @@
 -- The store as functions: a view. A write to one place updates one function of the view and leaves the others, by
 -- computation, the same functions. All invariants are over views. Assumes nothing.
-use mathlib.Core.Path.{_≡_, refl, sym, ap, _∙_, subst}
+use mathlib.Core.Path.{_≡_, refl, ap, _∙_}
 use mathlib.Core.List.{List, [], _∷_}
-use mathlib.Core.Bool.{Bool, true, false, cond}
-use mathlib.Core.Logic.{_≢_}
+use mathlib.Core.Bool.{true, cond}
 use Prim.Native.Nat.{ℕ, _≤_, _<_}
 use native.Mathlib.Omega.{arith}
-use lib.Dec.{eqb}
 use lib.ListN.{length}
-use borrow.Author.Tests.{eq-eqb, ne-eqb, eqb-true, eqb-false}
 use Rattle.arrival.specs.declared.Shape.{Shape}
 use Rattle.arrival.specs.declared.Item.{Item}
 use Rattle.arrival.specs.Keys.{lower}
-use Rattle.calendar.specs.rules.Layout.{Place, word, cell, field, Write, _≔_, address, layout, read, write, writeAll, same, valid, read-write, length-write}
+use Rattle.calendar.specs.rules.Layout.{Place, word, cell, field, Write, _≔_, address, layout, read, write, writeAll}
+use Rattle.calendar.specs.facts.Places.{same, valid, read-write, length-write}
 
 pub record View : Type 0 where
   pub current : ℕ
@@ -94,18 +92,3 @@ itemIn m n = record { time = m .time n; path = m .path n; order = m .order n; di
 
 abbrev pub Lt : View → ℕ → ℕ → Type 0
 Lt m a b = lower (itemIn m a) (itemIn m b) ≡ true
-
--- a function changed at one argument
-pub upd-same : {A : Type 0} (p q : ℕ) (v x : A) → p ≡ q → cond (eqb p q) v x ≡ v
-upd-same p q v x e = rw (eq-eqb p q e)
-
--- the same, by cases
-pub upd-cases : {A : Type 0} (P : ℕ → A → Type 0) (f : ℕ → A) (b : ℕ) (x : A) → P b x → ((q : ℕ) → q ≢ b → P q (f q)) → (q : ℕ) → P q (cond (eqb b q) x (f q))
-upd-cases {A} P f b x h k q = go (eqb b q) refl
-  where
-    go : (t : Bool) → eqb b q ≡ t → P q (cond t x (f q))
-    go true e = subst (λ j. P j x) (eqb-true b q e) h
-    go false e = k q (λ r. eqb-false b q e (sym r))
-
-pub upd-other : {A : Type 0} (p q : ℕ) (v x : A) → p ≢ q → cond (eqb p q) v x ≡ x
-upd-other p q v x e = rw (ne-eqb p q e)

@@ -1,4 +1,8 @@
--- Words beyond the layout are not read: on a longer store an operation does the same, and keeps the rest. Assumes nothing.
+-- Words beyond the layout are not read: on a longer store an operation does the same, and keeps the rest.
+--     longer, keeping              words behind the store; a result that keeps them
+--     act-same, open-same          on a longer store the operations do the same, and keep the rest
+--     run-same, responses-same     so does a history
+-- Assumes nothing.
 use mathlib.Core.Path.{_≡_, refl, sym, ap, _∙_}
 use mathlib.Core.List.{List, [], _∷_, _++_, append-assoc}
 use mathlib.Core.Bool.{Bool, true, false, cond, _&&_, _||_}
@@ -7,7 +11,7 @@ use native.Mathlib.Omega.{arith}
 use lib.Dec.{eqb, leb, ltb, lit<}
 use lib.ListN.{length, drop, set, length-append, List·getD-append}
 use lib.Seq.{set-append-left, drop-append-le}
-use borrow.Author.Tests.{eqb-true, le-ltb, ltb-true}
+use borrow.Author.Tests.{eqb-true, le-ltb}
 use Rattle.arrival.specs.declared.Shape.{Shape}
 use Rattle.arrival.specs.declared.Item.{Item}
 use Rattle.arrival.specs.declared.Worker.{Worker}
@@ -16,20 +20,23 @@ use Rattle.arrival.specs.declared.Action.{Action}
 use Rattle.arrival.specs.declared.Action.the-variants.{Enqueue, Dequeue, Step}
 use Rattle.arrival.specs.declared.Response.{Response}
 use Rattle.arrival.specs.declared.Response.the-variants.{Opened, Refused}
-use Rattle.calendar.specs.rules.Layout.{Place, word, cell, field, Write, _≔_, address, layout, read, write, writeAll, linkCell, itemAt, standing, word-inside, cell-inside, field-inside, length-write}
-use Rattle.laws.specs.Every.{every-same, each-of}
+use Rattle.laws.specs.Counting.{every-same, each-of}
+use Rattle.laws.specs.Lists.{wordsFrom}
+use Rattle.calendar.specs.rules.Layout.{Place, word, cell, field, Write, _≔_, address, layout, read, write, writeAll, linkCell, itemAt, standing}
 use Rattle.calendar.specs.rules.Ranges.{worker, small, currentInRange, linkInRange, pathInRange, orderInRange, headInRange, nodeInRange, storeInRange}
-use Rattle.calendar.specs.facts.RangeFacts.{RecordRanges}
 use Rattle.calendar.specs.rules.Reclaim.{isFree, nodeAfter, firstFreeOf, firstFree}
-use Rattle.calendar.specs.rules.Opening.{openWord, wordsFrom, openStore, openTable}
+use Rattle.calendar.specs.rules.Opening.{openWord, openStore, openTable}
 use Rattle.calendar.specs.rules.Outcome.{Outcome}
 use Rattle.calendar.specs.rules.Starts.{enqueueStart, dequeueStart}
 use Rattle.calendar.specs.rules.Refusals.{openRefusal, enqueueRefusal, dequeueRefusal, stepRefusal}
+use Rattle.calendar.specs.rules.Operations.{Memory, Result, perform, actor, refusal, outcome, act, open-pool, run, responses}
+use Rattle.calendar.specs.facts.Places.{word-inside, cell-inside, field-inside, length-write}
+use Rattle.calendar.specs.facts.RangeFacts.{RecordRanges}
+use Rattle.calendar.specs.facts.FirstFree.{after-below}
 use Rattle.calendar.specs.facts.Accepted.{step-accepted}
 use Rattle.calendar.specs.facts.Views.{AllInside}
 use Rattle.calendar.specs.facts.Untouched.{act-same-size, outcome-inside}
 use Rattle.calendar.specs.facts.OneWord.{current-word, head-word, left-word, right-link, sharedWords, sharedWord, SameSeen, one-shared-word}
-use Rattle.calendar.specs.rules.Operations.{Memory, Result, perform, actor, refusal, outcome, act, open-pool, run, responses}
 
 -- the same memory with words v behind its store
 abbrev pub longer : Memory → List ℕ → Memory
@@ -100,12 +107,8 @@ module _ (sh : Shape) (s v : List ℕ) (long : layout sh ≤ length s) where
     first-of-same zero n h = refl
     first-of-same (suc k) n h = λ j. cond (isFree sh t (free j)) (nodeAfter sh n) (first-of-same k (nodeAfter sh n) (omega arith) j)
       where
-        below : (b : Bool) → ltb (n + 1) (sh .nodes) ≡ b → cond b (n + 1) 0 < sh .nodes
-        below true e = ltb-true (n + 1) (sh .nodes) e
-        below false e = omega arith
-
         free : standing sh (s ++ v) (nodeAfter sh n) ≡ standing sh s (nodeAfter sh n)
-        free = same-field 7 (nodeAfter sh n) (lit< tt) (below (ltb (n + 1) (sh .nodes)) refl)
+        free = same-field 7 (nodeAfter sh n) (lit< tt) (after-below sh n (omega arith))
 
     first-same : firstFree sh (s ++ v) t ≡ firstFree sh s t
     unfolding firstFree
@@ -121,8 +124,37 @@ module _ (sh : Shape) (s v : List ℕ) (long : layout sh ≤ length s) where
     -- the shared word of a record in range lies in the layout
     shared-inside : (w : Worker) → RecordRanges sh w → address sh (sharedWord sh w) < layout sh
     shared-inside w r =
-        each-of (λ k p. w .stage ≡ k → address sh p < layout sh) (sharedWords sh w) current-word
-        (λ q. current, (λ q. bucket, (λ q. searched q, (λ q. left, (λ q. current, (λ q. left, (λ q. current, (λ q. current, (λ q. current, (λ q. bucket, (λ q. walked (omega arith) (omega arith), (λ q. walked (omega arith) (omega arith), (λ q. current, (λ q. current, tt))))))))))))))
+        each-of (λ k p. w .stage ≡ k → address sh p < layout sh) (sharedWords sh w) current-word (
+          λ q. current,
+          (
+            λ q. bucket,
+            (
+              λ q. searched q,
+              (
+                λ q. left,
+                (
+                  λ q. current,
+                  (
+                    λ q. left,
+                    (
+                      λ q. current,
+                      (
+                        λ q. current,
+                        (
+                          λ q. current,
+                          (
+                            λ q. bucket,
+                            (λ q. walked (omega arith) (omega arith), (λ q. walked (omega arith) (omega arith), (λ q. current, (λ q. current, tt)))),
+                          ),
+                        ),
+                      ),
+                    ),
+                  ),
+                ),
+              ),
+            ),
+          ),
+        )
         (w .stage) (omega (arith, r .stage)) refl
       where
         current : address sh current-word < layout sh
@@ -150,7 +182,8 @@ module _ (sh : Shape) (s v : List ℕ) (long : layout sh ≤ length s) where
       epoch = λ q. same-field 6 (w .right) (lit< tt) (omega (arith, r .right, r .walks (omega arith) (omega arith)));
     }
 
-    outcome-same : (a : Action) → refusal sh (record { store = s; table = t }) a ≡ 0 → outcome sh (longer (record { store = s; table = t }) v) a ≡ outcome sh (record { store = s; table = t }) a
+    outcome-same : (a : Action) → refusal sh (record { store = s; table = t }) a ≡ 0
+        → outcome sh (longer (record { store = s; table = t }) v) a ≡ outcome sh (record { store = s; table = t }) a
     unfolding enqueueStart dequeueStart
     outcome-same (Enqueue i x) e = rw (first-same, same-word 1 (lit< tt))
     outcome-same (Dequeue i) e = rw (same-word 1 (lit< tt))
@@ -171,8 +204,10 @@ module _ (sh : Shape) (s v : List ℕ) (long : layout sh ≤ length s) where
   act-same t a = rw (refusal-same t a) (go (eqb (refusal sh (m t) a) 0) refl)
     where
       go : (b : Bool) → eqb (refusal sh (record { store = s; table = t }) a) 0 ≡ b
-          → cond b (perform sh (longer (record { store = s; table = t }) v) (actor a) (outcome sh (longer (record { store = s; table = t }) v) a)) (record { memory = longer (record { store = s; table = t }) v; response = Refused (refusal sh (record { store = s; table = t }) a) })
-          ≡ keeping (cond b (perform sh (record { store = s; table = t }) (actor a) (outcome sh (record { store = s; table = t }) a)) (record { memory = record { store = s; table = t }; response = Refused (refusal sh (record { store = s; table = t }) a) })) v
+          → cond b (perform sh (longer (record { store = s; table = t }) v) (actor a) (outcome sh (longer (record { store = s; table = t }) v) a))
+          (record { memory = longer (record { store = s; table = t }) v; response = Refused (refusal sh (record { store = s; table = t }) a) })
+          ≡ keeping (cond b (perform sh (record { store = s; table = t }) (actor a) (outcome sh (record { store = s; table = t }) a))
+          (record { memory = record { store = s; table = t }; response = Refused (refusal sh (record { store = s; table = t }) a) })) v
       go true e =
           let z = eqb-true (refusal sh (m t) a) 0 e in
           let o = outcome sh (m t) a in
@@ -186,11 +221,18 @@ module _ (sh : Shape) (s v : List ℕ) (long : layout sh ≤ length s) where
   open-same t = rw long-enough (go (eqb (openRefusal sh s t) 0))
     where
       go : (b : Bool)
-          → cond b (record { memory = record { store = wordsFrom (openWord sh) 0 (layout sh) ++ drop (layout sh) (s ++ v); table = openTable sh t }; response = Opened }) (record { memory = record { store = s ++ v; table = t }; response = Refused (openRefusal sh s t) })
-          ≡ keeping (cond b (record { memory = record { store = wordsFrom (openWord sh) 0 (layout sh) ++ drop (layout sh) s; table = openTable sh t }; response = Opened }) (record { memory = record { store = s; table = t }; response = Refused (openRefusal sh s t) })) v
+          → cond b (record {
+            memory = record { store = wordsFrom (openWord sh) 0 (layout sh) ++ drop (layout sh) (s ++ v); table = openTable sh t };
+            response = Opened;
+          }) (record { memory = record { store = s ++ v; table = t }; response = Refused (openRefusal sh s t) })
+          ≡ keeping (cond b (record {
+            memory = record { store = wordsFrom (openWord sh) 0 (layout sh) ++ drop (layout sh) s; table = openTable sh t };
+            response = Opened;
+          }) (record { memory = record { store = s; table = t }; response = Refused (openRefusal sh s t) })) v
       go true =
           ap (λ (x : List ℕ). record { memory = record { store = x; table = openTable sh t }; response = Opened })
-          (ap (λ (y : List ℕ). wordsFrom (openWord sh) 0 (layout sh) ++ y) (drop-append-le (layout sh) s v long) ∙ sym (append-assoc (wordsFrom (openWord sh) 0 (layout sh)) (drop (layout sh) s) v))
+          (ap (λ (y : List ℕ). wordsFrom (openWord sh) 0 (layout sh) ++ y) (drop-append-le (layout sh) s v long)
+          ∙ sym (append-assoc (wordsFrom (openWord sh) 0 (layout sh)) (drop (layout sh) s) v))
       go false = refl
 
 -- ── along a history ──

@@ -8,11 +8,12 @@ use Rattle.arrival.specs.declared.Action.{Action}
 use Rattle.arrival.specs.declared.Response.the-variants.{Stored, Took, Empty}
 use Rattle.arrival.specs.Keys.{lower, bucketOf}
 use Rattle.arrival.specs.Energy.{energyOf}
+use Rattle.laws.specs.Counting.{every}
+use Rattle.laws.specs.Lists.{wordsFrom, below}
 use Rattle.calendar.specs.rules.Layout.{address, read, write}
-use Rattle.laws.specs.Every.{every}
 use Rattle.calendar.specs.rules.Ranges.{blank, storeInRange, tableInRange}
 use Rattle.calendar.specs.rules.Reclaim.{isFree, firstFreeOf, firstFree}
-use Rattle.calendar.specs.rules.Opening.{wordsFrom, openStore, openTable}
+use Rattle.calendar.specs.rules.Opening.{openStore, openTable}
 use Rattle.calendar.specs.rules.Starts.{enqueueStart, dequeueStart}
 use Rattle.calendar.specs.rules.SearchSteps.{found, settle, step-1, step-2, step-3}
 use Rattle.calendar.specs.rules.EnqueueSteps.{step-4, step-5, step-6, step-7}
@@ -23,7 +24,7 @@ use Rattle.calendar.specs.rules.Operations.{Memory, open-pool, act, run}
 use Rattle.calendar.specs.rules.Ledger.{Ledger, new, ledger}
 use Rattle.calendar.specs.rules.Linearizability.{Linearization}
 use Rattle.calendar.specs.facts.Starred.{arrival, turns, put, take, lent}
-use Rattle.calendar.specs.facts.AdmittedOrders.{upTo, ordersOf}
+use Rattle.calendar.specs.facts.AdmittedOrders.{ordersOf}
 use Rattle.calendar.specs.facts.Guards.{forced}
 
 unfoldable pub one-bucket : Shape
@@ -51,10 +52,14 @@ pub answers :
     × (seen .ended 3 ≡ some 3)
     × (seen .ended 4 ≡ some 4)
     × (seen .ended 5 ≡ some 5)
-unfolding one-bucket history start seen arrival turns put take lent address read write every blank storeInRange tableInRange isFree firstFreeOf firstFree wordsFrom openStore openTable enqueueStart dequeueStart found settle step-1 step-2 step-3 step-4 step-5 step-6 step-7 walk step-8 step-9 step-10 step-11 step-12 step-13 no-step step openRefusal enqueueRefusal dequeueRefusal stepRefusal open-pool act run ledger lower bucketOf energyOf
+unfolding one-bucket history start seen arrival turns put take lent address read write every blank storeInRange tableInRange isFree firstFreeOf firstFree
+    wordsFrom openStore openTable enqueueStart dequeueStart found settle step-1 step-2 step-3 step-4 step-5 step-6 step-7 walk step-8 step-9 step-10 step-11
+    step-12 step-13 no-step step openRefusal enqueueRefusal dequeueRefusal stepRefusal open-pool act run ledger lower bucketOf energyOf
 answers = (refl, refl, refl, refl, refl, refl, refl, refl, refl, refl, refl)
 
 -- THE ORDER IS FORCED
 pub order-forced : (X : Linearization seen) → X .order ≡ 1 ∷ 2 ∷ 3 ∷ 4 ∷ 5 ∷ []
-unfolding one-bucket history start seen arrival turns put take lent address read write every blank storeInRange tableInRange isFree firstFreeOf firstFree wordsFrom openStore openTable enqueueStart dequeueStart found settle step-1 step-2 step-3 step-4 step-5 step-6 step-7 walk step-8 step-9 step-10 step-11 step-12 step-13 no-step step openRefusal enqueueRefusal dequeueRefusal stepRefusal open-pool act run ledger lower bucketOf energyOf ordersOf upTo
+unfolding one-bucket history start seen arrival turns put take lent address read write every blank storeInRange tableInRange isFree firstFreeOf firstFree
+    wordsFrom openStore openTable enqueueStart dequeueStart found settle step-1 step-2 step-3 step-4 step-5 step-6 step-7 walk step-8 step-9 step-10 step-11
+    step-12 step-13 no-step step openRefusal enqueueRefusal dequeueRefusal stepRefusal open-pool act run ledger lower bucketOf energyOf ordersOf below
 order-forced = forced seen _ refl

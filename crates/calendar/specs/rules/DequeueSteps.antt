@@ -6,7 +6,8 @@ use lib.Dec.{eqb, ltb}
 use Rattle.arrival.specs.declared.Shape.{Shape}
 use Rattle.arrival.specs.declared.Worker.{Worker}
 use Rattle.arrival.specs.declared.Response.the-variants.{Empty}
-use Rattle.calendar.specs.rules.Layout.{Write, _≔_, word, cell, current, head, link, linkCell, epochAt, successor, isMarked, marked, bucketIn, epochIn, currentWord}
+use Rattle.calendar.specs.rules.Layout.{Write, _≔_, word, cell, current, head, link, linkCell, epochAt, successor, isMarked, marked, bucketIn, epochIn}
+use Rattle.calendar.specs.rules.Layout.{currentWord}
 use Rattle.calendar.specs.rules.Outcome.{Outcome, on, answer, withOwn, withBucket, withRight, withSeen, withCurrent}
 
 -- 8: read current as (b, e).

@@ -1,18 +1,18 @@
--- The lent store as a list of words: its places, their addresses, and the one law for what a write does to every place.
+-- The lent store as a list of words: its places, their addresses, and what the words say.
+--     Place, address, layout                        the places, their addresses, and how many words there are
+--     read, write, Write, writeAll                  reading, writing, and writing several
+--     current, started, lastNode, head, link ..     the words by name
+--     successor, isMarked, unmarked, marked         what a head or link says
+--     bucketIn, epochIn, currentWord                what current says
+--     inUse, unlinkedAt                             what a standing says
 -- Assumes nothing.
-use mathlib.Core.Path.{_≡_, refl, ap, sym, _∙_, subst}
 use mathlib.Core.List.{List, [], _∷_}
-use mathlib.Core.Bool.{Bool, true, false, cond, _&&_}
-use mathlib.Core.Logic.{_≢_}
-use Prim.Native.Nat.{ℕ, zero, suc, _+_, _*_, _-_, _/_, _%_, _≤_, _<_}
-use native.Mathlib.Omega.{arith}
-use lib.Dec.{eqb, leb, ltb}
-use lib.ListN.{length, getD, set, drop, length-set}
-use lib.Seq.{getD-set-same, getD-set-other}
-use borrow.Author.Tests.{eqb-true, eqb-false, eq-eqb, leb-true, ltb-true}
+use mathlib.Core.Bool.{Bool}
+use Prim.Native.Nat.{ℕ, _+_, _*_, _-_, _/_, _%_}
+use lib.Dec.{eqb}
+use lib.ListN.{getD, set}
 use Rattle.arrival.specs.declared.Shape.{Shape}
 use Rattle.arrival.specs.declared.Item.{Item}
-use Rattle.laws.specs.Tests.{never, parts}
 
 -- A place of the store: one of the first three words; a cell, document 01's "left word" (the heads first, then the nodes'
 -- links); a field 1 to 7 of a node: time, ticket, path, order, distance, epoch, standing.
@@ -32,6 +32,7 @@ address sh (field f n) = 3 + sh .buckets + 8 * n + f
 abbrev pub layout : Shape → ℕ
 layout sh = 3 + sh .buckets + 8 * sh .nodes
 
+-- ── reading and writing ──
 unfoldable pub read : Shape → List ℕ → Place → ℕ
 read sh s p = getD s (address sh p) 0
 
@@ -48,18 +49,23 @@ writeAll sh s [] = s
 writeAll sh s ((p ≔ v) ∷ ws) = writeAll sh (write sh s p v) ws
 
 -- ── the words by name ──
+-- word 0: the current bucket and its epoch
 abbrev pub current : Shape → List ℕ → ℕ
 current sh s = read sh s (word 0)
 
+-- word 1: how many calls have been started
 abbrev pub started : Shape → List ℕ → ℕ
 started sh s = read sh s (word 1)
 
+-- word 2: the last node handed out
 abbrev pub lastNode : Shape → List ℕ → ℕ
 lastNode sh s = read sh s (word 2)
 
+-- the head of bucket b
 abbrev pub head : Shape → List ℕ → ℕ → ℕ
 head sh s b = read sh s (cell b)
 
+-- the eight words of node n: its link, and seven fields
 abbrev pub linkCell : Shape → ℕ → ℕ
 linkCell sh n = sh .buckets + n
 
@@ -84,7 +90,6 @@ distanceAt sh s n = read sh s (field 5 n)
 abbrev pub epochAt : Shape → List ℕ → ℕ → ℕ
 epochAt sh s n = read sh s (field 6 n)
 
--- document 01's "standing"
 abbrev pub standing : Shape → List ℕ → ℕ → ℕ
 standing sh s n = read sh s (field 7 n)
 
@@ -122,79 +127,3 @@ inUse = 1
 
 abbrev pub unlinkedAt : ℕ → ℕ
 unlinkedAt s = 2 + s
-
--- ── what a write does ──
-abbrev pub same : Place → Place → Bool
-same (word j) (word k) = eqb j k
-same (word j) (cell q) = false
-same (word j) (field g m) = false
-same (cell p) (word k) = false
-same (cell p) (cell q) = eqb p q
-same (cell p) (field g m) = false
-same (field f n) (word k) = false
-same (field f n) (cell q) = false
-same (field f n) (field g m) = eqb f g && eqb n m
-
-abbrev pub valid : Place → Bool
-valid (word k) = ltb k 3
-valid (cell p) = true
-valid (field f n) = leb 1 f && leb f 7
-
-in-field : (f : ℕ) → (leb 1 f && leb f 7) ≡ true → (1 ≤ f) × (f ≤ 7)
-in-field f h = let (p, q) = parts (leb 1 f) (leb f 7) h in (leb-true 1 f p, leb-true f 7 q)
-
--- two places have one address only if they are the same
-one-address : (sh : Shape) (p q : Place) → valid p ≡ true → valid q ≡ true → same p q ≡ false → address sh p ≢ address sh q
-unfolding address
-one-address sh (word j) (word k) vp vq e a = eqb-false j k e a
-one-address sh (word j) (cell q) vp vq e a = omega (arith, ltb-true)
-one-address sh (word j) (field g m) vp vq e a = omega (arith, ltb-true)
-one-address sh (cell p) (word k) vp vq e a = omega (arith, ltb-true)
-one-address sh (cell p) (cell q) vp vq e a = eqb-false p q e (omega arith)
-one-address sh (cell p) (field g m) vp vq e a = omega (arith, in-field g vq)
-one-address sh (field f n) (word k) vp vq e a = omega (arith, ltb-true)
-one-address sh (field f n) (cell q) vp vq e a = omega (arith, in-field f vp)
-one-address sh (field f n) (field g m) vp vq e a =
-    let hf : f ≡ g = omega (arith, in-field f vp, in-field g vq) in
-    let hn : n ≡ m = omega (arith, in-field f vp, in-field g vq) in
-    never (sym (rw (eq-eqb f g hf, eq-eqb n m hn) at e))
-
-same-address : (sh : Shape) (p q : Place) → same p q ≡ true → address sh p ≡ address sh q
-unfolding address
-same-address sh (word j) (word k) e = eqb-true j k e
-same-address sh (word j) (cell q) e = never e
-same-address sh (word j) (field g m) e = never e
-same-address sh (cell p) (word k) e = never e
-same-address sh (cell p) (cell q) e = rw (eqb-true p q e)
-same-address sh (cell p) (field g m) e = never e
-same-address sh (field f n) (word k) e = never e
-same-address sh (field f n) (cell q) e = never e
-same-address sh (field f n) (field g m) e =
-    let (p, q) = parts (eqb f g) (eqb n m) e in
-    cc (eqb-true f g p, eqb-true n m q)
-
-pub read-write : (sh : Shape) (s : List ℕ) (p q : Place) (v : ℕ) → valid p ≡ true → valid q ≡ true → address sh p < length s
-    → read sh (write sh s p v) q ≡ cond (same p q) v (read sh s q)
-unfolding read write
-read-write sh s p q v vp vq h = go (same p q) refl
-  where
-    go : (t : Bool) → same p q ≡ t → getD (set s (address sh p) v) (address sh q) 0 ≡ cond t v (getD s (address sh q) 0)
-    go true e = rw (← same-address sh p q e) (getD-set-same s (address sh p) v 0 h)
-    go false e = getD-set-other s (address sh p) (address sh q) v 0 (λ a. one-address sh p q vp vq e (sym a))
-
-pub length-write : (sh : Shape) (s : List ℕ) (p : Place) (v : ℕ) → length (write sh s p v) ≡ length s
-unfolding write
-length-write sh s p v = length-set s (address sh p) v
-
--- ── the places that the rules write lie in the layout ──
-pub word-inside : (sh : Shape) (k : ℕ) → k < 3 → address sh (word k) < layout sh
-unfolding address
-word-inside sh k h = omega arith
-
-pub cell-inside : (sh : Shape) (p : ℕ) → p < sh .buckets + sh .nodes → address sh (cell p) < layout sh
-unfolding address
-cell-inside sh p h = omega arith
-
-pub field-inside : (sh : Shape) (f n : ℕ) → f < 8 → n < sh .nodes → address sh (field f n) < layout sh
-unfolding address
-field-inside sh f n h l = omega arith

@@ -1,4 +1,9 @@
--- What an onlooker writes down while reading a history: the calls, their ends and answers, and what each take marked. Assumes nothing.
+-- What an onlooker writes down while reading a history: the calls, their ends and answers, and what each take marked.
+--     Ledger, new                  what is written down; nothing yet
+--     begins, ends, marks          a call begins; it is answered; a take marks
+--     hears, succeeds-11, sees     what a response tells of a call; what a turn at 11 shows
+--     notes, reads, ledger         an action that was not refused; any action; a history
+-- Assumes nothing.
 use mathlib.Core.List.{List, [], _∷_}
 use mathlib.Core.Bool.{Bool, cond, _&&_}
 use mathlib.Core.Option.{Option, none, some}
@@ -47,18 +52,45 @@ at k v f n = cond (eqb k n) v (f n)
 abbrev pub begins : ℕ → queue.Call → Ledger → Ledger
 begins i call L =
     let c = L .started + 1 in
-    record { started = c; asked = at c call (L .asked); callOf = at i c (L .callOf); ended = L .ended; response = L .response; marked = L .marked; stored = L .stored; took = L .took }
+    record {
+      started = c;
+      asked = at c call (L .asked);
+      callOf = at i c (L .callOf);
+      ended = L .ended;
+      response = L .response;
+      marked = L .marked;
+      stored = L .stored;
+      took = L .took;
+    }
 
 -- worker i's call is answered r; it is one more stored, or one more taken
 abbrev pub ends : ℕ → Response → ℕ → ℕ → Ledger → Ledger
 ends i r more-stored more-taken L =
     let c = L .callOf i in
-    record { started = L .started; asked = L .asked; callOf = L .callOf; ended = at c (some (L .started)) (L .ended); response = at c r (L .response); marked = L .marked; stored = more-stored + L .stored; took = more-taken + L .took }
+    record {
+      started = L .started;
+      asked = L .asked;
+      callOf = L .callOf;
+      ended = at c (some (L .started)) (L .ended);
+      response = at c r (L .response);
+      marked = L .marked;
+      stored = more-stored + L .stored;
+      took = more-taken + L .took;
+    }
 
 -- worker i's take marks an item
 abbrev pub marks : ℕ → Item → Ledger → Ledger
 marks i x L =
-    record { started = L .started; asked = L .asked; callOf = L .callOf; ended = L .ended; response = L .response; marked = at (L .callOf i) (some x) (L .marked); stored = L .stored; took = L .took }
+    record {
+      started = L .started;
+      asked = L .asked;
+      callOf = L .callOf;
+      ended = L .ended;
+      response = L .response;
+      marked = at (L .callOf i) (some x) (L .marked);
+      stored = L .stored;
+      took = L .took;
+    }
 
 -- A turn answers a call by stored, empty or an arrival; any other response leaves it in progress.
 abbrev pub hears : ℕ → Response → Ledger → Ledger
@@ -74,6 +106,7 @@ hears i (Refused k) L = L
 abbrev pub succeeds-11 : Shape → List ℕ → Worker → Bool
 succeeds-11 sh s w = eqb (w .stage) 11 && linkHolds sh s w
 
+-- worker i's turn, before it is made: a successful 11 marks what the node holds
 abbrev pub sees : Shape → Memory → ℕ → Ledger → Ledger
 sees sh m i L =
     let w = worker (m .table) i in

@@ -13,7 +13,8 @@ use Rattle.arrival.specs.declared.Action.{Action}
 use Rattle.arrival.specs.declared.Action.the-variants.{Enqueue}
 use Rattle.arrival.specs.declared.Response.the-variants.{Opened, Begun}
 use Rattle.arrival.specs.Keys.{bucketOf}
-use Rattle.arrival.specs.Queue.{Call, enqueue, dequeue, Reply, replies, taken}
+use Rattle.arrival.specs.Queue.{enqueue, Reply, replies, taken}
+use Rattle.laws.specs.Lists.{Once}
 use Rattle.calendar.specs.rules.Layout.{itemAt}
 use Rattle.calendar.specs.rules.Ranges.{worker, storeInRange, tableInRange}
 use Rattle.calendar.specs.rules.Operations.{Memory, open-pool, act, run}
@@ -27,11 +28,6 @@ Finished L c = (s : ℕ) × (L .ended c ≡ some s)
 -- y had ended before x started: x is one of the calls that started after y's end
 abbrev pub EndedBefore : Ledger → ℕ → ℕ → Type 0
 EndedBefore L y x = (s : ℕ) × (L .ended y ≡ some s) × (s < x)
-
--- each call at most once
-abbrev pub Once : List ℕ → Type 0
-Once [] = Unit {0}
-Once (c ∷ cs) = ((d : ℕ) → List·Memᴰ d cs → c ≢ d) × Once cs
 
 -- what stands first had not started after the end of what stands behind it
 abbrev pub RespectsTime : Ledger → List ℕ → Type 0
@@ -67,7 +63,8 @@ pub record Linearization (L : Ledger) : Type 0 where
 -- ── items and nodes ──
 -- the take d is in progress at some worker and holds x
 abbrev pub HeldBy : Shape → Memory → Ledger → ℕ → Item → Type 0
-HeldBy sh m L d x = (i : ℕ) × (i < sh .workers) × (L .callOf i ≡ d) × (hasMarked (worker (m .table) i) ≡ true) × (itemAt sh (m .store) (worker (m .table) i .own) ≡ x)
+HeldBy sh m L d x =
+    (i : ℕ) × (i < sh .workers) × (L .callOf i ≡ d) × (hasMarked (worker (m .table) i) ≡ true) × (itemAt sh (m .store) (worker (m .table) i .own) ≡ x)
 
 abbrev pub AnsweredBy : Ledger → ℕ → Item → Type 0
 AnsweredBy L d x = Finished L d × (L .response d ≡ taken x)
@@ -98,4 +95,6 @@ pub record Correct (sh : Shape) (m : Memory) (L : Ledger) : Type 0 where
 
 -- DEMAND 3: after any opening that is not refused, any history of starts and turns, refused ones included.
 unfoldable pub Demand3 : Type 0
-Demand3 = (sh : Shape) (m : Memory) → open-pool sh m .response ≡ Opened → (h : List Action) → Correct sh (run sh (open-pool sh m .memory) h) (ledger sh (open-pool sh m .memory) h new)
+Demand3 =
+    (sh : Shape) (m : Memory) → open-pool sh m .response ≡ Opened → (h : List Action)
+    → Correct sh (run sh (open-pool sh m .memory) h) (ledger sh (open-pool sh m .memory) h new)

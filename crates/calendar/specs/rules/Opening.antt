@@ -1,11 +1,12 @@
 -- Opening: the store and the table that it leaves. Assumes nothing.
-use mathlib.Core.List.{List, [], _∷_, _++_}
+use mathlib.Core.List.{List, _++_}
 use mathlib.Core.Bool.{cond, _&&_}
-use Prim.Native.Nat.{ℕ, zero, suc, _+_, _*_, _-_}
+use Prim.Native.Nat.{ℕ, _+_, _-_}
 use lib.Dec.{eqb, leb, ltb}
 use lib.ListN.{drop, replicate}
 use Rattle.arrival.specs.declared.Shape.{Shape}
 use Rattle.arrival.specs.declared.Worker.{Worker}
+use Rattle.laws.specs.Lists.{wordsFrom}
 use Rattle.calendar.specs.rules.Layout.{layout, unmarked}
 use Rattle.calendar.specs.rules.Ranges.{blank}
 
@@ -13,12 +14,7 @@ use Rattle.calendar.specs.rules.Ranges.{blank}
 abbrev pub openWord : Shape → ℕ → ℕ
 openWord sh i = cond (eqb i 2) (sh .nodes - 1) (cond (leb 3 i && ltb i (3 + sh .buckets)) (unmarked (sh .nodes)) 0)
 
--- g i, g (i + 1), .. : n words
-unfoldable pub wordsFrom : (ℕ → ℕ) → ℕ → ℕ → List ℕ
-wordsFrom g i zero = []
-wordsFrom g i (suc n) = g i ∷ wordsFrom g (suc i) n
-
--- the layout's words; what lies beyond stays
+-- the layout's words, one by one (laws/Lists: `wordsFrom`); what lies beyond stays
 unfoldable pub openStore : Shape → List ℕ → List ℕ
 openStore sh s = wordsFrom (openWord sh) 0 (layout sh) ++ drop (layout sh) s
 

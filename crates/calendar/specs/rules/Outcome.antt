@@ -13,25 +13,32 @@ pub record Outcome : Type 0 where
 
 -- a record with one field changed
 abbrev pub withStage : ℕ → Worker → Worker
-withStage x w = record { stage = x; kind = w .kind; own = w .own; bucket = w .bucket; left = w .left; right = w .right; seen = w .seen; current = w .current; ticket = w .ticket }
+withStage x w =
+    record { stage = x; kind = w.kind; own = w.own; bucket = w.bucket; left = w.left; right = w.right; seen = w.seen; current = w.current; ticket = w.ticket }
 
 abbrev pub withOwn : ℕ → Worker → Worker
-withOwn x w = record { stage = w .stage; kind = w .kind; own = x; bucket = w .bucket; left = w .left; right = w .right; seen = w .seen; current = w .current; ticket = w .ticket }
+withOwn x w =
+    record { stage = w.stage; kind = w.kind; own = x; bucket = w.bucket; left = w.left; right = w.right; seen = w.seen; current = w.current; ticket = w.ticket }
 
 abbrev pub withBucket : ℕ → Worker → Worker
-withBucket x w = record { stage = w .stage; kind = w .kind; own = w .own; bucket = x; left = w .left; right = w .right; seen = w .seen; current = w .current; ticket = w .ticket }
+withBucket x w =
+    record { stage = w.stage; kind = w.kind; own = w.own; bucket = x; left = w.left; right = w.right; seen = w.seen; current = w.current; ticket = w.ticket }
 
 abbrev pub withLeft : ℕ → Worker → Worker
-withLeft x w = record { stage = w .stage; kind = w .kind; own = w .own; bucket = w .bucket; left = x; right = w .right; seen = w .seen; current = w .current; ticket = w .ticket }
+withLeft x w =
+    record { stage = w.stage; kind = w.kind; own = w.own; bucket = w.bucket; left = x; right = w.right; seen = w.seen; current = w.current; ticket = w.ticket }
 
 abbrev pub withRight : ℕ → Worker → Worker
-withRight x w = record { stage = w .stage; kind = w .kind; own = w .own; bucket = w .bucket; left = w .left; right = x; seen = w .seen; current = w .current; ticket = w .ticket }
+withRight x w =
+    record { stage = w.stage; kind = w.kind; own = w.own; bucket = w.bucket; left = w.left; right = x; seen = w.seen; current = w.current; ticket = w.ticket }
 
 abbrev pub withSeen : ℕ → Worker → Worker
-withSeen x w = record { stage = w .stage; kind = w .kind; own = w .own; bucket = w .bucket; left = w .left; right = w .right; seen = x; current = w .current; ticket = w .ticket }
+withSeen x w =
+    record { stage = w.stage; kind = w.kind; own = w.own; bucket = w.bucket; left = w.left; right = w.right; seen = x; current = w.current; ticket = w.ticket }
 
 abbrev pub withCurrent : ℕ → Worker → Worker
-withCurrent x w = record { stage = w .stage; kind = w .kind; own = w .own; bucket = w .bucket; left = w .left; right = w .right; seen = w .seen; current = x; ticket = w .ticket }
+withCurrent x w =
+    record { stage = w.stage; kind = w.kind; own = w.own; bucket = w.bucket; left = w.left; right = w.right; seen = w.seen; current = x; ticket = w.ticket }
 
 -- The call goes on at stage k.
 abbrev pub on : List Write → ℕ → Worker → Outcome

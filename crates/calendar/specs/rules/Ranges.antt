@@ -6,8 +6,9 @@ use lib.Dec.{eqb, leb, ltb}
 use lib.ListN.{getD}
 use Rattle.arrival.specs.declared.Shape.{Shape}
 use Rattle.arrival.specs.declared.Worker.{Worker}
-use Rattle.calendar.specs.rules.Layout.{current, started, lastNode, head, link, timeAt, ticketAt, pathAt, orderAt, distanceAt, epochAt, standing, successor, bucketIn}
-use Rattle.laws.specs.Every.{every}
+use Rattle.laws.specs.Counting.{every}
+use Rattle.calendar.specs.rules.Layout.{current, started, lastNode, head, link, timeAt, ticketAt, pathAt, orderAt, distanceAt, epochAt, standing}
+use Rattle.calendar.specs.rules.Layout.{successor, bucketIn}
 
 -- workers 1 to 64, nodes 1 to 4,096, buckets 1 to 256, width 1 to 65,535
 abbrev pub shapeInRange : Shape → Bool
@@ -25,7 +26,7 @@ orderInRange order = leb order 63
 abbrev pub distanceInRange : ℕ → Bool
 distanceInRange distance = leb 1 distance && leb distance 1024
 
--- what stays below 2^32
+-- below 2^32
 abbrev pub small : ℕ → Bool
 small x = ltb x 4294967296
 
@@ -37,10 +38,11 @@ currentInRange sh x = ltb (bucketIn x) (sh .buckets)
 abbrev pub linkInRange : Shape → ℕ → Bool
 linkInRange sh x = leb (successor x) (sh .nodes)
 
+-- a head is not marked
 abbrev pub headInRange : Shape → List ℕ → ℕ → Bool
 headInRange sh s b = eqb (head sh s b % 2) 0 && linkInRange sh (head sh s b)
 
--- Distance 0 is in range too in a node never used.
+-- time, ticket and epoch below 2^32, and s in a standing 2 + s; distance 0 only in a node never used
 abbrev pub nodeInRange : Shape → List ℕ → ℕ → Bool
 nodeInRange sh s n =
     linkInRange sh (link sh s n)
@@ -53,6 +55,7 @@ nodeInRange sh s n =
     && small (epochAt sh s n)
     && ltb (standing sh s n) 4294967298
 
+-- every word of the layout
 unfoldable pub storeInRange : Shape → List ℕ → Bool
 storeInRange sh s =
     currentInRange sh (current sh s) && small (started sh s) && ltb (lastNode sh s) (sh .nodes)
@@ -64,6 +67,7 @@ implies a b = not a || b
 abbrev pub between : ℕ → ℕ → ℕ → Bool
 between a b x = leb a x && leb x b
 
+-- stage 0 to 13; kind 0 at 4 to 7 and 1 at 8 to 13; bucket not the last at 12; right not end at 2, 3, 10 and 11; words seen as the words they copy
 abbrev pub recordInRange : Shape → Worker → Bool
 recordInRange sh w =
     leb (w .stage) 13
@@ -88,5 +92,6 @@ blank = record { stage = 0; kind = 0; own = 0; bucket = 0; left = 0; right = 0; 
 abbrev pub worker : List Worker → ℕ → Worker
 worker t i = getD t i blank
 
+-- the records of the workers
 unfoldable pub tableInRange : Shape → List Worker → Bool
 tableInRange sh t = every (sh .workers) (λ i. recordInRange sh (worker t i))

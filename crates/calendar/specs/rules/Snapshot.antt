@@ -7,8 +7,8 @@ use lib.Dec.{eqb}
 use Rattle.arrival.specs.declared.Shape.{Shape}
 use Rattle.arrival.specs.declared.Item.{Item}
 use Rattle.arrival.specs.declared.Worker.{Worker}
+use Rattle.laws.specs.Counting.{count}
 use Rattle.calendar.specs.rules.Layout.{cell, read, link, linkCell, itemAt, successor, isMarked}
-use Rattle.laws.specs.Every.{count}
 use Rattle.calendar.specs.rules.Ranges.{worker, between}
 
 -- n in front of a walk that came to the end
@@ -32,6 +32,7 @@ unfoldable pub unmarkedIn : Shape → List ℕ → List ℕ → ℕ
 unmarkedIn sh s [] = 0
 unmarkedIn sh s (n ∷ ns) = cond (isMarked (link sh s n)) 0 1 + unmarkedIn sh s ns
 
+-- two items with the same fields
 abbrev pub sameItem : Item → Item → Bool
 sameItem x y = eqb (x .time) (y .time) && eqb (x .path) (y .path) && eqb (x .order) (y .order) && eqb (x .distance) (y .distance) && eqb (x .ticket) (y .ticket)
 
@@ -59,5 +60,6 @@ hasLinked w = eqb (w .kind) 0 && between 6 7 (w .stage)
 abbrev pub hasMarked : Worker → Bool
 hasMarked w = eqb (w .kind) 1 && between 1 3 (w .stage)
 
+-- how many workers' records are such
 abbrev pub workersWith : Shape → List Worker → (Worker → Bool) → ℕ
 workersWith sh t f = count (sh .workers) (λ i. f (worker t i))

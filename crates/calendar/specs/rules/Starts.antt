@@ -19,7 +19,8 @@ itemOf a ticket = record { time = a .time; path = a .path; order = a .order; dis
 
 -- a start sets stage, kind and ticket, and for a put own node and bucket
 abbrev pub begun : Worker → ℕ → ℕ → ℕ → ℕ → ℕ → Worker
-begun w stage kind own bucket ticket = record { stage = stage; kind = kind; own = own; bucket = bucket; left = w .left; right = w .right; seen = w .seen; current = w .current; ticket = ticket }
+begun w stage kind own bucket ticket =
+    record { stage = stage; kind = kind; own = own; bucket = bucket; left = w .left; right = w .right; seen = w .seen; current = w .current; ticket = ticket }
 
 -- node n gets the arrival and the ticket, and is in use
 abbrev pub fill : ℕ → Item → List Write

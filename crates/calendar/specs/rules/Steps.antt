@@ -1,8 +1,7 @@
 -- The turn by stage: one rule for each of 1 to 13. Assumes nothing.
-use mathlib.Core.Path.{_≡_, refl, ap}
 use mathlib.Core.List.{List, [], _∷_}
-use Prim.Native.Nat.{ℕ, _≤_}
-use lib.ListN.{getD, List·getD-eq-default}
+use Prim.Native.Nat.{ℕ}
+use lib.ListN.{getD}
 use Rattle.arrival.specs.declared.Shape.{Shape}
 use Rattle.arrival.specs.declared.Worker.{Worker}
 use Rattle.calendar.specs.rules.Outcome.{Outcome, on}
@@ -20,10 +19,6 @@ no-step sh s w = on [] (w .stage) w
 abbrev pub rules : List Rule
 rules = no-step ∷ step-1 ∷ step-2 ∷ step-3 ∷ step-4 ∷ step-5 ∷ step-6 ∷ step-7 ∷ step-8 ∷ step-9 ∷ step-10 ∷ step-11 ∷ step-12 ∷ step-13 ∷ []
 
+-- the rule of the worker's stage
 unfoldable pub step : Rule
 step sh s w = getD rules (w .stage) no-step sh s w
-
--- At a known stage the turn is that stage's rule.
-pub step-at : (sh : Shape) (s : List ℕ) (w : Worker) (k : ℕ) → w .stage ≡ k → step sh s w ≡ getD rules k no-step sh s w
-unfolding step
-step-at sh s w k e = ap (λ (i : ℕ). getD rules i no-step sh s w) e

@@ -2,9 +2,9 @@
 -- Assumes nothing.
 use native.Mathlib.Omega.{arith}
 use borrow.Author.Tests.{le-leb, lt-leb, lt-ltb, le-ltb, ne-eqb}
+use borrow.Author.Needs.{needs}
 use Rattle.turn_file.specs.Records.{size-most}
 use Rattle.turn_file.specs.Reading.{markedAt, recordAt}
-use borrow.Author.Needs.{needs}
 use Rattle.turn_file.proofs.read_record.Statement.{statement}
 use Rattle.turn_file.proofs.read_record.Tie as tie
 

@@ -3,9 +3,9 @@
 use mathlib.Core.Path.{_≡_, ap}
 use native.Mathlib.Omega.{arith}
 use borrow.Author.Tests.{ne-eqb}
+use borrow.Author.Needs.{needs}
 use Rattle.turn_file.specs.Records.{sizeOf, size-least}
 use Rattle.turn_file.specs.Reading.{fieldsAt}
-use borrow.Author.Needs.{needs}
 use Rattle.turn_file.proofs.record_of.Statement.{statement}
 use Rattle.turn_file.proofs.record_of.Tie as tie
 

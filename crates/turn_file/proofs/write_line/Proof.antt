@@ -1,9 +1,11 @@
 -- Each arm writes the line of its response; the values that it prints are words, so the line is short.
+--
+--     write-line-spec     `write_line` meets its contract
 -- Assumes nothing.
 use native.Mathlib.Omega.{arith}
+use borrow.Author.Needs.{needs}
 use Rattle.arrival.specs.declared.Response.the-variants.{Opened, Begun, On, Stored, Took, Empty, Refused}
 use Rattle.turn_file.specs.Lines.{lineOf, line-most}
-use borrow.Author.Needs.{needs}
 use Rattle.turn_file.proofs.write_line.Statement.{statement}
 use Rattle.turn_file.proofs.write_line.Tie as tie
 

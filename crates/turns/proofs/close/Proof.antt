@@ -1,9 +1,9 @@
 -- The last line is written where there is one. Assumes nothing.
 use mathlib.Core.Path.{sym, ap, _∙_}
+use borrow.Author.Needs.{needs}
 use Rattle.turn_file.specs.Buffer.{written, after}
 use Rattle.turns.specs.TurnsRun.{lastLine}
 use Rattle.turns.specs.LastLines.{unclosed}
-use borrow.Author.Needs.{needs}
 use Rattle.turns.proofs.close.Statement.{statement}
 use Rattle.turns.proofs.close.Tie as tie
 

@@ -1,6 +1,6 @@
 -- Each way out of a batch is followed by what the definition says. Assumes nothing.
-use Rattle.turns.specs.LastLines.{last-at-end, last-by-7}
 use borrow.Author.Needs.{needs}
+use Rattle.turns.specs.LastLines.{last-at-end, last-by-7}
 use Rattle.turns.proofs.follow.Statement.{statement}
 use Rattle.turns.proofs.follow.Tie as tie
 

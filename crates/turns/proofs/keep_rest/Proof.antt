@@ -4,8 +4,8 @@ use mathlib.Core.List.{List}
 use Prim.Native.Nat.{ℕ, _+_, _≤_, _-_}
 use native.Mathlib.Omega.{arith}
 use lib.ListN.{length, getD, set, length-set}
-use Rattle.laws.specs.MoveFront.{moved, none-moved, moved-more}
 use borrow.Author.Needs.{needs}
+use Rattle.laws.specs.Storing.{moved, none-moved, moved-more}
 use Rattle.turns.proofs.keep_rest.Statement.{statement}
 use Rattle.turns.proofs.keep_rest.Tie as tie
 
@@ -39,8 +39,11 @@ loop-less c = search needs
 loop-again : tie.Need-loop-again Inv-loop μ-loop
 loop-again c =
     let a = c .before .before .before .args in
-    let now = c .before .before .loop in
-    (omega arith, simp length-set (now .inv .1), ap (λ (xs : List ℕ). set xs (now .i) (getD xs (a .at + now .i) 0)) (now .inv .2) ∙ moved-more (a .at) (a .input .now) (now .i) (omega arith))
+    let now = c .before .before .loop in (
+      omega arith,
+      simp length-set (now .inv .1),
+      ap (λ (xs : List ℕ). set xs (now .i) (getD xs (a .at + now .i) 0)) (now .inv .2) ∙ moved-more (a .at) (a .input .now) (now .i) (omega arith),
+    )
 
 same-length : tie.Need-same-length Inv-loop μ-loop
 same-length c = c .before .loop .inv .1

@@ -1,14 +1,16 @@
--- The loop follows the rounds, and its places lie within their buffers. Assumes nothing.
+-- The loop follows the rounds, and its places lie within their buffers.
+--     run-spec     `run` meets its contract
+-- Assumes nothing.
 use mathlib.Core.Path.{_≡_, refl, sym, subst, subst⁻¹}
 use Prim.Native.Nat.{_≤_}
 use native.Mathlib.Omega.{arith}
 use lib.ListN.{length}
 use lib.Seq.{length-take-le}
+use borrow.Author.Needs.{needs}
 use Rattle.batch.specs.CodeView.{Sound}
 use Rattle.turns.specs.TurnsRun.{lent, Held, atFirst}
 use Rattle.turns.specs.BetweenRounds.{inHand, holding}
 use Rattle.turns.specs.RunFollows.{allRounds, Followed, Ends, at-start, working, reading, closed, finished, spent, first-held, after-read}
-use borrow.Author.Needs.{needs}
 use Rattle.turns.proofs.run.Statement.{statement}
 use Rattle.turns.proofs.run.Tie as tie
 
@@ -25,8 +27,16 @@ fresh-pool-requires c κs = search needs
 
 loop-holds : tie.Need-loop-holds Inv-loop μ-loop
 loop-holds c = let a = c .before .before .before .before .before in
-    let d = c .fresh-pool .ensures in
-    (d .0, omega arith, omega arith, refl, refl, refl, subst (λ (h : Held). Followed (atFirst lent (a .args .out .now)) h allRounds) (first-held (c .fresh-pool .result) (a .args .store .now) (a .args .input .now) (a .args .out .now) (d .1) (d .2) (d .3) (a .pre .0)) (at-start (atFirst lent (a .args .out .now))))
+    let d = c .fresh-pool .ensures in (
+      d .0,
+      omega arith,
+      omega arith,
+      refl,
+      refl,
+      refl,
+      subst (λ (h : Held). Followed (atFirst lent (a .args .out .now)) h allRounds) (first-held (c .fresh-pool .result) (a .args .store .now)
+          (a .args .input .now) (a .args .out .now) (d .1) (d .2) (d .3) (a .pre .0)) (at-start (atFirst lent (a .args .out .now))),
+    )
 
 sub-left : tie.Need-sub-left Inv-loop μ-loop
 sub-left c = search needs
@@ -53,7 +63,10 @@ same-length-3 : tie.Need-same-length-3 Inv-loop μ-loop
 same-length-3 c = search needs
 
 returns : tie.Need-returns Inv-loop μ-loop
-returns c = closed (atFirst lent (c .before .before .before .before .before .before .before .before .before .before .before .before .before .before .before .before .before .before .args .out .now)) _ _ (c .before .before .before .before .before .before .before .before .before .before .before .before .loop .inv .6) _ (c .before .before .before .before .before .before .before .one-round .ensures .0) _ refl
+returns c =
+    closed (atFirst lent (c .before .before .before .before .before .before .before .before .before .before .before .before .before .before .before .before
+    .before .before .args .out .now)) _ _ (c .before .before .before .before .before .before .before .before .before .before .before .before .loop .inv .6) _
+    (c .before .before .before .before .before .before .before .one-round .ensures .0) _ refl
 
 enum-told : tie.Need-enum-told Inv-loop μ-loop
 enum-told c = search needs
@@ -63,26 +76,54 @@ loop-less c = search needs
 
 loop-again : tie.Need-loop-again Inv-loop μ-loop
 loop-again c = let i = c .before .before .before .before .before .before .before .before .before .before .before .before .before .before .before .loop .inv in
-    let e = c .before .before .before .before .before .before .before .before .before .before .one-round .ensures in
-    (e .1, e .2 .at, i .2, search needs, search needs, search needs, working (atFirst lent (c .before .before .before .before .before .before .before .before .before .before .before .before .before .before .before .before .before .before .before .before .before .args .out .now)) _ _ (i .6) _ (e .0) _ (omega arith) (c .enum-told .given .1))
+    let e = c .before .before .before .before .before .before .before .before .before .before .one-round .ensures in (
+      e .1,
+      e .2 .at,
+      i .2,
+      search needs,
+      search needs,
+      search needs,
+      working (atFirst lent (c .before .before .before .before .before .before .before .before .before .before .before .before .before .before .before .before
+          .before .before .before .before .before .args .out .now)) _ _ (i .6) _ (e .0) _ (omega arith) (c .enum-told .given .1),
+    )
 
 enum-told-2 : tie.Need-enum-told-2 Inv-loop μ-loop
 enum-told-2 c = search needs
 
 keep-rest-requires : tie.Need-keep-rest-requires Inv-loop μ-loop
-keep-rest-requires c κs = (c .before .before .before .before .before .before .before .before .before .before .before .one-round .ensures .2 .at, c .before .before .before .before .before .before .before .before .before .before .before .before .before .before .before .before .loop .inv .2)
+keep-rest-requires c κs = (
+  c .before .before .before .before .before .before .before .before .before .before .before .one-round .ensures .2 .at,
+  c .before .before .before .before .before .before .before .before .before .before .before .before .before .before .before .before .loop .inv .2,
+)
 
 read-more-requires : tie.Need-read-more-requires Inv-loop μ-loop
-read-more-requires c κs = let few = c .before .before .before .before .before .before .before .before .before .before .before .before .before .before .before .one-round .ensures .2 .few (c .before .before .before .before .before .enum-told2 .given .1) in
+read-more-requires c κs =
+    let few =
+    c .before .before .before .before .before .before .before .before .before .before .before .before .before .before .before .one-round .ensures .2 .few
+    (c .before .before .before .before .before .enum-told2 .given .1) in
     let kept = c .before .before .before .keep-rest .ensures in
-    omega (arith, few, kept .0, kept .1, c .before .before .before .before .before .before .before .before .before .before .before .before .before .before .before .before .before .before .before .before .loop .inv .4, c .before .before .before .before .before .before .before .before .before .before .before .before .before .before .before .before .before .before .before .before .before .before .before .before .before .before .pre .1)
+    omega (
+      arith,
+      few,
+      kept .0,
+      kept .1,
+      c .before .before .before .before .before .before .before .before .before .before .before .before .before .before .before .before .before .before .before
+          .before .loop .inv .4,
+      c .before .before .before .before .before .before .before .before .before .before .before .before .before .before .before .before .before .before .before
+          .before .before .before .before .before .before .before .pre .1,
+    )
 
 loop-less-2 : tie.Need-loop-less-2 Inv-loop μ-loop
 loop-less-2 c = search needs
 
 loop-again-2 : tie.Need-loop-again-2 Inv-loop μ-loop
-loop-again-2 c = let i = c .before .before .before .before .before .before .before .before .before .before .before .before .before .before .before .before .before .before .before .before .before .before .before .loop .inv in
-    let e = c .before .before .before .before .before .before .before .before .before .before .before .before .before .before .before .before .before .before .one-round .ensures in
+loop-again-2 c =
+    let i =
+    c .before .before .before .before .before .before .before .before .before .before .before .before .before .before .before .before .before .before .before
+    .before .before .before .before .loop .inv in
+    let e =
+    c .before .before .before .before .before .before .before .before .before .before .before .before .before .before .before .before .before .before .one-round
+    .ensures in
     let kept = c .before .before .before .before .before .before .keep-rest .ensures in
     let read = c .before .before .read-more .ensures in (
       e .1,
@@ -91,8 +132,15 @@ loop-again-2 c = let i = c .before .before .before .before .before .before .befo
       search needs,
       search needs,
       search needs,
-      after-read (atFirst lent (c .before .before .before .before .before .before .before .before .before .before .before .before .before .before .before .before .before .before .before .before .before .before .before .before .before .before .before .before .before .args .out .now)) (c .before .before .before .before .before .before .before .before .before .before .before .before .before .before .before .before .before .before .one-round .result) _ _ _ _ _ _ _ _ (e .2 .at) (i .2) (kept .0) (kept .2) (read .3) (read .0) (omega (arith, read .1, read .2)) _
-          (reading (atFirst lent (c .before .before .before .before .before .before .before .before .before .before .before .before .before .before .before .before .before .before .before .before .before .before .before .before .before .before .before .before .before .args .out .now)) _ _ (i .6) _ (e .0) _ (omega arith) (c .before .before .before .before .before .before .before .before .enum-told2 .given .1)),
+      after-read (atFirst lent
+          (c .before .before .before .before .before .before .before .before .before .before .before .before .before .before .before .before .before .before
+          .before .before .before .before .before .before .before .before .before .before .before .args .out .now))
+          (c .before .before .before .before .before .before .before .before .before .before .before .before .before .before .before .before .before .before
+          .one-round .result) _ _ _ _ _ _ _ _ (e .2 .at) (i .2) (kept .0) (kept .2) (read .3) (read .0) (omega (arith, read .1, read .2)) _
+          (reading (atFirst lent
+          (c .before .before .before .before .before .before .before .before .before .before .before .before .before .before .before .before .before .before
+          .before .before .before .before .before .before .before .before .before .before .before .args .out .now)) _ _ (i .6) _ (e .0) _ (omega arith)
+          (c .before .before .before .before .before .before .before .before .enum-told2 .given .1)),
     )
 
 enum-told-3 : tie.Need-enum-told-3 Inv-loop μ-loop
@@ -108,7 +156,14 @@ same-length-6 : tie.Need-same-length-6 Inv-loop μ-loop
 same-length-6 c = search needs
 
 returns-2 : tie.Need-returns-2 Inv-loop μ-loop
-returns-2 c = finished (c .before .before .before .before .before .before .before .before .before .before .before .before .before .before .before .before .before .before .before .before .before .args .out .now) (c .before .before .before .before .before .before .before .before .before .before .before .before .before .before .before .before .before .before .before .before .before .pre .2) _ _ (c .before .before .before .before .before .before .before .before .before .before .before .before .before .before .before .loop .inv .6) _ (c .before .before .before .before .before .before .before .before .before .before .one-round .ensures .0) (subst⁻¹ Ends (c .enum-told3 .given .1) tt) _ refl
+returns-2 c =
+    finished (c .before .before .before .before .before .before .before .before .before .before .before .before .before .before .before .before .before .before
+    .before .before .before .args .out .now)
+    (c .before .before .before .before .before .before .before .before .before .before .before .before .before .before .before .before .before .before .before
+    .before .before .pre .2) _ _
+    (c .before .before .before .before .before .before .before .before .before .before .before .before .before .before .before .loop .inv .6) _
+    (c .before .before .before .before .before .before .before .before .before .before .one-round .ensures .0)
+    (subst⁻¹ Ends (c .enum-told3 .given .1) tt) _ refl
 
 enum-told-4 : tie.Need-enum-told-4 Inv-loop μ-loop
 enum-told-4 c = search needs
@@ -123,7 +178,14 @@ same-length-9 : tie.Need-same-length-9 Inv-loop μ-loop
 same-length-9 c = search needs
 
 returns-3 : tie.Need-returns-3 Inv-loop μ-loop
-returns-3 c = finished (c .before .before .before .before .before .before .before .before .before .before .before .before .before .before .before .before .before .before .before .before .before .args .out .now) (c .before .before .before .before .before .before .before .before .before .before .before .before .before .before .before .before .before .before .before .before .before .pre .2) _ _ (c .before .before .before .before .before .before .before .before .before .before .before .before .before .before .before .loop .inv .6) _ (c .before .before .before .before .before .before .before .before .before .before .one-round .ensures .0) (subst⁻¹ Ends (c .enum-told4 .given .1) tt) _ refl
+returns-3 c =
+    finished (c .before .before .before .before .before .before .before .before .before .before .before .before .before .before .before .before .before .before
+    .before .before .before .args .out .now)
+    (c .before .before .before .before .before .before .before .before .before .before .before .before .before .before .before .before .before .before .before
+    .before .before .pre .2) _ _
+    (c .before .before .before .before .before .before .before .before .before .before .before .before .before .before .before .loop .inv .6) _
+    (c .before .before .before .before .before .before .before .before .before .before .one-round .ensures .0)
+    (subst⁻¹ Ends (c .enum-told4 .given .1) tt) _ refl
 
 same-length-10 : tie.Need-same-length-10 Inv-loop μ-loop
 same-length-10 c = search needs
@@ -135,7 +197,8 @@ same-length-12 : tie.Need-same-length-12 Inv-loop μ-loop
 same-length-12 c = search needs
 
 returns-4 : tie.Need-returns-4 Inv-loop μ-loop
-returns-4 c = spent (atFirst lent (c .before .before .before .before .before .before .before .args .out .now)) _ _ (c .before .loop .inv .6) (omega arith) _ refl
+returns-4 c =
+    spent (atFirst lent (c .before .before .before .before .before .before .before .args .out .now)) _ _ (c .before .loop .inv .6) (omega arith) _ refl
 
 pub run-spec : {M : Type 1} → statement M
 run-spec =

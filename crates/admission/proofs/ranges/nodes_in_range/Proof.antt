@@ -2,7 +2,7 @@
 use mathlib.Core.Path.{_≡_, refl, sym}
 use Prim.Native.Nat.{_≤_, _-_}
 use native.Mathlib.Omega.{arith}
-use Rattle.laws.specs.Every.{every, every-none, every-step}
+use Rattle.laws.specs.Counting.{every, every-none, every-step}
 use Rattle.calendar.specs.rules.Ranges.{nodeInRange}
 use borrow.Author.Needs.{needs}
 use Rattle.admission.proofs.ranges.nodes_in_range.Statement.{statement}

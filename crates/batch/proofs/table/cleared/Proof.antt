@@ -5,7 +5,7 @@ use Prim.Native.Nat.{_≤_, _-_}
 use native.Mathlib.Omega.{arith}
 use lib.ListN.{set, drop, replicate}
 use Rattle.calendar.specs.rules.Ranges.{blank}
-use Rattle.laws.specs.FillFront.{cleared-more}
+use Rattle.laws.specs.Storing.{cleared-more}
 use borrow.Author.Needs.{needs}
 use Rattle.batch.proofs.table.cleared.Statement.{statement}
 use Rattle.batch.proofs.table.cleared.Tie as tie

@@ -5,7 +5,8 @@ use Prim.Native.Nat.{_≤_, _-_}
 use native.Mathlib.Omega.{arith}
 use lib.ListN.{length, drop, length-set}
 use Rattle.calendar.specs.rules.Layout.{layout}
-use Rattle.calendar.specs.rules.Opening.{wordsFrom, openWord, openStore}
+use Rattle.calendar.specs.rules.Opening.{openWord, openStore}
+use Rattle.laws.specs.Lists.{wordsFrom}
 use Rattle.starts.specs.OpenLoop.{words-none, words-more}
 use borrow.Author.Needs.{needs}
 use Rattle.starts.proofs.opening.open_store.Statement.{statement}

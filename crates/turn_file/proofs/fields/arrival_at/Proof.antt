@@ -1,7 +1,7 @@
 -- The fields, read one by one, are the arrival; each fits 32 bits by its width.
 -- Assumes nothing.
-use Rattle.turn_file.specs.Fields.{arrivalAt}
 use borrow.Author.Needs.{needs}
+use Rattle.turn_file.specs.Fields.{arrivalAt}
 use Rattle.turn_file.proofs.fields.arrival_at.Statement.{statement}
 use Rattle.turn_file.proofs.fields.arrival_at.Tie as tie
 

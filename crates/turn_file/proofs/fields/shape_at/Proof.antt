@@ -1,7 +1,7 @@
 -- The fields, read one by one, are the shape.
 -- Assumes nothing.
-use Rattle.turn_file.specs.Fields.{shapeAt}
 use borrow.Author.Needs.{needs}
+use Rattle.turn_file.specs.Fields.{shapeAt}
 use Rattle.turn_file.proofs.fields.shape_at.Statement.{statement}
 use Rattle.turn_file.proofs.fields.shape_at.Tie as tie
 

@@ -7,11 +7,11 @@ use native.Mathlib.Omega.{arith}
 use lib.ListN.{length}
 use lib.Seq.{sets}
 use denote.Ref.{now}
+use borrow.Author.Needs.{needs}
+use Rattle.laws.specs.Storing.{behind}
 use Rattle.turn_file.specs.Decimal.{decimal}
 use Rattle.turn_file.specs.Lines.{number-size}
 use Rattle.turn_file.specs.Buffer.{cut, stored}
-use Rattle.laws.specs.StoreRuns.{behind}
-use borrow.Author.Needs.{needs}
 use Rattle.turn_file.proofs.lines.number_line.Statement.{statement}
 use Rattle.turn_file.proofs.lines.number_line.Tie as tie
 

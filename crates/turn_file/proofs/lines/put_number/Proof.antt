@@ -1,4 +1,6 @@
 -- Storing the digits of the rest would finish the number: the loop keeps this, and the last digit is the rest.
+--
+--     put-number-spec     `put_number` meets its contract
 -- Assumes nothing.
 use mathlib.Core.Path.{_≡_, refl, sym, ap, _∙_}
 use Prim.Native.Nat.{_+_, _-_, _/_, _%_, _<_, _≤_}
@@ -6,9 +8,9 @@ use denote.Ref.{now}
 use native.Mathlib.Omega.{arith}
 use lib.ListN.{length, set, length-set}
 use lib.Seq.{sets}
-use Rattle.turn_file.specs.Decimal.{decimal, decimal-one, decimal-more, length-more, decimal-least}
-use Rattle.laws.specs.StoreRuns.{last-first}
 use borrow.Author.Needs.{needs}
+use Rattle.laws.specs.Storing.{last-first}
+use Rattle.turn_file.specs.Decimal.{decimal, decimal-one, decimal-more, length-more, decimal-least}
 use Rattle.turn_file.proofs.lines.put_number.Statement.{statement}
 use Rattle.turn_file.proofs.lines.put_number.Tie as tie
 

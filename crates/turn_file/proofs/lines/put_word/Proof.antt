@@ -7,8 +7,8 @@ use lib.ListN.{length, drop, length-set, drop-of-length-le}
 use lib.Seq.{sets}
 use native.Mathlib.Nat.{add-zero}
 use denote.Ref.{now}
-use Rattle.laws.specs.StoreRuns.{next-stored}
 use borrow.Author.Needs.{needs}
+use Rattle.laws.specs.Storing.{next-stored}
 use Rattle.turn_file.proofs.lines.put_word.Statement.{statement}
 use Rattle.turn_file.proofs.lines.put_word.Tie as tie
 

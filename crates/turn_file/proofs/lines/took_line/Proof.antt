@@ -1,4 +1,6 @@
 -- The word and the four numbers are stored one behind the other: the runs are joined from the last.
+--
+--     took-line-spec     `took_line` meets its contract
 -- Assumes nothing.
 use mathlib.Core.Path.{ap, _∙_}
 use mathlib.Core.List.{_∷_, [], _++_}
@@ -6,11 +8,11 @@ use Prim.Native.Nat.{_+_}
 use native.Mathlib.Omega.{arith}
 use lib.Seq.{sets}
 use denote.Ref.{now}
+use borrow.Author.Needs.{needs}
+use Rattle.laws.specs.Storing.{behind, joined}
 use Rattle.turn_file.specs.Decimal.{decimal}
 use Rattle.turn_file.specs.Lines.{values, tookLine, took-size}
 use Rattle.turn_file.specs.Buffer.{cut, stored}
-use Rattle.laws.specs.StoreRuns.{behind, joined}
-use borrow.Author.Needs.{needs}
 use Rattle.turn_file.proofs.lines.took_line.Statement.{statement}
 use Rattle.turn_file.proofs.lines.took_line.Tie as tie
 
@@ -98,7 +100,8 @@ returns-2 c =
     let line3 = decimal (a .order) ++ values (a .energy ∷ []) in
     let line2 = decimal (a .path) ++ values (a .order ∷ a .energy ∷ []) in
     let line1 = decimal (a .time) ++ values (a .path ∷ a .order ∷ a .energy ∷ []) in
-    let from3 = joined (decimal (a .order)) line4 (put2 .last .1 .1 .1 .0) (put2 .result) 32 _ count3 (put3 .ensures .0) (put3 .ensures .1) (put4 .ensures .1) in
+    let from3 = joined (decimal (a .order)) line4 (put2 .last .1 .1 .1 .0) (put2 .result) 32 _ count3 (put3 .ensures .0) (put3 .ensures .1)
+    (put4 .ensures .1) in
     let from2 = joined (decimal (a .path)) line3 (put1 .last .1 .1 .1 .0) (put1 .result) 32 _ count2 (put2 .ensures .0) (put2 .ensures .1) from3 in
     let from1 = joined (decimal (a .time)) line2 (put0 .last .1 .0) (a .at + 5) 32 _ count1 (put1 .ensures .0) (put1 .ensures .1) from2 in (
       omega (arith, done .0, put1 .ensures .0, put2 .ensures .0, put3 .ensures .0, put4 .ensures .0),

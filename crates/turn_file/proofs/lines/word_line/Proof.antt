@@ -3,8 +3,8 @@
 use mathlib.Core.Path.{_∙_}
 use native.Mathlib.Omega.{arith}
 use denote.Ref.{now}
-use Rattle.turn_file.specs.Buffer.{cut, stored}
 use borrow.Author.Needs.{needs}
+use Rattle.turn_file.specs.Buffer.{cut, stored}
 use Rattle.turn_file.proofs.lines.word_line.Statement.{statement}
 use Rattle.turn_file.proofs.lines.word_line.Tie as tie
 

@@ -3,7 +3,7 @@ use mathlib.Core.Path.{_≡_, sym, ap, _∙_}
 use mathlib.Core.Bool.{_&&_}
 use Prim.Native.Nat.{ℕ, _≤_, _-_}
 use native.Mathlib.Omega.{arith}
-use Rattle.laws.specs.Every.{every, every-none, every-step}
+use Rattle.laws.specs.Counting.{every, every-none, every-step}
 use Rattle.calendar.specs.rules.Ranges.{blank, worker, recordInRange}
 use Rattle.calendar.specs.facts.RangeFacts.{limits}
 use Rattle.wubraken_batch.specs.LentBatch.{heldInRange}

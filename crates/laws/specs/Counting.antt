@@ -1,7 +1,14 @@
--- Tests and counts over the numbers below a bound, and properties of a list's elements by their number. Assumes nothing.
+-- Tests and counts over the numbers below a bound, and properties of a list's elements by their number.
+--     every                                  a test holds of every number below n
+--     every-none, every-step, every-more     of none; of one more
+--     every-at, every-all, every-fails       what it tells of each; what tells it; where one fails
+--     every-same                             two tests alike below n
+--     count, count-three                     how many below n; three tests of which exactly one holds share the numbers out
+--     Each, each-of                          a property of each element, by its number; of the one at n
+-- Assumes nothing.
 use mathlib.Core.Path.{_≡_, refl, _∙_, subst}
 use mathlib.Core.List.{List, [], _∷_}
-use mathlib.Core.Bool.{Bool, true, false, cond, _&&_}
+use mathlib.Core.Bool.{Bool, true, false, cond, _&&_, and-false}
 use mathlib.Core.Logic.{⊎-elim}
 use Prim.Native.Nat.{ℕ, zero, suc, _+_, _<_}
 use lib.ListN.{length, getD}
@@ -19,10 +26,6 @@ every (suc n) f = every n f && f n
 unfoldable pub count : ℕ → (ℕ → Bool) → ℕ
 count zero f = 0
 count (suc n) f = cond (f n) 1 0 + count n f
-
-and-false : (a : Bool) → (a && false) ≡ false
-and-false true = refl
-and-false false = refl
 
 pub every-none : (f : ℕ → Bool) → every 0 f ≡ true
 unfolding every

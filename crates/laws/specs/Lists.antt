@@ -1,0 +1,145 @@
+-- Lists: values by their numbers, parts, and numbers that stand in a list once. The laws of `take`, `drop`, `set`, `getD` and `_++_` that the kit has
+-- (lib.ListN, lib.Seq) are not here.
+--     wordsFrom                         g i, g (i + 1), ..: words-at is the one at k, length-words how many, words-suc one more
+--     take-words                        a part of a list is the words that it has there
+--     drop-take                         a front without its own front
+--     mem-behind                        what is in a list and is not its first element is in the rest
+--     Once                              each number differs from those behind it
+--     without                           a list without a number: without-in, in-without say what is in it, without-less that it is shorter
+--     below, below-in, length-below     the numbers below n
+--     once-within                       numbers that stand once, all of them in another list, are no more than it has
+--     once-below                        numbers that stand once and lie below n are at most n
+-- Assumes nothing.
+use mathlib.Core.Path.{_≡_, refl, sym, ap, _∙_}
+use mathlib.Core.List.{List, [], _∷_, _++_, List·Memᴰ, List·Memᴰ·head, List·Memᴰ·tail, List·Memᴰ·not-nil, List·Memᴰ·cases-cons}
+use mathlib.Core.Bool.{Bool, true, false, cond}
+use mathlib.Core.Logic.{_≢_, _⊎_, inl, inr}
+use Prim.Native.Nat.{ℕ, zero, suc, _+_, _-_, _≤_, _<_}
+use native.Mathlib.Omega.{arith}
+use lib.Dec.{eqb}
+use lib.ListN.{length, getD, take, drop}
+use lib.Seq.{take-nil, drop-cons}
+use borrow.Author.Tests.{eqb-true, eqb-false}
+
+-- ── values by their numbers ──
+-- g i, g (i + 1), .. : n words
+unfoldable pub wordsFrom : (ℕ → ℕ) → ℕ → ℕ → List ℕ
+wordsFrom g i zero = []
+wordsFrom g i (suc n) = g i ∷ wordsFrom g (suc i) n
+
+pub words-at : (g : ℕ → ℕ) (i n k : ℕ) → k < n → getD (wordsFrom g i n) k 0 ≡ g (i + k)
+unfolding wordsFrom
+words-at g i zero k h = absurd (omega arith)
+words-at g i (suc n) zero h = let e : i + 0 ≡ i = omega arith in rw e
+words-at g i (suc n) (suc k) h = let e : suc i + k ≡ i + suc k = omega arith in words-at g (suc i) n k (omega arith) ∙ ap g e
+
+pub length-words : (g : ℕ → ℕ) (i n : ℕ) → length (wordsFrom g i n) ≡ n
+unfolding wordsFrom
+length-words g i zero = refl
+length-words g i (suc n) = ap suc (length-words g (suc i) n)
+
+pub words-suc : (g : ℕ → ℕ) (i n : ℕ) → wordsFrom g i (suc n) ≡ wordsFrom g i n ++ (g (i + n) ∷ [])
+unfolding wordsFrom
+words-suc g i zero = let e : i + 0 ≡ i = omega arith in rw e
+words-suc g i (suc n) =
+    let e : suc i + n ≡ i + suc n = omega arith in
+    ap (λ (u : List ℕ). g i ∷ u) (words-suc g (suc i) n ∙ ap (λ (k : ℕ). wordsFrom g (suc i) n ++ (g k ∷ [])) e)
+
+pub take-words : (t : List ℕ) (i n : ℕ) → i + n ≤ length t → take n (drop i t) ≡ wordsFrom (λ k. getD t k 0) i n
+unfolding wordsFrom
+take-words t i zero h = refl
+take-words t i (suc n) h =
+    ap (take (suc n)) (drop-cons t i 0 (omega arith)) ∙ ap (λ (u : List ℕ). getD t i 0 ∷ u) (take-words t (suc i) n (omega arith))
+
+-- ── parts ──
+pub drop-take : {A : Type 0} (m n : ℕ) (l : List A) → drop m (take n l) ≡ take (n - m) (drop m l)
+drop-take zero n l = let e : n ≡ n - 0 = omega arith in ap (λ (k : ℕ). take k l) e
+drop-take (suc m) zero l = let e : 0 ≡ 0 - suc m = omega arith in ap (λ (k : ℕ). take k (drop (suc m) l)) e
+drop-take (suc m) (suc n) [] = sym (take-nil (suc n - suc m))
+drop-take (suc m) (suc n) (x ∷ l) = let e : n - m ≡ suc n - suc m = omega arith in drop-take m n l ∙ ap (λ (k : ℕ). take k (drop m l)) e
+
+-- ── what is in a list ──
+pub mem-behind : {A : Type 0} {c d : A} {l : List A} → c ≢ d → List·Memᴰ d (c ∷ l) → List·Memᴰ d l
+mem-behind {c} {d} {l} apart i = pick (List·Memᴰ·cases-cons i)
+  where
+    pick : (d ≡ c) ⊎ List·Memᴰ d l → List·Memᴰ d l
+    pick (inl e) = absurd (apart (sym e))
+    pick (inr j) = j
+
+abbrev pub Once : List ℕ → Type 0
+Once [] = Unit {0}
+Once (c ∷ cs) = ((d : ℕ) → List·Memᴰ d cs → c ≢ d) × Once cs
+
+abbrev pub without : ℕ → List ℕ → List ℕ
+without c [] = []
+without c (x ∷ xs) = cond (eqb c x) (without c xs) (x ∷ without c xs)
+
+pub without-in : (c x : ℕ) (xs : List ℕ) → List·Memᴰ x (without c xs) → (List·Memᴰ x xs) × (c ≢ x)
+without-in c x [] i = absurd (List·Memᴰ·not-nil i)
+without-in c x (y ∷ ys) i = go (eqb c y) refl i (without-in c x ys)
+  where
+    go : (t : Bool) → eqb c y ≡ t → List·Memᴰ x (cond t (without c ys) (y ∷ without c ys))
+        → (List·Memᴰ x (without c ys) → (List·Memᴰ x ys) × (c ≢ x)) → (List·Memᴰ x (y ∷ ys)) × (c ≢ x)
+    go true e j rec = let (p, q) = rec j in (List·Memᴰ·tail p, q)
+    go false e j rec = pick (List·Memᴰ·cases-cons j)
+      where
+        pick : (x ≡ y) ⊎ List·Memᴰ x (without c ys) → (List·Memᴰ x (y ∷ ys)) × (c ≢ x)
+        pick (inl p) = (List·Memᴰ·head p, λ q. eqb-false c y e (q ∙ p))
+        pick (inr p) = let (a, b) = rec p in (List·Memᴰ·tail a, b)
+
+pub in-without : (c x : ℕ) (xs : List ℕ) → List·Memᴰ x xs → c ≢ x → List·Memᴰ x (without c xs)
+in-without c x [] i h = absurd (List·Memᴰ·not-nil i)
+in-without c x (y ∷ ys) i h = go (eqb c y) refl (List·Memᴰ·cases-cons i) (λ j. in-without c x ys j h)
+  where
+    go : (t : Bool) → eqb c y ≡ t → (x ≡ y) ⊎ List·Memᴰ x ys → (List·Memᴰ x ys → List·Memᴰ x (without c ys))
+        → List·Memᴰ x (cond t (without c ys) (y ∷ without c ys))
+    go true e (inl p) rec = absurd (h (eqb-true c y e ∙ sym p))
+    go true e (inr p) rec = rec p
+    go false e (inl p) rec = List·Memᴰ·head p
+    go false e (inr p) rec = List·Memᴰ·tail (rec p)
+
+without-shorter : (c : ℕ) (xs : List ℕ) → length (without c xs) ≤ length xs
+without-shorter c [] = omega arith
+without-shorter c (y ∷ ys) = go (eqb c y) (without-shorter c ys)
+  where
+    go : (t : Bool) → length (without c ys) ≤ length ys → length (cond t (without c ys) (y ∷ without c ys)) ≤ suc (length ys)
+    go true h = omega arith
+    go false h = omega arith
+
+pub without-less : (c : ℕ) (xs : List ℕ) → List·Memᴰ c xs → length (without c xs) < length xs
+without-less c [] i = absurd (List·Memᴰ·not-nil i)
+without-less c (y ∷ ys) i = go (eqb c y) refl (List·Memᴰ·cases-cons i) (without-less c ys)
+  where
+    go : (t : Bool) → eqb c y ≡ t → (c ≡ y) ⊎ List·Memᴰ c ys → (List·Memᴰ c ys → length (without c ys) < length ys)
+        → length (cond t (without c ys) (y ∷ without c ys)) < suc (length ys)
+    go true e p rec = omega (arith, without-shorter c ys)
+    go false e (inl p) rec = absurd (eqb-false c y e p)
+    go false e (inr p) rec = omega (arith, rec p)
+
+unfoldable pub below : ℕ → List ℕ
+below zero = []
+below (suc n) = n ∷ below n
+
+pub below-in : (n c : ℕ) → c < n → List·Memᴰ c (below n)
+unfolding below
+below-in zero c h = absurd (omega arith)
+below-in (suc n) c h = pick (eqb c n) refl (below-in n c)
+  where
+    pick : (t : Bool) → eqb c n ≡ t → (c < n → List·Memᴰ c (below n)) → List·Memᴰ c (n ∷ below n)
+    pick true e rec = List·Memᴰ·head (eqb-true c n e)
+    pick false e rec = List·Memᴰ·tail (rec (omega (arith, eqb-false c n e)))
+
+pub length-below : (n : ℕ) → length (below n) ≡ n
+unfolding below
+length-below zero = refl
+length-below (suc n) = ap suc (length-below n)
+
+pub once-within : (ns rest : List ℕ) → Once ns → ((c : ℕ) → List·Memᴰ c ns → List·Memᴰ c rest) → length ns ≤ length rest
+once-within [] rest one sub = omega arith
+once-within (c ∷ ns) rest one sub =
+    let less = without-less c rest (sub c (List·Memᴰ·head refl)) in
+    let more = once-within ns (without c rest) (one .1) (λ d i. in-without c d rest (sub d (List·Memᴰ·tail i)) (one .0 d i)) in
+    omega (arith, less, more)
+
+pub once-below : (n : ℕ) (ns : List ℕ) → Once ns → ((c : ℕ) → List·Memᴰ c ns → c < n) → length ns ≤ n
+once-below n ns one low = omega (arith, once-within ns (below n) one (λ c i. below-in n c (low c i)), length-below n)
