@@ -1,6 +1,6 @@
 -- The order of keys and the bucket of a time, with their laws: what all proofs use. Outside this file only the functions
 -- that compute them and runs that are computed open either.
---     lower                                 the order of keys: by time, then ticket
+--     lowerKey, keyOf, lower                the order of keys: by time, then ticket; of items by their keys (lower-keys)
 --     SameKey, lower-by-key                 one key; the order looks at nothing else
 --     bucketOf, itemBucket, item-bucket     the bucket of a time, and of an item
 --     lower-irr, lower-trans                the order is strict
@@ -17,11 +17,22 @@ use lib.Dec.{eqb, ltb}
 use borrow.Author.Tests.{eqb-true, eq-eqb, ltb-true, ltb-false, lt-ltb, le-ltb}
 use Rattle.arrival.specs.declared.Shape.{Shape}
 use Rattle.arrival.specs.declared.Item.{Item}
+use Rattle.arrival.specs.declared.Key.{Key}
 use Rattle.laws.specs.Tests.{never, parts}
 
 -- by time, then ticket
+abbrev pub lowerKey : Key → Key → Bool
+lowerKey a b = ltb (a .time) (b .time) || (eqb (a .time) (b .time) && ltb (a .ticket) (b .ticket))
+
+abbrev pub keyOf : Item → Key
+keyOf x = record { time = x .time; ticket = x .ticket }
+
 unfoldable pub lower : Item → Item → Bool
-lower a b = ltb (a .time) (b .time) || (eqb (a .time) (b .time) && ltb (a .ticket) (b .ticket))
+lower a b = lowerKey (keyOf a) (keyOf b)
+
+pub lower-keys : (x y : Item) (a b : Key) → a ≡ keyOf x → b ≡ keyOf y → lowerKey a b ≡ lower x y
+unfolding lower
+lower-keys x y a b p q = λ j. lowerKey (p j) (q j)
 
 -- one key
 pub record SameKey (a b : Item) : Type 0 where

@@ -1,7 +1,7 @@
 // The types that specifications and code share, the order of keys and the bucket of a time.
 ghost use mathlib.Core.Path.{_≡_};
 ghost use Prim.Native.Nat.{_≤_};
-ghost use Rattle.arrival.specs.Keys.{lower, bucketOf};
+ghost use Rattle.arrival.specs.Keys.{lowerKey, bucketOf};
 
 pub mod spreading;
 
@@ -60,6 +60,12 @@ pub struct Item {
     pub ticket: u64,
 }
 
+// What an item's place in the order is read from.
+pub struct Key {
+    pub time: u64,
+    pub ticket: u64,
+}
+
 // What a host asks of an open pool: a put start, a take start or a turn, each of one worker.
 pub enum Action {
     Enqueue(u64, Arrival),
@@ -84,9 +90,9 @@ pub enum Response {
     Refused(u64),
 }
 
-// Whether a's key is lower than b's.
-pub fn is_lower(a: Item, b: Item) -> bool
-    ensures { λ r. ⌜ r ≡ lower a b ⌝ }
+// Whether key a is lower than key b.
+pub fn is_lower(a: Key, b: Key) -> bool
+    ensures { λ r. ⌜ r ≡ lowerKey a b ⌝ }
 {
     (a.time < b.time) | (a.time == b.time) & (a.ticket < b.ticket)
 }

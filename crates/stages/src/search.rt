@@ -16,6 +16,7 @@ use words::field;
 use words::get_cell;
 use words::get_word;
 use words::item_at;
+use words::key_at;
 use words::put_cell;
 use words::put_field;
 use words::replies::Reply;
@@ -76,8 +77,8 @@ pub fn step_2(shape: Shape, mut w: Worker, store: &[u64]) -> Reply
     if link % 2 == 1 {
         return go_on(3, w);
     }
-    let there = item_at(shape, right, store);
-    let own = item_at(shape, w.own, store);
+    let there = key_at(shape, right, store);
+    let own = key_at(shape, w.own, store);
     if is_lower(there, own) {
         w.left = shape.buckets + right;
         w.right = link / 2;

@@ -1,9 +1,11 @@
 // The lent store by place: reading and writing one word. Only these functions know addresses.
 ghost use mathlib.Core.Path.{_≡_};
 ghost use Prim.Native.Nat.{_+_, _-_, _*_, _<_, _≤_};
+ghost use Rattle.arrival.specs.Keys.{keyOf};
 ghost use Rattle.calendar.specs.rules.Layout.{word, cell, field, layout, read, write, itemAt};
 ghost use Rattle.words.specs.Laid.{Laid};
 use arrival::Item;
+use arrival::Key;
 use arrival::Shape;
 
 pub mod field;
@@ -79,6 +81,17 @@ pub fn put_field(shape: Shape, f: u64, n: u64, v: u64, store: &mut [u64])
     ensures { λ r. ⌜ now (store .exit) ≡ write shape (now (store .entry)) (field f n) v ⌝ }
 {
     store[(3 + shape.buckets + 8 * n + f) as usize] = v;
+}
+
+// The key of the arrival in node n.
+pub fn key_at(shape: Shape, n: u64, store: &[u64]) -> Key
+    requires { ⌜ Laid shape (now store) ⌝ }
+    requires { ⌜ n < shape .nodes ⌝ }
+    ensures { λ r. ⌜ r ≡ keyOf (itemAt shape (now (store .entry)) n) ⌝ }
+{
+    let time = get_field(shape, field::TIME, n, store);
+    let ticket = get_field(shape, field::TICKET, n, store);
+    Key { time, ticket }
 }
 
 // The arrival in node n, with its ticket.

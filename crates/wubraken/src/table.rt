@@ -8,8 +8,8 @@ ghost use Rattle.calendar.specs.rules.Ranges.{shapeInRange, blank};
 ghost use Rattle.wubraken.specs.Survey.{seen, surveyed, survey};
 use admission::ranges::record_in_range;
 use admission::ranges::shape_in_range;
-use arrival::Shape;
 use arrival::IDLE_WORKER;
+use arrival::Shape;
 use arrival::Worker;
 use starts::free::lower_ticket;
 

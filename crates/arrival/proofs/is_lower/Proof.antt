@@ -1,11 +1,9 @@
 -- `arrival::is_lower` computes the order of keys. Assumes nothing.
 use borrow.Author.Needs.{needs}
-use Rattle.arrival.specs.Keys.{lower}
 use Rattle.arrival.proofs.is_lower.Statement.{statement}
 use Rattle.arrival.proofs.is_lower.Tie as tie
 
 returns : tie.Need-returns
-unfolding lower
 returns c = search needs
 
 pub is-lower-spec : {M : Type 1} → statement M

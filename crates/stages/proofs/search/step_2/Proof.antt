@@ -1,4 +1,6 @@
 -- Stage 2 is its rule, case by case. Assumes nothing.
+use mathlib.Core.Path.{_∙_}
+use Rattle.arrival.specs.Keys.{lower-keys}
 use Rattle.calendar.specs.rules.SearchSteps.{step-2}
 use borrow.Author.Tests.{eq-eqb, ne-eqb}
 use Rattle.stages.specs.Ready.{holds}
@@ -19,11 +21,11 @@ returns : tie.Need-returns
 unfolding step-2
 returns c = rw (← c .before .before .get-cell .ensures, eq-eqb _ _ (c .before .if1 .taken), c .go-on .ensures)
 
-item-at-requires : tie.Need-item-at-requires
-item-at-requires c κs = search needs
+key-at-requires : tie.Need-key-at-requires
+key-at-requires c κs = search needs
 
-item-at-requires-2 : tie.Need-item-at-requires-2
-item-at-requires-2 c κs = search needs
+key-at-requires-2 : tie.Need-key-at-requires-2
+key-at-requires-2 c κs = search needs
 
 is-lower-requires : tie.Need-is-lower-requires
 is-lower-requires c κs = search needs
@@ -39,11 +41,11 @@ end-search-requires c κs = holds _ _ _ (c .before .before .before .before .befo
 
 returns-2 : tie.Need-returns-2
 unfolding step-2
-returns-2 c = rw (← c .before .before .before .before .before .before .before .get-cell .ensures, ne-eqb _ _ (c .before .before .before .before .before .before .if1 .left), ← c .before .before .before .before .before .item-at .ensures, ← c .before .before .before .before .item-at2 .ensures, ← c .before .before .before .is-lower .ensures, c .before .before .if2 .taken) (c .settle-right .ensures)
+returns-2 c = rw (← c .before .before .before .before .before .before .before .get-cell .ensures, ne-eqb _ _ (c .before .before .before .before .before .before .if1 .left), ← (c .before .before .before .is-lower .ensures ∙ lower-keys _ _ _ _ (c .before .before .before .before .before .key-at .ensures) (c .before .before .before .before .key-at2 .ensures)), c .before .before .if2 .taken) (c .settle-right .ensures)
 
 returns-3 : tie.Need-returns-3
 unfolding step-2
-returns-3 c = rw (← c .before .before .before .before .before .before .get-cell .ensures, ne-eqb _ _ (c .before .before .before .before .before .if1 .left), ← c .before .before .before .before .item-at .ensures, ← c .before .before .before .item-at2 .ensures, ← c .before .before .is-lower .ensures, c .before .if2 .left) (c .end-search .ensures)
+returns-3 c = rw (← c .before .before .before .before .before .before .get-cell .ensures, ne-eqb _ _ (c .before .before .before .before .before .if1 .left), ← (c .before .before .is-lower .ensures ∙ lower-keys _ _ _ _ (c .before .before .before .before .key-at .ensures) (c .before .before .before .key-at2 .ensures)), c .before .if2 .left) (c .end-search .ensures)
 
 pub step-2-spec : {M : Type 1} → statement M
 step-2-spec =
@@ -53,8 +55,8 @@ step-2-spec =
     get-cell-requires
     go-on-requires
     returns
-    item-at-requires
-    item-at-requires-2
+    key-at-requires
+    key-at-requires-2
     is-lower-requires
     add-w
     settle-right-requires
