@@ -65,10 +65,11 @@ lastNode sh s = read sh s (word 2)
 abbrev pub head : Shape → List ℕ → ℕ → ℕ
 head sh s b = read sh s (cell b)
 
--- the eight words of node n: its link, and seven fields
+-- the cell of node n's link
 abbrev pub linkCell : Shape → ℕ → ℕ
 linkCell sh n = sh .buckets + n
 
+-- the eight words of node n, the link first
 abbrev pub link : Shape → List ℕ → ℕ → ℕ
 link sh s n = read sh s (cell (linkCell sh n))
 
