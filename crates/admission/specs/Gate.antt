@@ -7,7 +7,7 @@ use Prim.Native.Nat.{ℕ, zero, suc, _≤_, _<_}
 use native.Mathlib.Omega.{arith}
 use lib.Dec.{eqb, ltb}
 use lib.ListN.{length, set}
-use borrow.Author.Tests.{eqb-true, ltb-false, leb-false, le-leb, lt-leb, le-ltb, eq-eqb, ne-eqb}
+use borrow.Author.Tests.{not-false, eqb-true, ltb-false, leb-false, le-leb, lt-leb, le-ltb, eq-eqb, ne-eqb}
 use Rattle.arrival.specs.declared.Shape.{Shape}
 use Rattle.arrival.specs.declared.Arrival.{Arrival}
 use Rattle.arrival.specs.declared.Worker.{Worker}
@@ -28,10 +28,6 @@ use Rattle.admission.specs.Watched.{Watched}
 unfoldable pub gateOf : Shape → ℕ → ℕ → ℕ → Bool → ℕ
 gateOf sh words records i sound = firstOf (memoryTests sh (short sh words records) (not sound) i)
 
-holds : (b : Bool) → not b ≡ false → b ≡ true
-holds true e = refl
-holds false e = sym e
-
 -- what no refusal of the gate's, or of an opening, tells
 gate-none : (sh : Shape) (words records i : ℕ) (sound : Bool) → gateOf sh words records i sound ≡ 0 → None (memoryTests sh (short sh words records) (not sound) i)
 unfolding gateOf
@@ -40,12 +36,12 @@ gate-none sh words records i sound e = first-none (memoryTests sh (short sh word
 pub gate-passed : (sh : Shape) (words records i : ℕ) (sound : Bool) → gateOf sh words records i sound ≡ 0 → (sound ≡ true) × (i < sh .workers)
 gate-passed sh words records i sound e =
     let (one, (two, (three, (last, tt)))) = gate-none sh words records i sound e in
-    (holds sound three, leb-false (sh .workers) i last)
+    (not-false sound three, leb-false (sh .workers) i last)
 
 lent : (sh : Shape) (m : Memory) → badShape sh ≡ false → tooShort sh (m .store) (m .table) ≡ false → Lent sh (m .store) (m .table)
 lent sh m one two =
     let (store, table) = neither _ _ two in
-    record { limits = limits sh (holds _ one); store = ltb-false _ _ store; table = ltb-false _ _ table }
+    record { limits = limits sh (not-false _ one); store = ltb-false _ _ store; table = ltb-false _ _ table }
 
 -- an action's own refusals
 abbrev pub ownOf : Shape → Memory → Action → List (ℕ × Bool)
@@ -60,7 +56,7 @@ module _ (sh : Shape) (m : Memory) (sound : Bool) (watched : Watched sh m sound)
   usable i e =
       let (one, (two, (three, (last, tt)))) = gate-none sh (length (m .store)) (length (m .table)) i sound e in
       let l = lent sh m one two in
-      let (store, table) = parts (storeInRange sh (m .store)) (tableInRange sh (m .table)) (sym (watched l) ∙ holds sound three) in
+      let (store, table) = parts (storeInRange sh (m .store)) (tableInRange sh (m .table)) (sym (watched l) ∙ not-false sound three) in
       record { lent = l; store = store-ranges sh (m .store) store; table = table-ranges sh (m .table) table; exists = leb-false (sh .workers) i last }
 
   -- with the flag for 3 the memory's tests give the same
@@ -110,7 +106,7 @@ pub open-passed : (sh : Shape) (words records : ℕ) → openGate sh words recor
 open-passed sh words records e =
     let (one, (few, tt)) = open-none sh words records e in
     let (store, table) = neither _ _ few in
-    (limits sh (holds _ one), ltb-false _ _ store, ltb-false _ _ table)
+    (limits sh (not-false _ one), ltb-false _ _ store, ltb-false _ _ table)
 
 -- a flag that is down where 1 or 2 applies
 abbrev pub Tight : Shape → ℕ → ℕ → Bool → Type 0

@@ -15,11 +15,5 @@ least-taken n t zero h = refl
 least-taken n t (suc k) h = rw (least-taken n t k (omega arith), getD-take n t k blank (omega arith))
 
 module _ {A : Type 0} (x : A) where
-  pub over-taken : (n : ℕ) (t : List A) (k : ℕ) → k ≤ n → n ≤ length t → take n (replicate k x ++ drop k t) ≡ replicate k x ++ drop k (take n t)
-  over-taken n t zero h l = refl
-  over-taken zero t (suc k) h l = absurd (omega arith)
-  over-taken (suc n) [] (suc k) h l = absurd (omega arith)
-  over-taken (suc n) (y ∷ t) (suc k) h l = ap (λ (u : List A). x ∷ u) (over-taken n t k (omega arith) (omega arith))
-
   pub over-length : (t : List A) (k : ℕ) → k ≤ length t → length (replicate k x ++ drop k t) ≡ length t
   over-length t k h = simp (length-append, length-replicate, length-drop) (omega arith)

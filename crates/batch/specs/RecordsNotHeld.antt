@@ -32,7 +32,7 @@ use Rattle.batch.specs.Batch.{Pool, Answered, opening, acting, Progress,
 use Rattle.batch.specs.RecordsCounted.{countedOf, counted-bound, count-tells, counts}
 use Rattle.batch.specs.Held.{greater, pastOpening, held, heldAll}
 use Rattle.batch.specs.Held as holding
-use Rattle.batch.specs.LentPart.{over-taken}
+use Rattle.laws.specs.Storing.{over-taken}
 
 -- u has the first k records of t, and as many as count
 pub record Alike (k : ℕ) (t u : List Worker) : Type 0 where

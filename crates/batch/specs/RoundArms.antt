@@ -36,7 +36,8 @@ use Rattle.turn_file.specs.Lines.{lineOf}
 use Rattle.turn_file.specs.Buffer.{written, after, written-length}
 use Rattle.batch.specs.Batch.{opening, acting, Progress, hasRoom, wrote, workedAll}
 use Rattle.batch.specs.Held.{greater, heldAll}
-use Rattle.batch.specs.LentPart.{least-taken, over-taken, over-length}
+use Rattle.batch.specs.LentPart.{least-taken, over-length}
+use Rattle.laws.specs.Storing.{over-taken}
 use Rattle.admission.specs.Watched.{Watched, opened-sound}
 use Rattle.admission.specs.Gate.{gateOf, openGate, Tight, gate-opens, open-gate-is, usable, refused-is}
 use Rattle.batch.specs.BatchLoop.{Going, going, go-on, drained, halted, full, at-work, actionLeaks, act-watched}

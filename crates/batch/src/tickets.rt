@@ -1,7 +1,6 @@
 // The tickets of the calls in progress beside the workers' records, so that the least one is found without looking at those.
 ghost use mathlib.Core.Path.{_≡_};
 ghost use Prim.Native.Nat.{_≤_};
-ghost use lib.ListN.{length};
 ghost use Rattle.batch.specs.Tickets.{ticketsOf, least, leastOf, lowFor};
 use arrival::Action;
 use arrival::Worker;
@@ -10,7 +9,6 @@ use words::word;
 
 // The ticket of each record's call; 2^32 where none is in progress.
 pub fn tickets_of(table: [Worker; 64]) -> [u64; 64]
-    requires { ⌜ length table ≡ 64 ⌝ }
     ensures { λ r. ⌜ r ≡ ticketsOf table ⌝ }
 {
     let mut tickets = [word::COUNTS; 64];

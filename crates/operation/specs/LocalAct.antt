@@ -3,15 +3,15 @@
 --     local-enqueue, local-dequeue, local-step  what the code of the three gives is that
 --     Admitted                                  what refusals 1 to 4 leave
 --     act-is                                    put back into the table, it is the action on the lent memory
---     away-is                                   where refusals 1 to 4 give a number, the action is refused by it
 use mathlib.Core.Path.{_≡_, refl, sym, ap, _∙_}
-use mathlib.Core.List.{List, [], _∷_}
+use mathlib.Core.List.{List}
 use mathlib.Core.Bool.{Bool, true, false, cond}
 use mathlib.Core.Logic.{_≢_}
-use Prim.Native.Nat.{ℕ, zero, suc, _≤_}
+use Prim.Native.Nat.{ℕ, _≤_}
 use native.Mathlib.Omega.{arith}
 use lib.Dec.{eqb, leb}
 use lib.ListN.{length, set}
+use lib.Seq.{set-getD}
 use borrow.Author.Tests.{lt-leb, eq-eqb}
 use Rattle.arrival.specs.declared.Shape.{Shape}
 use Rattle.arrival.specs.declared.Arrival.{Arrival}
@@ -19,7 +19,7 @@ use Rattle.arrival.specs.declared.Worker.{Worker}
 use Rattle.arrival.specs.declared.Action.{Action}
 use Rattle.arrival.specs.declared.Action.the-variants.{Enqueue, Dequeue, Step}
 use Rattle.arrival.specs.declared.Response.the-variants.{Refused}
-use Rattle.calendar.specs.rules.Ranges.{worker}
+use Rattle.calendar.specs.rules.Ranges.{blank, worker}
 use Rattle.calendar.specs.rules.Refusals.{firstOf, ownTests}
 use Rattle.calendar.specs.rules.Operations.{Memory, Result, perform, actor, outcomeOf, outcome, refusal, act}
 use Rattle.calendar.specs.facts.RangeFacts.{Limits}
@@ -62,12 +62,6 @@ admitted sh s t i U = record {
 }
 
 -- ── in the table ──
--- storing a record where it stood changes nothing
-pub set-same : (t : List Worker) (i : ℕ) → set t i (worker t i) ≡ t
-set-same [] i = refl
-set-same (w ∷ t) zero = refl
-set-same (w ∷ t) (suc i) = ap (λ (u : List Worker). w ∷ u) (set-same t i)
-
 -- worker i's record back in the table
 abbrev pub back : List Worker → ℕ → Done → Result
 back t i d = record { memory = record { store = d .store; table = set t i (d .worker) }; response = d .response }
@@ -87,7 +81,7 @@ module _ (sh : Shape) (m : Memory) (sound : Bool) (watched : Watched sh m sound)
       go : (b : Bool) → back (m .table) (actor a) (cond b (done sh (m .store) (outcome sh m a)) (refused (m .store) (worker (m .table) (actor a)) (firstOf (ownOf sh m a))))
           ≡ cond b (perform sh m (actor a) (outcome sh m a)) (record { memory = m; response = Refused (firstOf (ownOf sh m a)) })
       go true = refl
-      go false = ap (λ (t : List Worker). record { memory = record { store = m .store; table = t }; response = Refused (firstOf (ownOf sh m a)) }) (set-same (m .table) (actor a))
+      go false = ap (λ (t : List Worker). record { memory = record { store = m .store; table = t }; response = Refused (firstOf (ownOf sh m a)) }) (set-getD (m .table) (actor a) blank)
 
   at-least : (a : Action) → gateOf sh (length (m .store)) (length (m .table)) (actor a) sound ≡ 0
       → back (m .table) (actor a) (localAct sh (leastTicket (m .table) (sh .workers)) (m .store) a (worker (m .table) (actor a))) ≡ act sh m a

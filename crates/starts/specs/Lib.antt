@@ -1,4 +1,3 @@
 pub mod LeastTicket
 pub mod FreeSearch
-pub mod OpenLoop
 pub mod LocalStart

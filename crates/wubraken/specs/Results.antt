@@ -7,6 +7,7 @@ use Prim.Native.Nat.{ℕ}
 use native.Mathlib.Omega.{arith}
 use lib.Dec.{eqb, ltb}
 use lib.ListN.{length, set, drop, replicate}
+use lib.Seq.{set-getD}
 use borrow.Author.Tests.{eqb-true, eqb-false, ltb-false, le-ltb, eq-eqb, ne-eqb}
 use Rattle.arrival.specs.declared.Shape.{Shape}
 use Rattle.arrival.specs.declared.Arrival.{Arrival}
@@ -20,7 +21,7 @@ use Rattle.calendar.specs.rules.Opening.{openStore, openTable}
 use Rattle.calendar.specs.rules.Refusals.{openRefusal}
 use Rattle.calendar.specs.rules.Operations.{Memory, Result, actor, act, open-pool}
 use Rattle.words.specs.Done.{Done, refused, unlessRefused}
-use Rattle.operation.specs.LocalAct.{localAct, LowFor, back, set-same, act-is}
+use Rattle.operation.specs.LocalAct.{localAct, LowFor, back, act-is}
 use Rattle.admission.specs.Watched.{Watched}
 use Rattle.admission.specs.Gate.{soundOf, sound-watched, shape-tests, usable, refused-is, openGate}
 use Rattle.wubraken.specs.declared.table.Survey.{Survey}
@@ -118,7 +119,7 @@ module _ (sh : Shape) (s : List ℕ) (t : List Worker) where
       go : (b : Bool) → eqb (gate (actor a)) 0 ≡ b → back t (actor a) (cond b (localAct sh (survey sh t .low) s a (worker t (actor a))) (refused s (worker t (actor a)) (gate (actor a)))) ≡ act sh (record { store = s; table = t }) a
       go true e = act-is sh m sound W a (survey sh t .low) (low-for a (eqb-true _ 0 e)) (eqb-true _ 0 e)
       go false e =
-          ap (λ (u : List Worker). record { memory = lent s u; response = Refused (gate (actor a)) }) (set-same t (actor a))
+          ap (λ (u : List Worker). record { memory = lent s u; response = Refused (gate (actor a)) }) (set-getD t (actor a) blank)
           ∙ refused-is sh m sound W a (eqb-false _ 0 e)
 
   -- past the records that were looked at there is no worker, or the gate refuses anyway

@@ -26,7 +26,7 @@ abbrev μ-loop : tie.MeasureT-loop
 μ-loop input at₀ out₀ to₀ store₀ shape₀ sound₀ records held₀ table₀ tickets₀ words room stop₀ at out to store shape sound held table tickets stop = length input - at
 
 tickets-of-requires : tie.Need-tickets-of-requires Inv-loop μ-loop
-tickets-of-requires c κs = c .before .before .before .before .before .pre .0
+tickets-of-requires c κs = search needs
 
 loop-holds : tie.Need-loop-holds Inv-loop μ-loop
 loop-holds c =
@@ -58,7 +58,7 @@ cleared-requires : tie.Need-cleared-requires Inv-loop μ-loop
 cleared-requires c κs = lent-to (c .before .before .before .before .before .before .before .before .before .before .before .before .loop .inv .0) _ _ (c .before .before .before .before .before .open-gate .ensures) (c .before .before .before .before .if2 .left) .limits .workers
 
 tickets-of-requires-2 : tie.Need-tickets-of-requires-2 Inv-loop μ-loop
-tickets-of-requires-2 c κs = array-cleared (c .before .before .before .before .before .before .before .before .before .before .before .before .before .loop .inv .0) _ _ (c .before .before .before .before .before .before .open-gate .ensures) (c .before .before .before .before .before .if2 .left) _ (c .cleared .ensures)
+tickets-of-requires-2 c κs = search needs
 
 greater-requires : tie.Need-greater-requires Inv-loop μ-loop
 greater-requires c κs = search needs

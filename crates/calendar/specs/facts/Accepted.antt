@@ -7,7 +7,7 @@ use Prim.Native.Nat.{ℕ, zero, suc, _+_, _*_, _<_, _≤_}
 use native.Mathlib.Omega.{arith}
 use lib.Dec.{eqb, leb, ltb}
 use lib.ListN.{length}
-use borrow.Author.Tests.{ltb-false, leb-false, leb-true, eqb-false, eqb-true, not-true}
+use borrow.Author.Tests.{not-false, ltb-false, leb-false, leb-true, eqb-false, eqb-true, not-true}
 use Rattle.arrival.specs.declared.Shape.{Shape}
 use Rattle.arrival.specs.declared.Arrival.{Arrival}
 use Rattle.arrival.specs.declared.Worker.{Worker}
@@ -55,18 +55,14 @@ pub record StepAccepted (sh : Shape) (s : List ℕ) (t : List Worker) (i : ℕ) 
   pub busy : worker t i .stage ≢ 0
   pub epoch : noEpoch sh s (worker t i) ≡ false
 
-holds : (b : Bool) → not b ≡ false → b ≡ true
-holds true e = refl
-holds false e = sym e
-
 lent : (sh : Shape) (s : List ℕ) (t : List Worker) → badShape sh ≡ false → tooShort sh s t ≡ false → Lent sh s t
 lent sh s t one two =
     let (p, q) = neither _ _ two in
-    record { limits = limits sh (holds _ one); store = ltb-false _ _ p; table = ltb-false _ _ q }
+    record { limits = limits sh (not-false _ one); store = ltb-false _ _ p; table = ltb-false _ _ q }
 
 usable : (sh : Shape) (s : List ℕ) (t : List Worker) (i : ℕ) → badShape sh ≡ false → tooShort sh s t ≡ false → outOfRange sh s t ≡ false → noWorker sh i ≡ false → Usable sh s t i
 usable sh s t i one two three four =
-    let (p, q) = parts (storeInRange sh s) (tableInRange sh t) (holds _ three) in
+    let (p, q) = parts (storeInRange sh s) (tableInRange sh t) (not-false _ three) in
     record { lent = lent sh s t one two; store = store-ranges sh s p; table = table-ranges sh t q; exists = leb-false _ _ four }
 
 pub open-accepted : (sh : Shape) (s : List ℕ) (t : List Worker) → openRefusal sh s t ≡ 0 → Lent sh s t
@@ -79,7 +75,7 @@ pub enqueue-accepted : (sh : Shape) (s : List ℕ) (t : List Worker) (i : ℕ) (
 unfolding enqueueRefusal
 enqueue-accepted sh s t i a e =
     let (one, (two, (three, (four, (five, (six, (nine, (eleven, (twelve, last))))))))) = first-none (enqueueTests sh s t i a) refl e in
-    let (p, far) = parts _ _ (holds _ five) in
+    let (p, far) = parts _ _ (not-false _ five) in
     let (path, order) = parts _ _ p in
     let (some-distance, distance) = parts _ _ far in
     record {
@@ -89,7 +85,7 @@ enqueue-accepted sh s t i a e =
       some-distance = leb-true _ _ some-distance;
       distance = leb-true _ _ distance;
       time = leb-false _ _ six;
-      idle = eqb-true _ _ (holds _ nine);
+      idle = eqb-true _ _ (not-false _ nine);
       ticket = eqb-false _ _ eleven;
       node = eqb-false _ _ twelve;
     }
@@ -98,10 +94,10 @@ pub dequeue-accepted : (sh : Shape) (s : List ℕ) (t : List Worker) (i : ℕ) �
 unfolding dequeueRefusal
 dequeue-accepted sh s t i e =
     let (one, (two, (three, (four, (nine, (eleven, last)))))) = first-none (dequeueTests sh s t i) refl e in
-    record { usable = usable sh s t i one two three four; idle = eqb-true _ _ (holds _ nine); ticket = eqb-false _ _ eleven }
+    record { usable = usable sh s t i one two three four; idle = eqb-true _ _ (not-false _ nine); ticket = eqb-false _ _ eleven }
 
 pub step-accepted : (sh : Shape) (s : List ℕ) (t : List Worker) (i : ℕ) → stepRefusal sh s t i ≡ 0 → StepAccepted sh s t i
 unfolding stepRefusal
 step-accepted sh s t i e =
     let (one, (two, (three, (four, (ten, (eleven, last)))))) = first-none (stepTests sh s t i) refl e in
-    record { usable = usable sh s t i one two three four; busy = eqb-false _ _ (not-true _ (holds _ ten)); epoch = eleven }
+    record { usable = usable sh s t i one two three four; busy = eqb-false _ _ (not-true _ (not-false _ ten)); epoch = eleven }

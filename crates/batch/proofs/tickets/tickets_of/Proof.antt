@@ -3,7 +3,7 @@ use mathlib.Core.Path.{_≡_, refl, sym, ap, _∙_}
 use mathlib.Core.List.{List, _++_}
 use Prim.Native.Nat.{ℕ, _≤_, _-_}
 use native.Mathlib.Omega.{arith}
-use lib.ListN.{set, take, drop, replicate}
+use lib.ListN.{length, set, take, drop, replicate}
 use Rattle.calendar.specs.rules.Ranges.{blank}
 use Rattle.batch.specs.Tickets.{ticketsOf, tickets-more, tickets-all}
 use borrow.Author.Needs.{needs}
@@ -45,13 +45,15 @@ unfolding blank
 loop-again c =
     let t = c .before .before .before .before .args .t1 in
     let i = c .before .before .before .loop .i in
-    (omega arith, ap (λ (ts : List ℕ). set ts i (c .lower-ticket .result)) (c .before .before .before .loop .inv .1) ∙ ap (λ (x : ℕ). set (take i (ticketsOf t) ++ drop i (replicate 64 4294967296)) i x) (c .lower-ticket .ensures) ∙ tickets-more t i (replicate 64 4294967296) (omega (arith, c .before .before .before .before .pre)) (omega arith))
+    let long : length t ≡ 64 = search needs in
+    (omega arith, ap (λ (ts : List ℕ). set ts i (c .lower-ticket .result)) (c .before .before .before .loop .inv .1) ∙ ap (λ (x : ℕ). set (take i (ticketsOf t) ++ drop i (replicate 64 4294967296)) i x) (c .lower-ticket .ensures) ∙ tickets-more t i (replicate 64 4294967296) (omega (arith, long)) (omega arith))
 
 returns : tie.Need-returns Inv-loop μ-loop
 returns c =
     let t = c .before .before .args .t1 in
     let e : c .before .loop .i ≡ 64 = omega arith in
-    c .before .loop .inv .1 ∙ ap (λ (k : ℕ). take k (ticketsOf t) ++ drop k (replicate 64 4294967296)) e ∙ tickets-all t 64 (replicate 64 4294967296) (c .before .before .pre) refl
+    let long : length t ≡ 64 = search needs in
+    c .before .loop .inv .1 ∙ ap (λ (k : ℕ). take k (ticketsOf t) ++ drop k (replicate 64 4294967296)) e ∙ tickets-all t 64 (replicate 64 4294967296) long refl
 
 pub tickets-of-spec : {M : Type 1} → statement M
 tickets-of-spec =

@@ -7,7 +7,7 @@ use lib.ListN.{length, drop, length-set}
 use Rattle.calendar.specs.rules.Layout.{layout}
 use Rattle.calendar.specs.rules.Opening.{openWord, openStore}
 use Rattle.laws.specs.Lists.{wordsFrom}
-use Rattle.starts.specs.OpenLoop.{words-none, words-more}
+use Rattle.laws.specs.Storing.{words-none, words-more}
 use borrow.Author.Needs.{needs}
 use Rattle.starts.proofs.opening.open_store.Statement.{statement}
 use Rattle.starts.proofs.opening.open_store.Tie as tie
