@@ -29,7 +29,8 @@ unfoldable pub gateOf : Shape → ℕ → ℕ → ℕ → Bool → ℕ
 gateOf sh words records i sound = firstOf (memoryTests sh (short sh words records) (not sound) i)
 
 -- what no refusal of the gate's, or of an opening, tells
-gate-none : (sh : Shape) (words records i : ℕ) (sound : Bool) → gateOf sh words records i sound ≡ 0 → None (memoryTests sh (short sh words records) (not sound) i)
+gate-none : (sh : Shape) (words records i : ℕ) (sound : Bool) → gateOf sh words records i sound ≡ 0
+    → None (memoryTests sh (short sh words records) (not sound) i)
 unfolding gateOf
 gate-none sh words records i sound e = first-none (memoryTests sh (short sh words records) (not sound) i) refl e
 
@@ -67,7 +68,9 @@ module _ (sh : Shape) (m : Memory) (sound : Bool) (watched : Watched sh m sound)
 
   gate-is : (i : ℕ) → firstOf (memoryOf sh (m .store) (m .table) i) ≡ gateOf sh (length (m .store)) (length (m .table)) i sound
   unfolding gateOf
-  gate-is i = memory-is (badShape sh) (tooShort sh (m .store) (m .table)) (outOfRange sh (m .store) (m .table)) (not sound) i refl (λ one two. ap not (sym (watched (lent sh m one two))))
+  gate-is i =
+      memory-is (badShape sh) (tooShort sh (m .store) (m .table)) (outOfRange sh (m .store) (m .table)) (not sound) i refl
+      (λ one two. ap not (sym (watched (lent sh m one two))))
 
   gate-first : (i : ℕ) (own : List (ℕ × Bool)) → firstOf (memoryOf sh (m .store) (m .table) i ++ own) ≡ cond (eqb (gate i) 0) (firstOf own) (gate i)
   gate-first i own =
@@ -87,7 +90,12 @@ module _ (sh : Shape) (m : Memory) (sound : Bool) (watched : Watched sh m sound)
 
   -- nothing refuses a turn at stage 3
   pub turn-at-3 : (i : ℕ) → gateOf sh (length (m .store)) (length (m .table)) i sound ≡ 0 → worker (m .table) i .stage ≡ 3 → refusal sh m (Step i) ≡ 0
-  turn-at-3 i z q = refusal-is (Step i) ∙ rw (eq-eqb (gate i) 0 z, ne-eqb (worker (m .table) i .stage) 0 (λ e. omega arith), ne-eqb (worker (m .table) i .stage) 7 (λ e. omega arith)) refl
+  turn-at-3 i z q =
+      refusal-is (Step i) ∙ rw (
+        eq-eqb (gate i) 0 z,
+        ne-eqb (worker (m .table) i .stage) 0 (λ e. omega arith),
+        ne-eqb (worker (m .table) i .stage) 7 (λ e. omega arith),
+      ) refl
 
 -- Opening's refusals.
 unfoldable pub openGate : Shape → ℕ → ℕ → ℕ
@@ -120,7 +128,8 @@ gate-opens sh words records i sound e =
     rw (one, short-of)
 
 -- a worker that exists passes where the flag is up and 1 and 2 do not apply
-pub passes : (sh : Shape) (words records i : ℕ) (sound : Bool) → openGate sh words records ≡ 0 → sound ≡ true → i < sh .workers → gateOf sh words records i sound ≡ 0
+pub passes : (sh : Shape) (words records i : ℕ) (sound : Bool) → openGate sh words records ≡ 0 → sound ≡ true → i < sh .workers
+    → gateOf sh words records i sound ≡ 0
 unfolding gateOf openGate
 passes sh words records i sound e up h =
     let (one, (short-of, tt)) = open-none sh words records e in
@@ -157,6 +166,7 @@ unfolding openGate
 lent-passes sh m l =
     rw (shape-tests sh (l .limits), le-ltb (length (m .store)) (layout sh) (l .store), le-ltb (length (m .table)) (sh .workers) (l .table))
 
-pub sound-watched : (sh : Shape) (m : Memory) (ok : Bool) → (Lent sh (m .store) (m .table) → ok ≡ tableInRange sh (m .table)) → Watched sh m (soundOf sh (m .store) (length (m .table)) ok)
+pub sound-watched : (sh : Shape) (m : Memory) (ok : Bool) → (Lent sh (m .store) (m .table) → ok ≡ tableInRange sh (m .table))
+    → Watched sh m (soundOf sh (m .store) (length (m .table)) ok)
 unfolding soundOf
 sound-watched sh m ok h l = rw (eq-eqb _ 0 (lent-passes sh m l), h l)

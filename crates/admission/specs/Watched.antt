@@ -41,7 +41,11 @@ abbrev pub Watched : Shape → Memory → Bool → Type 0
 Watched sh m sound = Lent sh (m .store) (m .table) → sound ≡ inRange sh m
 
 pub opened-sound : (sh : Shape) (m : Memory) → Limits sh → inRange sh (record { store = openStore sh (m .store); table = openTable sh (m .table) }) ≡ true
-opened-sound sh m l = rw (store-tests sh (openStore sh (m .store)) (open-store-ranged sh (m .store) l), table-tests sh (openTable sh (m .table)) (open-table-ranged sh (m .table) l))
+opened-sound sh m l =
+    rw (
+      store-tests sh (openStore sh (m .store)) (open-store-ranged sh (m .store) l),
+      table-tests sh (openTable sh (m .table)) (open-table-ranged sh (m .table) l),
+    )
 
 module _ (sh : Shape) (m : Memory) (i : ℕ) (U : Usable sh (m .store) (m .table) i) (o : Outcome) where
   -- the records, with worker i's in range
@@ -54,19 +58,22 @@ module _ (sh : Shape) (m : Memory) (i : ℕ) (U : Usable sh (m .store) (m .table
           subst (λ k. RecordRanges sh (worker (set (m .table) i (o .worker)) k)) (eqb-true i j e) (subst⁻¹ (λ w. RecordRanges sh w) same r)
       go j h false e = subst⁻¹ (λ w. RecordRanges sh w) (getD-set-other (m .table) i j (o .worker) blank (λ q. eqb-false i j e (sym q))) (U .table j h)
 
-  kept-sound : AllInside sh (o .writes) → StoreRanges sh (updates (o .writes) (view sh (m .store))) → RecordRanges sh (o .worker) → inRange sh (perform sh m i o .memory) ≡ true
+  kept-sound : AllInside sh (o .writes) → StoreRanges sh (updates (o .writes) (view sh (m .store))) → RecordRanges sh (o .worker)
+      → inRange sh (perform sh m i o .memory) ≡ true
   kept-sound ins ranged r =
       let v = view-writeAll sh (m .store) (o .writes) (U .lent .store) ins in
       rw (store-tests sh (writeAll sh (m .store) (o .writes)) (subst⁻¹ (λ x. StoreRanges sh x) v ranged), table-sound r)
 
-pub enqueue-sound : (sh : Shape) (m : Memory) (i : ℕ) (a : Arrival) → EnqueueAccepted sh (m .store) (m .table) i a → inRange sh (perform sh m i (outcome sh m (Enqueue i a)) .memory) ≡ true
+pub enqueue-sound : (sh : Shape) (m : Memory) (i : ℕ) (a : Arrival) → EnqueueAccepted sh (m .store) (m .table) i a
+    → inRange sh (perform sh m i (outcome sh m (Enqueue i a)) .memory) ≡ true
 enqueue-sound sh m i a A =
     let (store, rec) = enqueue-ranged sh (m .store) (m .table) i a A in
     let x = firstFree sh (m .store) (m .table) in
     let isNode = first-free-node sh (m .store) (m .table) (A .usable .store .last) (A .node) in
     kept-sound sh m i (A .usable) (outcome sh m (Enqueue i a)) (enqueue-inside sh (m .store) x a (worker (m .table) i) isNode) store rec
 
-pub dequeue-sound : (sh : Shape) (m : Memory) (i : ℕ) → DequeueAccepted sh (m .store) (m .table) i → inRange sh (perform sh m i (outcome sh m (Dequeue i)) .memory) ≡ true
+pub dequeue-sound : (sh : Shape) (m : Memory) (i : ℕ) → DequeueAccepted sh (m .store) (m .table) i
+    → inRange sh (perform sh m i (outcome sh m (Dequeue i)) .memory) ≡ true
 dequeue-sound sh m i A =
     let (store, rec) = dequeue-ranged sh (m .store) (m .table) i A in
     kept-sound sh m i (A .usable) (outcome sh m (Dequeue i)) (dequeue-inside sh (m .store) (worker (m .table) i)) store rec
@@ -101,11 +108,13 @@ module _ (sh : Shape) (m : Memory) (i : ℕ) (A : StepAccepted sh (m .store) (m 
       kept-sound sh m i (A .usable) o (change-inside sh s w r c) (store t) rec
 
   -- the node that 3 unlinks is retired, and its distance is still 0
-  unlinking : worker (m .table) i .stage ≡ 3 → leftHolds sh (m .store) (worker (m .table) i) ≡ true → step sh (m .store) (worker (m .table) i) .writes ≡ unlink sh (m .store) (worker (m .table) i)
+  unlinking : worker (m .table) i .stage ≡ 3 → leftHolds sh (m .store) (worker (m .table) i) ≡ true
+      → step sh (m .store) (worker (m .table) i) .writes ≡ unlink sh (m .store) (worker (m .table) i)
   unfolding step-3
   unlinking q h = ap (λ (x : Outcome). x .writes) (step-at sh s w 3 q) ∙ rw h (settle-writes sh s (unlink sh s w) _)
 
-  leaked : worker (m .table) i .stage ≡ 3 → leftHolds sh (m .store) (worker (m .table) i) ≡ true → view sh (m .store) .distance (worker (m .table) i .right) ≡ 0 → inRange sh (perform sh m i (outcome sh m (Step i)) .memory) ≡ false
+  leaked : worker (m .table) i .stage ≡ 3 → leftHolds sh (m .store) (worker (m .table) i) ≡ true → view sh (m .store) .distance (worker (m .table) i .right) ≡ 0
+      → inRange sh (perform sh m i (outcome sh m (Step i)) .memory) ≡ false
   leaked at-3 holds near = rw (go (storeInRange sh (writeAll sh s (o .writes))) refl)
     where
       isNode : worker (m .table) i .right < sh .nodes

@@ -30,7 +30,10 @@ pub record Answered : Type 0 where
 unfoldable pub opening : Shape → Pool → Answered
 opening sh x =
     let r = open-pool sh (x .memory) in
-    record { pool = record { shape = cond (eqb (openRefusal sh (x .memory .store) (x .memory .table)) 0) sh (x .shape); memory = r .memory }; response = r .response }
+    record {
+      pool = record { shape = cond (eqb (openRefusal sh (x .memory .store) (x .memory .table)) 0) sh (x .shape); memory = r .memory };
+      response = r .response;
+    }
 
 -- A start or turn is handed the shape so far.
 unfoldable pub acting : Action → Pool → Answered

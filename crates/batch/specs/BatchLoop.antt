@@ -35,7 +35,8 @@ actionLeaks sh s (Enqueue i x) w = false
 actionLeaks sh s (Dequeue i) w = false
 actionLeaks sh s (Step i) w = leaks sh s w
 
-module _ (sh : Shape) (m : Memory) (sound : Bool) (watched : Watched sh m sound) (a : Action) (z : gateOf sh (length (m .store)) (length (m .table)) (actor a) sound ≡ 0) where
+module _ (sh : Shape) (m : Memory) (sound : Bool) (watched : Watched sh m sound) (a : Action)
+    (z : gateOf sh (length (m .store)) (length (m .table)) (actor a) sound ≡ 0) where
   U : Usable sh (m .store) (m .table) (actor a)
   U = usable sh m sound watched (actor a) z
 
@@ -43,11 +44,13 @@ module _ (sh : Shape) (m : Memory) (sound : Bool) (watched : Watched sh m sound)
   ranged = sym (watched (U .lent)) ∙ gate-passed sh (length (m .store)) (length (m .table)) (actor a) sound z .0
 
   -- by whether it is refused after all
-  past : (b : Bool) → (refusal sh m a ≡ 0 → inRange sh (perform sh m (actor a) (outcome sh m a) .memory) ≡ b) → (refusal sh m a ≢ 0 → b ≡ true) → b ≡ inRange sh (act sh m a .memory)
+  past : (b : Bool) → (refusal sh m a ≡ 0 → inRange sh (perform sh m (actor a) (outcome sh m a) .memory) ≡ b) → (refusal sh m a ≢ 0 → b ≡ true)
+      → b ≡ inRange sh (act sh m a .memory)
   unfolding act
   past b did not-done = go (eqb (refusal sh m a) 0) refl
     where
-      go : (c : Bool) → eqb (refusal sh m a) 0 ≡ c → b ≡ inRange sh (cond c (perform sh m (actor a) (outcome sh m a)) (record { memory = m; response = response.Refused (refusal sh m a) }) .memory)
+      go : (c : Bool) → eqb (refusal sh m a) 0 ≡ c
+          → b ≡ inRange sh (cond c (perform sh m (actor a) (outcome sh m a)) (record { memory = m; response = response.Refused (refusal sh m a) }) .memory)
       go true e = sym (did (eqb-true (refusal sh m a) 0 e))
       go false e = not-done (eqb-false (refusal sh m a) 0 e) ∙ sym ranged
 
@@ -60,7 +63,8 @@ idle-tight sh m sound watched i z n = go (eqb (worker (m .table) i .stage) 3) re
     go false e = rw e
     go true e = absurd (n (turn-at-3 sh m sound watched i z (eqb-true (worker (m .table) i .stage) 3 e)))
 
-pub act-watched : (sh : Shape) (m : Memory) (sound : Bool) → Watched sh m sound → (a : Action) → gateOf sh (length (m .store)) (length (m .table)) (actor a) sound ≡ 0
+pub act-watched : (sh : Shape) (m : Memory) (sound : Bool) → Watched sh m sound → (a : Action)
+    → gateOf sh (length (m .store)) (length (m .table)) (actor a) sound ≡ 0
     → Watched sh (act sh m a .memory) (not (actionLeaks sh (m .store) a (worker (m .table) (actor a))))
 act-watched sh m sound w (Enqueue i x) z l =
     past sh m sound w (Enqueue i x) z true (λ e. enqueue-sound sh m i x (enqueue-accepted sh (m .store) (m .table) i x e)) (λ n. refl)
@@ -97,18 +101,21 @@ holding (opens sh) x h = pastOpening sh x h
 holding (acts a) x h = h
 
 module _ (bytes : List ℕ) (p₀ : Progress) (h₀ : ℕ) (p : Progress) (h : ℕ) (sound : Bool) (G : Going bytes p₀ h₀ p h sound) where
-  worked-on : (n : ℕ) → hasRoom (p .lines) (p .to) ≡ true → (r : Record) (next : ℕ) → whole r next ≡ recordAt bytes (p .at) → worked (suc n) bytes p ≡ worked n bytes (wrote p next (answer r (p .pool)))
+  worked-on : (n : ℕ) → hasRoom (p .lines) (p .to) ≡ true → (r : Record) (next : ℕ) → whole r next ≡ recordAt bytes (p .at)
+      → worked (suc n) bytes p ≡ worked n bytes (wrote p next (answer r (p .pool)))
   unfolding worked
   worked-on n room (opens sh) next e = rw (room, ← e)
   worked-on n room (acts a) next e = rw (room, ← e)
 
-  held-on : (n : ℕ) → hasRoom (p .lines) (p .to) ≡ true → (r : Record) (next : ℕ) → whole r next ≡ recordAt bytes (p .at) → held (suc n) bytes h p ≡ held n bytes (holding r (p .pool) h) (wrote p next (answer r (p .pool)))
+  held-on : (n : ℕ) → hasRoom (p .lines) (p .to) ≡ true → (r : Record) (next : ℕ) → whole r next ≡ recordAt bytes (p .at)
+      → held (suc n) bytes h p ≡ held n bytes (holding r (p .pool) h) (wrote p next (answer r (p .pool)))
   unfolding held
   held-on n room (opens sh) next e = rw (room, ← e)
   held-on n room (acts a) next e = rw (room, ← e)
 
   -- one record more
-  pub go-on : hasRoom (p .lines) (p .to) ≡ true → (r : Record) (next : ℕ) → whole r next ≡ recordAt bytes (p .at) → (p′ : Progress) → p′ ≡ wrote p next (answer r (p .pool))
+  pub go-on : hasRoom (p .lines) (p .to) ≡ true → (r : Record) (next : ℕ) → whole r next ≡ recordAt bytes (p .at) → (p′ : Progress)
+      → p′ ≡ wrote p next (answer r (p .pool))
       → (h′ : ℕ) → h′ ≡ holding r (p .pool) h → (sound′ : Bool) → Watched (p′ .pool .shape) (p′ .pool .memory) sound′ → Going bytes p₀ h₀ p′ h′ sound′
   go-on room r next e p′ is h′ holds sound′ w = go (G .left) (G .enough) (G .same) (G .holds)
     where
@@ -118,25 +125,32 @@ module _ (bytes : List ℕ) (p₀ : Progress) (h₀ : ℕ) (p : Progress) (h : �
       there : p′ .at ≡ next
       there = ap (λ (q : Progress). q .at) is
 
-      go : (left : ℕ) → length bytes - p .at ≤ left → worked (suc left) bytes p ≡ workedAll bytes p₀ → held (suc left) bytes h p ≡ heldAll bytes h₀ p₀ → Going bytes p₀ h₀ p′ h′ sound′
+      go : (left : ℕ) → length bytes - p .at ≤ left → worked (suc left) bytes p ≡ workedAll bytes p₀ → held (suc left) bytes h p ≡ heldAll bytes h₀ p₀
+          → Going bytes p₀ h₀ p′ h′ sound′
       go zero b s k = absurd (omega (arith, on .0, on .1))
       go (suc left) b s k = record {
         left = left;
         enough = omega (arith, on .0, on .1, there);
         same = ap (worked (suc left) bytes) is ∙ sym (worked-on (suc left) room r next e) ∙ s;
-        holds = ap (held (suc left) bytes h′) is ∙ ap (λ (i : ℕ). held (suc left) bytes i (wrote p next (answer r (p .pool)))) holds ∙ sym (held-on (suc left) room r next e) ∙ k;
+        holds = ap (held (suc left) bytes h′) is
+            ∙ ap (λ (i : ℕ). held (suc left) bytes i (wrote p next (answer r (p .pool)))) holds
+            ∙ sym (held-on (suc left) room r next e)
+            ∙ k;
         watched = w;
       }
 
   -- the ends
-  from : (stopped : Stopped) → ((n : ℕ) → stopped ≡ worked (suc n) bytes p) → ((n : ℕ) → h ≡ held (suc n) bytes h p) → (stopped ≡ workedAll bytes p₀) × (h ≡ heldAll bytes h₀ p₀)
+  from : (stopped : Stopped) → ((n : ℕ) → stopped ≡ worked (suc n) bytes p) → ((n : ℕ) → h ≡ held (suc n) bytes h p)
+      → (stopped ≡ workedAll bytes p₀) × (h ≡ heldAll bytes h₀ p₀)
   from stopped f g = (f (G .left) ∙ G .same, g (G .left) ∙ G .holds)
 
-  pub drained : hasRoom (p .lines) (p .to) ≡ true → End ≡ recordAt bytes (p .at) → (record { progress = p; stop = Drained } ≡ workedAll bytes p₀) × (h ≡ heldAll bytes h₀ p₀)
+  pub drained : hasRoom (p .lines) (p .to) ≡ true → End ≡ recordAt bytes (p .at)
+      → (record { progress = p; stop = Drained } ≡ workedAll bytes p₀) × (h ≡ heldAll bytes h₀ p₀)
   unfolding worked held
   drained room e = from _ (λ n. rw (room, ← e)) (λ n. rw (room, ← e))
 
-  pub halted : hasRoom (p .lines) (p .to) ≡ true → (k : ℕ) → Refused k ≡ recordAt bytes (p .at) → (record { progress = p; stop = Halted k } ≡ workedAll bytes p₀) × (h ≡ heldAll bytes h₀ p₀)
+  pub halted : hasRoom (p .lines) (p .to) ≡ true → (k : ℕ) → Refused k ≡ recordAt bytes (p .at)
+      → (record { progress = p; stop = Halted k } ≡ workedAll bytes p₀) × (h ≡ heldAll bytes h₀ p₀)
   unfolding worked held
   halted room k e = from _ (λ n. rw (room, ← e)) (λ n. rw (room, ← e))
 

@@ -19,7 +19,9 @@ use Rattle.calendar.specs.facts.RangeFacts.{StoreRanges, RecordRanges}
 use Rattle.calendar.specs.rules.Ranges.{worker}
 use Rattle.calendar.specs.rules.Outcome.{Outcome}
 use Rattle.calendar.specs.rules.Starts.{enqueueStart, dequeueStart}
-use Rattle.calendar.specs.facts.Changes.{Found, put-found, take-ends, Settled, at-end, goes-on, Walked, out, out-last, meets, Change, head-read, mark-seen, passed, stopped, unlinked, again-3, prepared, linked, again-5, stored-6, on-7, stored-7, back-6, current-read, first-read, mark-passed, newer, on-11, marked, back-10, advanced, back-12, emptied, back-13, step-is}
+use Rattle.calendar.specs.facts.Changes.{Found, put-found, take-ends, Settled, at-end, goes-on, Walked, out, out-last, meets, Change, head-read, mark-seen}
+use Rattle.calendar.specs.facts.Changes.{passed, stopped, unlinked, again-3, prepared, linked, again-5, stored-6, on-7, stored-7, back-6, current-read}
+use Rattle.calendar.specs.facts.Changes.{first-read, mark-passed, newer, on-11, marked, back-10, advanced, back-12, emptied, back-13, step-is}
 use Rattle.calendar.specs.facts.Accepted.{enqueue-accepted, dequeue-accepted, step-accepted}
 use Rattle.calendar.specs.rules.Refusals.{openTests, enqueueTests, dequeueTests, stepTests, firstOf, openRefusal, enqueueRefusal, dequeueRefusal, stepRefusal}
 use Rattle.calendar.specs.rules.Operations.{Memory, Result, unless, open-pool, refusal, outcome, act}
@@ -124,4 +126,5 @@ opening-fits sh x = line-most _ (either-words (openRefusal sh (x .memory .store)
 
 pub acting-fits : (a : Action) (x : Pool) → length (lineOf (acting a x .response)) ≤ 89
 unfolding acting act
-acting-fits a x = line-most _ (either-words (refusal (x .shape) (x .memory) a) (x .memory) _ (act-low (x .shape) (x .memory) a) (outcome-words (x .shape) (x .memory) a))
+acting-fits a x =
+    line-most _ (either-words (refusal (x .shape) (x .memory) a) (x .memory) _ (act-low (x .shape) (x .memory) a) (outcome-words (x .shape) (x .memory) a))

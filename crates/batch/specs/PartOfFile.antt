@@ -36,10 +36,12 @@ same-records (suc n) (suc m) bytes x h k = go (λ b y. same-records n m b y) (re
         → (r : Read) → recordAt bytes 0 ≡ r → fromFirst (λ next. records n (drop next bytes)) x r ≡ fromFirst (λ next. records m (drop next bytes)) x r
     go same (Open sh next) e =
         let on = read-on bytes 0 (opens sh) next e in
-        ap (behind (lineOf (opening sh x .response))) (same (drop next bytes) (opening sh x .pool) (omega (arith, on .0, on .1, length-drop next bytes)) (omega (arith, on .0, on .1, length-drop next bytes)))
+        ap (behind (lineOf (opening sh x .response))) (same (drop next bytes) (opening sh x .pool) (omega (arith, on .0, on .1, length-drop next bytes))
+        (omega (arith, on .0, on .1, length-drop next bytes)))
     go same (Act a next) e =
         let on = read-on bytes 0 (acts a) next e in
-        ap (behind (lineOf (acting a x .response))) (same (drop next bytes) (acting a x .pool) (omega (arith, on .0, on .1, length-drop next bytes)) (omega (arith, on .0, on .1, length-drop next bytes)))
+        ap (behind (lineOf (acting a x .response))) (same (drop next bytes) (acting a x .pool) (omega (arith, on .0, on .1, length-drop next bytes))
+        (omega (arith, on .0, on .1, length-drop next bytes)))
     go same End e = refl
     go same (Refused k) e = refl
 
@@ -61,15 +63,18 @@ module _ (bytes more : List ℕ) where
       → records (length (drop at bytes ++ more)) (drop (next - at) (drop at bytes ++ more)) x ≡ fileFrom next x
   fewer at next x h k =
       ap (λ (b : List ℕ). records (length (drop at bytes ++ more)) b x) (rest-of-rest at next h k)
-      ∙ same-records _ _ (drop next bytes ++ more) x (omega (arith, length-append (drop at bytes) more, length-append (drop next bytes) more, length-drop at bytes, length-drop next bytes)) (omega arith)
+      ∙ same-records _ _ (drop next bytes ++ more) x
+      (omega (arith, length-append (drop at bytes) more, length-append (drop next bytes) more, length-drop at bytes, length-drop next bytes)) (omega arith)
 
-  opening-first : (at : ℕ) (x : Pool) (sh : Shape) (next : ℕ) → recordAt bytes at ≡ Open sh next → fileFrom at x ≡ behind (lineOf (opening sh x .response)) (fileFrom next (opening sh x .pool))
+  opening-first : (at : ℕ) (x : Pool) (sh : Shape) (next : ℕ) → recordAt bytes at ≡ Open sh next
+      → fileFrom at x ≡ behind (lineOf (opening sh x .response)) (fileFrom next (opening sh x .pool))
   unfolding records
   opening-first at x sh next e =
       let on = read-on bytes at (opens sh) next e in
       rw (read-rest bytes at more (opens sh) next e) (ap (behind (lineOf (opening sh x .response))) (fewer at next (opening sh x .pool) (on .0) (on .1)))
 
-  acting-first : (at : ℕ) (x : Pool) (a : Action) (next : ℕ) → recordAt bytes at ≡ Act a next → fileFrom at x ≡ behind (lineOf (acting a x .response)) (fileFrom next (acting a x .pool))
+  acting-first : (at : ℕ) (x : Pool) (a : Action) (next : ℕ) → recordAt bytes at ≡ Act a next
+      → fileFrom at x ≡ behind (lineOf (acting a x .response)) (fileFrom next (acting a x .pool))
   unfolding records
   acting-first at x a next e =
       let on = read-on bytes at (acts a) next e in
@@ -81,11 +86,15 @@ abbrev pub text : Progress → List ℕ
 text p = take (p .to) (p .lines)
 
 -- a line that fits is what a buffer holds more
-pub line-behind : (lines line : List ℕ) (to : ℕ) → length line ≤ 89 → to + 89 ≤ length lines → take (after lines to line) (written lines to line) ≡ take to lines ++ line
+pub line-behind : (lines line : List ℕ) (to : ℕ) → length line ≤ 89 → to + 89 ≤ length lines
+    → take (after lines to line) (written lines to line) ≡ take to lines ++ line
 line-behind lines line to fits room =
     let r = roomy lines to line 89 fits room in
-    let size : length (take to lines ++ line) ≡ to + length line = length-append (take to lines) line ∙ ap (λ (n : ℕ). n + length line) (length-take-le to lines (omega arith)) in
-    ap (λ (n : ℕ). take n (written lines to line)) (r .0) ∙ ap (take (to + length line)) (r .1) ∙ take-at (take to lines ++ line) (drop (to + length line) lines) (to + length line) size
+    let size : length (take to lines ++ line) ≡ to + length line = length-append (take to lines) line
+    ∙ ap (λ (n : ℕ). n + length line) (length-take-le to lines (omega arith)) in
+    ap (λ (n : ℕ). take n (written lines to line)) (r .0)
+    ∙ ap (take (to + length line)) (r .1)
+    ∙ take-at (take to lines ++ line) (drop (to + length line) lines) (to + length line) size
 
 -- why it stopped there; where a reading is refused there is still room for a line
 abbrev pub Reason : List ℕ → Progress → Stop → Type 0
@@ -106,7 +115,8 @@ module _ (bytes more : List ℕ) where
 
   -- one record, and then the rest of the batch
   after-one : (p : Progress) (next : ℕ) (a : Answered) (q : Stopped) → p .at < next → text (wrote p next a) ≡ text p ++ lineOf (a .response)
-      → fileFrom bytes more (p .at) (p .pool) ≡ behind (lineOf (a .response)) (fileFrom bytes more next (a .pool)) → PartOf bytes more (wrote p next a) q → PartOf bytes more p q
+      → fileFrom bytes more (p .at) (p .pool) ≡ behind (lineOf (a .response)) (fileFrom bytes more next (a .pool)) → PartOf bytes more (wrote p next a) q
+      → PartOf bytes more p q
   after-one p next a q h held first S = record {
     new = lineOf (a .response) ++ S .new;
     holds = S .holds ∙ ap (λ (l : List ℕ). l ++ S .new) held ∙ append-assoc (text p) (lineOf (a .response)) (S .new);
@@ -124,18 +134,21 @@ module _ (bytes more : List ℕ) where
   part-of-file zero p h = absurd (omega arith)
   part-of-file (suc n) p h = go (λ q. part-of-file n q) (hasRoom (p .lines) (p .to)) refl (recordAt bytes (p .at)) refl
     where
-      go : ((q : Progress) → length bytes - q .at < n → PartOf bytes more q (worked n bytes q)) → (b : Bool) → hasRoom (p .lines) (p .to) ≡ b → (r : Read) → recordAt bytes (p .at) ≡ r
+      go : ((q : Progress) → length bytes - q .at < n → PartOf bytes more q (worked n bytes q)) → (b : Bool) → hasRoom (p .lines) (p .to) ≡ b → (r : Read)
+          → recordAt bytes (p .at) ≡ r
           → PartOf bytes more p (cond b (onward (worked n bytes) p r) (record { progress = p; stop = Full }))
       go rest false full r e = stays p Full (leb-false (p .to + 89) (length (p .lines)) full)
       go rest true room (Open sh next) e =
           let on = read-on bytes (p .at) (opens sh) next e in
           let a = opening sh (p .pool) in
-          after-one p next a _ (on .0) (line-behind (p .lines) (lineOf (a .response)) (p .to) (opening-fits sh (p .pool)) (leb-true (p .to + 89) (length (p .lines)) room))
+          after-one p next a _ (on .0) (line-behind (p .lines) (lineOf (a .response)) (p .to) (opening-fits sh (p .pool))
+          (leb-true (p .to + 89) (length (p .lines)) room))
           (opening-first bytes more (p .at) (p .pool) sh next e) (rest (wrote p next a) (omega (arith, on .0, on .1)))
       go rest true room (Act b next) e =
           let on = read-on bytes (p .at) (acts b) next e in
           let a = acting b (p .pool) in
-          after-one p next a _ (on .0) (line-behind (p .lines) (lineOf (a .response)) (p .to) (acting-fits b (p .pool)) (leb-true (p .to + 89) (length (p .lines)) room))
+          after-one p next a _ (on .0) (line-behind (p .lines) (lineOf (a .response)) (p .to) (acting-fits b (p .pool))
+          (leb-true (p .to + 89) (length (p .lines)) room))
           (acting-first bytes more (p .at) (p .pool) b next e) (rest (wrote p next a) (omega (arith, on .0, on .1)))
       go rest true room End e = stays p Drained e
       go rest true room (Refused k) e = stays p (Halted k) (e, leb-true (p .to + 89) (length (p .lines)) room)

@@ -1,4 +1,5 @@
--- Records behind those that a batch holds are neither read nor changed: on any other table with the same held records it does the same, and keeps the rest. Assumes nothing.
+-- Records behind those that a batch holds are neither read nor changed: on any other table with the same held records it does the same, and keeps the rest.
+-- Assumes nothing.
 use mathlib.Core.Path.{_≡_, refl, sym, ap, _∙_, subst}
 use mathlib.Core.Bool.{Bool, true, false, cond}
 use mathlib.Core.List.{List, [], _∷_, _++_, append-assoc}
@@ -16,7 +17,8 @@ use Rattle.arrival.specs.declared.Action.the-variants.{Enqueue, Dequeue, Step}
 use Rattle.arrival.specs.declared.Response.the-variants as response
 use Rattle.calendar.specs.rules.Ranges.{shapeInRange, blank}
 use Rattle.calendar.specs.facts.RangeFacts.{limits}
-use Rattle.calendar.specs.rules.Refusals.{firstOf, badShape, tooShort, enqueueTests, dequeueTests, stepTests, openRefusal, enqueueRefusal, dequeueRefusal, stepRefusal}
+use Rattle.calendar.specs.rules.Refusals.{firstOf, badShape, tooShort, enqueueTests, dequeueTests, stepTests, openRefusal, enqueueRefusal, dequeueRefusal}
+use Rattle.calendar.specs.rules.Refusals.{stepRefusal}
 use Rattle.calendar.specs.facts.Accepted.{open-accepted}
 use Rattle.calendar.specs.rules.Opening.{openStore, openTable}
 use Rattle.calendar.specs.rules.Operations.{Result, refusal, act, open-pool}
@@ -49,7 +51,8 @@ abbrev pub over : ℕ → List Worker → List Worker → List Worker
 over k t u = take k t ++ drop k u
 
 abbrev pub onTable : Progress → List Worker → Progress
-onTable p u = record { pool = record { shape = p .pool .shape; memory = record { store = p .pool .memory .store; table = u } }; at = p .at; lines = p .lines; to = p .to }
+onTable p u =
+    record { pool = record { shape = p .pool .shape; memory = record { store = p .pool .memory .store; table = u } }; at = p .at; lines = p .lines; to = p .to }
 
 -- what a batch left, but the records from the k-th on as u has them
 abbrev pub keepingFrom : ℕ → Stopped → List Worker → Stopped
@@ -105,7 +108,8 @@ first-two false true rest n = refl
 first-two false false rest n = absurd (n refl)
 
 -- 1 and 2 are what an opening is refused by, and come first
-refused-first : (sh : Shape) (s : List ℕ) (t : List Worker) → openRefusal sh s t ≢ 0 → (a : Action) → refusal sh (record { store = s; table = t }) a ≡ openRefusal sh s t
+refused-first : (sh : Shape) (s : List ℕ) (t : List Worker) → openRefusal sh s t ≢ 0 → (a : Action)
+    → refusal sh (record { store = s; table = t }) a ≡ openRefusal sh s t
 unfolding openRefusal enqueueRefusal dequeueRefusal stepRefusal
 refused-first sh s t n (Enqueue i x) = first-two (badShape sh) (tooShort sh s t) (drop 2 (enqueueTests sh s t i x)) n
 refused-first sh s t n (Dequeue i) = first-two (badShape sh) (tooShort sh s t) (drop 2 (dequeueTests sh s t i)) n
@@ -116,7 +120,10 @@ module _ {k : ℕ} {t u : List Worker} (A : Alike k t u) (sh : Shape) (s : List 
   keeps h r = record { memory = record { store = r .memory .store; table = over h (r .memory .table) u }; response = r .response }
 
   -- refused: nothing is changed
-  unchanged : (n : ℕ) → record { memory = record { store = s; table = u }; response = response.Refused n } ≡ keeps k (record { memory = record { store = s; table = t }; response = response.Refused n })
+  unchanged : (n : ℕ) → record {
+    memory = record { store = s; table = u };
+    response = response.Refused n;
+  } ≡ keeps k (record { memory = record { store = s; table = t }; response = response.Refused n })
   unchanged n = ap (λ (x : List Worker). record { memory = record { store = s; table = x }; response = response.Refused n }) (itself A)
 
   module _ (a : Action) where
@@ -129,7 +136,8 @@ module _ {k : ℕ} {t u : List Worker} (A : Alike k t u) (sh : Shape) (s : List 
     abbrev common : Result
     common = act sh (record { store = s; table = take k t }) a
 
-    on-common : sh .workers ≤ k → (x : List Worker) → take k x ≡ take k t → act sh (record { store = s; table = x }) a ≡ keeping (act sh (record { store = s; table = take k t }) a) (drop k x)
+    on-common : sh .workers ≤ k → (x : List Worker) → take k x ≡ take k t
+        → act sh (record { store = s; table = x }) a ≡ keeping (act sh (record { store = s; table = take k t }) a) (drop k x)
     on-common w x e =
         ap (λ (z : List Worker). act sh (record { store = s; table = z }) a) (sym (take-append-drop k x) ∙ ap (λ (z : List Worker). z ++ drop k x) e)
         ∙ act-same sh s (take k t) (drop k x) (omega (arith, length-take-le k t (in-t A), w)) a
@@ -145,7 +153,8 @@ module _ {k : ℕ} {t u : List Worker} (A : Alike k t u) (sh : Shape) (s : List 
             let L = open-accepted sh s t (eqb-true (openRefusal sh s t) 0 e) in
             let w = covers (shape-tests sh (L .limits)) (L .table) in
             on-common w u (A .first)
-            ∙ ap (λ (z : List Worker). record { memory = record { store = common .memory .store; table = z ++ drop k u }; response = common .response }) (sym (take-at (common .memory .table) (drop k t) k long))
+            ∙ ap (λ (z : List Worker). record { memory = record { store = common .memory .store; table = z ++ drop k u }; response = common .response })
+            (sym (take-at (common .memory .table) (drop k t) k long))
             ∙ ap (keeps k) (sym (on-common w t refl))
         go false e =
             let n = eqb-false (openRefusal sh s t) 0 e in
@@ -164,14 +173,21 @@ module _ {k : ℕ} {t u : List Worker} (A : Alike k t u) (sh : Shape) (s : List 
           ∙ sym (append-assoc (replicate w blank) (drop w (take k t)) (drop k u))
           ∙ ap (λ (x : List Worker). x ++ drop k u) (sym (over-taken blank k t w few (in-t A)))
 
-  open-alike : open-pool sh (record { store = s; table = u }) ≡ keeps (cond (eqb (openRefusal sh s t) 0) (greater k (sh .workers)) k) (open-pool sh (record { store = s; table = t }))
+  open-alike : open-pool sh (record { store = s; table = u })
+      ≡ keeps (cond (eqb (openRefusal sh s t) 0) (greater k (sh .workers)) k) (open-pool sh (record { store = s; table = t }))
   unfolding open-pool openTable
   open-alike = rw (open-refusal-alike A sh s) (go (eqb (openRefusal sh s t) 0) refl)
     where
       go : (b : Bool) → eqb (openRefusal sh s t) 0 ≡ b
-          → cond b (record { memory = record { store = openStore sh s; table = replicate (sh .workers) blank ++ drop (sh .workers) u }; response = response.Opened }) (record { memory = record { store = s; table = u }; response = response.Refused (openRefusal sh s t) })
+          → cond b (record {
+            memory = record { store = openStore sh s; table = replicate (sh .workers) blank ++ drop (sh .workers) u };
+            response = response.Opened;
+          }) (record { memory = record { store = s; table = u }; response = response.Refused (openRefusal sh s t) })
           ≡ keeps (cond b (greater k (sh .workers)) k)
-          (cond b (record { memory = record { store = openStore sh s; table = replicate (sh .workers) blank ++ drop (sh .workers) t }; response = response.Opened }) (record { memory = record { store = s; table = t }; response = response.Refused (openRefusal sh s t) }))
+          (cond b (record {
+            memory = record { store = openStore sh s; table = replicate (sh .workers) blank ++ drop (sh .workers) t };
+            response = response.Opened;
+          }) (record { memory = record { store = s; table = t }; response = response.Refused (openRefusal sh s t) }))
       go true e =
           ap (λ (x : List Worker). record { memory = record { store = openStore sh s; table = x }; response = response.Opened })
           (cleared-alike (sh .workers) (open-accepted sh s t (eqb-true (openRefusal sh s t) 0 e) .table))
@@ -219,10 +235,12 @@ module _ (x : Pool) (sh : Shape) (k : ℕ) where
   pastOpening-within : k ≤ countedOf (length (x .memory .table)) → pastOpening sh x k ≤ countedOf (length (x .memory .table))
   pastOpening-within h = go (eqb (openRefusal sh (x .memory .store) (x .memory .table)) 0) refl
     where
-      go : (b : Bool) → eqb (openRefusal sh (x .memory .store) (x .memory .table)) 0 ≡ b → cond b (greater k (sh .workers)) k ≤ countedOf (length (x .memory .table))
+      go : (b : Bool) → eqb (openRefusal sh (x .memory .store) (x .memory .table)) 0 ≡ b
+          → cond b (greater k (sh .workers)) k ≤ countedOf (length (x .memory .table))
       go true e =
           let L = open-accepted sh (x .memory .store) (x .memory .table) (eqb-true _ 0 e) in
-          greater-within k (sh .workers) (countedOf (length (x .memory .table))) h (counts (length (x .memory .table)) (sh .workers) (L .table) (L .limits .workers))
+          greater-within k (sh .workers) (countedOf (length (x .memory .table))) h
+          (counts (length (x .memory .table)) (sh .workers) (L .table) (L .limits .workers))
       go false e = h
 
 module _ (bytes : List ℕ) where
@@ -238,16 +256,22 @@ module _ (bytes : List ℕ) where
       go rest true End = omega arith
       go rest true (Refused i) = omega arith
 
-  held-within : (n : ℕ) (p : Progress) (k : ℕ) → k ≤ countedOf (length (p .pool .memory .table)) → held n bytes k p ≤ countedOf (length (p .pool .memory .table))
+  held-within : (n : ℕ) (p : Progress) (k : ℕ) → k ≤ countedOf (length (p .pool .memory .table))
+      → held n bytes k p ≤ countedOf (length (p .pool .memory .table))
   unfolding held
   held-within zero p k h = h
   held-within (suc n) p k h = go (λ q i l. held-within n q i l) (hasRoom (p .lines) (p .to)) (recordAt bytes (p .at))
     where
-      go : ((q : Progress) (i : ℕ) → i ≤ countedOf (length (q .pool .memory .table)) → held n bytes i q ≤ countedOf (length (q .pool .memory .table))) → (b : Bool) (r : Read)
+      go : ((q : Progress) (i : ℕ) → i ≤ countedOf (length (q .pool .memory .table)) → held n bytes i q ≤ countedOf (length (q .pool .memory .table)))
+          → (b : Bool) (r : Read)
           → cond b (holding.onward (held n bytes) k p r) k ≤ countedOf (length (p .pool .memory .table))
       go rest false r = h
-      go rest true (Open sh next) = subst (λ m. pastOpening sh (p .pool) k ≤ countedOf m → held n bytes (pastOpening sh (p .pool) k) (wrote p next (opening sh (p .pool))) ≤ countedOf m) (opening-long (p .pool) sh) (rest (wrote p next (opening sh (p .pool))) (pastOpening sh (p .pool) k)) (pastOpening-within (p .pool) sh k h)
-      go rest true (Act a next) = subst (λ m. k ≤ countedOf m → held n bytes k (wrote p next (acting a (p .pool))) ≤ countedOf m) (acting-long (p .pool) a) (rest (wrote p next (acting a (p .pool))) k) h
+      go rest true (Open sh next) =
+          subst (λ m. pastOpening sh (p .pool) k ≤ countedOf m → held n bytes (pastOpening sh (p .pool) k) (wrote p next (opening sh (p .pool))) ≤ countedOf m)
+          (opening-long (p .pool) sh) (rest (wrote p next (opening sh (p .pool))) (pastOpening sh (p .pool) k)) (pastOpening-within (p .pool) sh k h)
+      go rest true (Act a next) =
+          subst (λ m. k ≤ countedOf m → held n bytes k (wrote p next (acting a (p .pool))) ≤ countedOf m) (acting-long (p .pool) a)
+          (rest (wrote p next (acting a (p .pool))) k) h
       go rest true End = h
       go rest true (Refused i) = h
 
@@ -268,7 +292,9 @@ module _ {k : ℕ} {u : List Worker} (x : Pool) (A : Alike k (x .memory .table) 
 
   acting-alike : (a : Action) → acting a (on x u) ≡ answered k (acting a x) u
   unfolding acting
-  acting-alike a = ap (λ (r : Result). record { pool = record { shape = x .shape; memory = r .memory }; response = r .response }) (act-alike A (x .shape) (x .memory .store) a covers)
+  acting-alike a =
+      ap (λ (r : Result). record { pool = record { shape = x .shape; memory = r .memory }; response = r .response })
+      (act-alike A (x .shape) (x .memory .store) a covers)
 
   acting-covers : (a : Action) → Covers (acting a x .pool .shape) (length (acting a x .pool .memory .table)) k
   unfolding acting
@@ -283,7 +309,9 @@ module _ {k : ℕ} {u : List Worker} (x : Pool) (A : Alike k (x .memory .table) 
 
   opening-covers : (sh : Shape) → Covers (opening sh x .pool .shape) (length (opening sh x .pool .memory .table)) (pastOpening sh x k)
   unfolding opening
-  opening-covers sh = subst (λ n. Covers (opening sh x .pool .shape) n (pastOpening sh x k)) (sym (opening-long x sh)) (go (eqb (openRefusal sh (x .memory .store) (x .memory .table)) 0))
+  opening-covers sh =
+      subst (λ n. Covers (opening sh x .pool .shape) n (pastOpening sh x k)) (sym (opening-long x sh))
+      (go (eqb (openRefusal sh (x .memory .store) (x .memory .table)) 0))
     where
       go : (b : Bool) → Covers (cond b sh (x .shape)) (length (x .memory .table)) (cond b (greater k (sh .workers)) k)
       go true = λ i h. greater-right k (sh .workers)
@@ -291,10 +319,13 @@ module _ {k : ℕ} {u : List Worker} (x : Pool) (A : Alike k (x .memory .table) 
 
 -- what was kept by a record of the file is what was there before
 kept-through : (h : ℕ) (q : Stopped) (k : ℕ) (t u : List Worker) → k ≤ length t → k ≤ length u → k ≤ h → keepingFrom h q (over k t u) ≡ keepingFrom h q u
-kept-through h q k t u i j l = ap (λ (x : List Worker). record { progress = onTable (q .progress) (take h (q .progress .pool .memory .table) ++ x); stop = q .stop }) (drop-over k h t u i j l)
+kept-through h q k t u i j l =
+    ap (λ (x : List Worker). record { progress = onTable (q .progress) (take h (q .progress .pool .memory .table) ++ x); stop = q .stop })
+    (drop-over k h t u i j l)
 
 module _ (bytes : List ℕ) where
-  worked-alike : (n : ℕ) (p : Progress) (k : ℕ) (u : List Worker) → Alike k (p .pool .memory .table) u → Covers (p .pool .shape) (length (p .pool .memory .table)) k
+  worked-alike : (n : ℕ) (p : Progress) (k : ℕ) (u : List Worker) → Alike k (p .pool .memory .table) u
+      → Covers (p .pool .shape) (length (p .pool .memory .table)) k
       → worked n bytes (onTable p u) ≡ keepingFrom (held n bytes k p) (worked n bytes p) u
   unfolding worked held
   worked-alike zero p k u A covers = ap (λ (x : List Worker). record { progress = onTable p x; stop = Drained }) (itself A)
@@ -304,22 +335,27 @@ module _ (bytes : List ℕ) where
       there stop = ap (λ (v : List Worker). record { progress = onTable p v; stop = stop }) (itself A)
 
       -- past a record of the file, with h held
-      on-from : ((q : Progress) (h : ℕ) (v : List Worker) → Alike h (q .pool .memory .table) v → Covers (q .pool .shape) (length (q .pool .memory .table)) h → worked n bytes (onTable q v) ≡ keepingFrom (held n bytes h q) (worked n bytes q) v)
-          → (q : Progress) (h : ℕ) → length (q .pool .memory .table) ≡ length (p .pool .memory .table) → h ≤ countedOf (length (p .pool .memory .table)) → Covers (q .pool .shape) (length (q .pool .memory .table)) h
+      on-from : ((q : Progress) (h : ℕ) (v : List Worker) → Alike h (q .pool .memory .table) v → Covers (q .pool .shape) (length (q .pool .memory .table)) h
+          → worked n bytes (onTable q v) ≡ keepingFrom (held n bytes h q) (worked n bytes q) v)
+          → (q : Progress) (h : ℕ) → length (q .pool .memory .table) ≡ length (p .pool .memory .table) → h ≤ countedOf (length (p .pool .memory .table))
+          → Covers (q .pool .shape) (length (q .pool .memory .table)) h
           → worked n bytes (onTable q (over h (q .pool .memory .table) u)) ≡ keepingFrom (held n bytes h q) (worked n bytes q) u
       on-from rest q h long within c =
           rest q h (over h (q .pool .memory .table) u) (next-alike (p .pool) A covers h (q .pool .memory .table) long within) c
           ∙ kept-through (held n bytes h q) (worked n bytes q) h (q .pool .memory .table) u
-          (omega (arith, within, long, counted-bound (length (p .pool .memory .table)) .0)) (omega (arith, within, A .counted, counted-bound (length u) .0)) (held-more bytes n q h)
+          (omega (arith, within, long, counted-bound (length (p .pool .memory .table)) .0)) (omega (arith, within, A .counted, counted-bound (length u) .0))
+          (held-more bytes n q h)
 
-      go : ((q : Progress) (h : ℕ) (v : List Worker) → Alike h (q .pool .memory .table) v → Covers (q .pool .shape) (length (q .pool .memory .table)) h → worked n bytes (onTable q v) ≡ keepingFrom (held n bytes h q) (worked n bytes q) v)
+      go : ((q : Progress) (h : ℕ) (v : List Worker) → Alike h (q .pool .memory .table) v → Covers (q .pool .shape) (length (q .pool .memory .table)) h
+          → worked n bytes (onTable q v) ≡ keepingFrom (held n bytes h q) (worked n bytes q) v)
           → (b : Bool) (r : Read)
           → cond b (onward (worked n bytes) (onTable p u) r) (record { progress = onTable p u; stop = Full })
           ≡ keepingFrom (cond b (holding.onward (held n bytes) k p r) k) (cond b (onward (worked n bytes) p r) (record { progress = p; stop = Full })) u
       go rest false r = there Full
       go rest true (Open sh next) =
           ap (λ (a : Answered). worked n bytes (wrote (onTable p u) next a)) (opening-alike (p .pool) A covers sh)
-          ∙ on-from rest (wrote p next (opening sh (p .pool))) (pastOpening sh (p .pool) k) (opening-long (p .pool) sh) (pastOpening-within (p .pool) sh k (A .within)) (opening-covers (p .pool) A covers sh)
+          ∙ on-from rest (wrote p next (opening sh (p .pool))) (pastOpening sh (p .pool) k) (opening-long (p .pool) sh)
+          (pastOpening-within (p .pool) sh k (A .within)) (opening-covers (p .pool) A covers sh)
       go rest true (Act a next) =
           ap (λ (b : Answered). worked n bytes (wrote (onTable p u) next b)) (acting-alike (p .pool) A covers a)
           ∙ on-from rest (wrote p next (acting a (p .pool))) k (acting-long (p .pool) a) (A .within) (acting-covers (p .pool) A covers a)
@@ -371,13 +407,20 @@ all-beyond bytes u p long =
     itself-alike = record { first = refl; counted = refl; within = within }
 
     longer : Alike 64 (p .pool .memory .table) (p .pool .memory .table ++ u)
-    longer = record { first = take-append-le 64 t u long; counted = all-64 (length (t ++ u)) (omega (arith, length-append t u)) ∙ sym (all-64 (length t) long); within = within }
+    longer =
+        record {
+          first = take-append-le 64 t u long;
+          counted = all-64 (length (t ++ u)) (omega (arith, length-append t u)) ∙ sym (all-64 (length t) long);
+          within = within;
+        }
 
     -- what is behind the held records stays
-    stays : workedAll bytes p .progress .pool .memory .table ≡ over (heldAll bytes 64 p) (workedAll bytes p .progress .pool .memory .table) (p .pool .memory .table)
+    stays : workedAll bytes p .progress .pool .memory .table
+        ≡ over (heldAll bytes 64 p) (workedAll bytes p .progress .pool .memory .table) (p .pool .memory .table)
     stays = ap (λ (q : Stopped). q .progress .pool .memory .table) (all-alike bytes p 64 t itself-alike covers)
 
-    tables : over (heldAll bytes 64 p) (workedAll bytes p .progress .pool .memory .table) (p .pool .memory .table ++ u) ≡ workedAll bytes p .progress .pool .memory .table ++ u
+    tables : over (heldAll bytes 64 p) (workedAll bytes p .progress .pool .memory .table) (p .pool .memory .table ++ u)
+        ≡ workedAll bytes p .progress .pool .memory .table ++ u
     tables =
         ap (λ (v : List Worker). take h t′ ++ v) (drop-append-le h t u (omega (arith, all-within bytes p 64 within, counted-bound (length t) .0)))
         ∙ sym (append-assoc (take h t′) (drop h t) u)

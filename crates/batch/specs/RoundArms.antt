@@ -43,7 +43,8 @@ use Rattle.admission.specs.Gate.{gateOf, openGate, Tight, gate-opens, open-gate
 use Rattle.batch.specs.BatchLoop.{Going, going, go-on, drained, halted, full, at-work, actionLeaks, act-watched}
 
 -- What the loop keeps: `words`, `records` and `space` are what is lent, and t is its array, of which the first records are lent; h are held.
-pub record Round (bytes : List ℕ) (p₀ : Progress) (h₀ words records space : ℕ) (sh : Shape) (s : List ℕ) (t : List Worker) (at : ℕ) (lines : List ℕ) (to : ℕ) (sound : Bool) (h : ℕ) : Type 0 where
+pub record Round (bytes : List ℕ) (p₀ : Progress) (h₀ words records space : ℕ) (sh : Shape) (s : List ℕ) (t : List Worker) (at : ℕ) (lines : List ℕ) (to : ℕ)
+    (sound : Bool) (h : ℕ) : Type 0 where
   pub going : Going bytes p₀ h₀ (at-work sh s (take records t) at lines to) h sound
   pub store : words ≡ length s
   pub array : length t ≡ 64
@@ -55,7 +56,8 @@ pub record Round (bytes : List ℕ) (p₀ : Progress) (h₀ words records space 
 abbrev pub Line : List ℕ → ℕ → Response → List ℕ → ℕ → Type 0
 Line lines to l lines′ to′ = (to′ ≡ after lines to (lineOf l)) × (lines′ ≡ written lines to (lineOf l)) × (length (lineOf l) ≤ 89)
 
-module _ {bytes : List ℕ} {p₀ : Progress} {h₀ words records space : ℕ} {sh : Shape} {s : List ℕ} {t : List Worker} {at : ℕ} {lines : List ℕ} {to : ℕ} {sound : Bool} {h : ℕ}
+module _ {bytes : List ℕ} {p₀ : Progress} {h₀ words records space : ℕ} {sh : Shape} {s : List ℕ} {t : List Worker} {at : ℕ} {lines : List ℕ} {to : ℕ}
+    {sound : Bool} {h : ℕ}
     (R : Round bytes p₀ h₀ words records space sh s t at lines to sound h) where
   abbrev m : Memory
   m = record { store = s; table = take records t }
@@ -127,10 +129,13 @@ module _ {bytes : List ℕ} {p₀ : Progress} {h₀ words records space : ℕ} {
     -- an action a with what it leaves
     acted : (a : Action) → Act a next ≡ recordAt bytes at → (s′ : List ℕ) (t′ : List Worker) → length t′ ≡ 64
         → record { memory = record { store = s′; table = take records t′ }; response = l } ≡ act sh (record { store = s; table = take records t }) a
-        → (sound′ : Bool) → Watched sh (act sh (record { store = s; table = take records t }) a .memory) sound′ → Tight sh words records sound′ → Round bytes p₀ h₀ words records space sh s′ t′ next lines′ to′ sound′ h
+        → (sound′ : Bool) → Watched sh (act sh (record { store = s; table = take records t }) a .memory) sound′ → Tight sh words records sound′
+        → Round bytes p₀ h₀ words records space sh s′ t′ next lines′ to′ sound′ h
     unfolding acting
     acted a e s′ t′ array is sound′ w tight = record {
-      going = go-on bytes p₀ h₀ (at-work sh s (take records t) at lines to) h sound (R .going) room (acts a) next e (at-work sh s′ (take records t′) next lines′ to′) there h refl sound′
+      going =
+          go-on bytes p₀ h₀ (at-work sh s (take records t) at lines to) h sound (R .going) room (acts a) next e
+          (at-work sh s′ (take records t′) next lines′ to′) there h refl sound′
           (subst⁻¹ (λ (r : Result). Watched sh (r .memory) sound′) is w);
       store = R .store ∙ sym (ap (λ (r : Result). length (r .memory .store)) is ∙ act-same-size sh m a .store);
       array = array;
@@ -139,7 +144,8 @@ module _ {bytes : List ℕ} {p₀ : Progress} {h₀ words records space : ℕ} {
       tight = tight;
     }
       where
-        there : at-work sh s′ (take records t′) next lines′ to′ ≡ wrote (at-work sh s (take records t) at lines to) next (acting a (record { shape = sh; memory = record { store = s; table = take records t } }))
+        there : at-work sh s′ (take records t′) next lines′ to′
+            ≡ wrote (at-work sh s (take records t) at lines to) next (acting a (record { shape = sh; memory = record { store = s; table = take records t } }))
         there = λ j. record {
           pool = record { shape = sh; memory = is j .memory };
           at = next;
@@ -148,7 +154,8 @@ module _ {bytes : List ℕ} {p₀ : Progress} {h₀ words records space : ℕ} {
         }
 
     -- refused by 1 to 4
-    pub turned-away : (a : Action) (i : ℕ) → i ≡ actor a → Act a next ≡ recordAt bytes at → (k : ℕ) → k ≡ gateOf sh words records i sound → k ≢ 0 → l ≡ Refused k → Round bytes p₀ h₀ words records space sh s t next lines′ to′ sound h
+    pub turned-away : (a : Action) (i : ℕ) → i ≡ actor a → Act a next ≡ recordAt bytes at → (k : ℕ) → k ≡ gateOf sh words records i sound → k ≢ 0
+        → l ≡ Refused k → Round bytes p₀ h₀ words records space sh s t next lines′ to′ sound h
     turned-away a i named e k is n said =
         let g = is ∙ ap (λ (j : ℕ). gateOf sh words records j sound) named ∙ gate-here (actor a) in
         let r = refused-is sh m sound W a (λ z. n (g ∙ z)) in
@@ -156,11 +163,13 @@ module _ {bytes : List ℕ} {p₀ : Progress} {h₀ words records space : ℕ} {
         (subst (λ (x : Result). Watched sh (x .memory) sound) r W) (R .tight)
 
     -- let in, and done to worker i's record, which goes back into the array
-    module _ (a : Action) (e : Act a next ≡ recordAt bytes at) (k : ℕ) (is : k ≡ gateOf sh words records (actor a) sound) (z : k ≡ 0) (s′ : List ℕ) (w′ : Worker) where
+    module _ (a : Action) (e : Act a next ≡ recordAt bytes at) (k : ℕ) (is : k ≡ gateOf sh words records (actor a) sound) (z : k ≡ 0) (s′ : List ℕ)
+        (w′ : Worker) where
       stored : (d : Done) → record { store = s′; worker = w′; response = l } ≡ d
           → record { memory = record { store = s′; table = take records (set t (actor a) w′) }; response = l } ≡ back (take records t) (actor a) d
       stored d done =
-          ap (λ (u : List Worker). record { memory = record { store = s′; table = u }; response = l }) (take-set-lt records t (actor a) w′ (is-lent (actor a) k is z))
+          ap (λ (u : List Worker). record { memory = record { store = s′; table = u }; response = l })
+          (take-set-lt records t (actor a) w′ (is-lent (actor a) k is z))
           ∙ ap (back (take records t) (actor a)) done
 
       pub performed : (low : ℕ) → LowFor sh t a low → (leak : Bool) → leak ≡ actionLeaks sh s a (worker t (actor a))
@@ -171,8 +180,10 @@ module _ {bytes : List ℕ} {p₀ : Progress} {h₀ words records space : ℕ} {
           let g = passes i k is z in
           let o = sym (own i k is z) in
           acted a e s′ (set t i w′) (length-set t i w′ ∙ R .array)
-          (stored _ (d ∙ ap (localAct sh low s a) o) ∙ act-is sh m sound W a low (lent-low a low least (omega (arith, in-use i k is z .lent .table, counted))) g) (not leak)
-          (subst⁻¹ (λ b. Watched sh (act sh m a .memory) (not b)) (is-leak ∙ ap (actionLeaks sh s a) o) (act-watched sh m sound W a g)) (λ _. gate-opens sh words records i sound (sym is ∙ z))
+          (stored _ (d ∙ ap (localAct sh low s a) o)
+          ∙ act-is sh m sound W a low (lent-low a low least (omega (arith, in-use i k is z .lent .table, counted))) g) (not leak)
+          (subst⁻¹ (λ b. Watched sh (act sh m a .memory) (not b)) (is-leak ∙ ap (actionLeaks sh s a) o) (act-watched sh m sound W a g))
+          (λ _. gate-opens sh words records i sound (sym is ∙ z))
 
     -- the same, where the code has read the worker's number
     pub performed-at : (a : Action) (i : ℕ) → i ≡ actor a → Act a next ≡ recordAt bytes at → (k : ℕ) → k ≡ gateOf sh words records i sound → k ≡ 0
@@ -185,13 +196,16 @@ module _ {bytes : List ℕ} {p₀ : Progress} {h₀ words records space : ℕ} {
         (is-leak ∙ ap (λ (j : ℕ). actionLeaks sh s a (worker t j)) named) (d ∙ ap (λ (j : ℕ). localAct sh low s a (worker t j)) named))
 
     -- an opening with what it leaves
-    opened-with : (sh′ : Shape) → Open sh′ next ≡ recordAt bytes at → (sh″ : Shape) (s′ : List ℕ) (t′ : List Worker) → length t′ ≡ 64 → sh″ ≡ cond (eqb (openRefusal sh′ s (take records t)) 0) sh′ sh
+    opened-with : (sh′ : Shape) → Open sh′ next ≡ recordAt bytes at → (sh″ : Shape) (s′ : List ℕ) (t′ : List Worker) → length t′ ≡ 64
+        → sh″ ≡ cond (eqb (openRefusal sh′ s (take records t)) 0) sh′ sh
         → (h′ : ℕ) → h′ ≡ cond (eqb (openRefusal sh′ s (take records t)) 0) (greater h (sh′ .workers)) h
         → record { memory = record { store = s′; table = take records t′ }; response = l } ≡ open-pool sh′ (record { store = s; table = take records t })
-        → (sound′ : Bool) → Watched sh″ (record { store = s′; table = take records t′ }) sound′ → Tight sh″ words records sound′ → Round bytes p₀ h₀ words records space sh″ s′ t′ next lines′ to′ sound′ h′
+        → (sound′ : Bool) → Watched sh″ (record { store = s′; table = take records t′ }) sound′ → Tight sh″ words records sound′
+        → Round bytes p₀ h₀ words records space sh″ s′ t′ next lines′ to′ sound′ h′
     unfolding opening
     opened-with sh′ e sh″ s′ t′ array shape h′ holds is sound′ w tight = record {
-      going = go-on bytes p₀ h₀ (at-work sh s (take records t) at lines to) h sound (R .going) room (opens sh′) next e (at-work sh″ s′ (take records t′) next lines′ to′) there h′ holds sound′ w;
+      going = go-on bytes p₀ h₀ (at-work sh s (take records t) at lines to) h sound (R .going) room (opens sh′) next e
+          (at-work sh″ s′ (take records t′) next lines′ to′) there h′ holds sound′ w;
       store = R .store ∙ sym (ap (λ (r : Result). length (r .memory .store)) is ∙ open-same-size sh′ m .store);
       array = array;
       lent = R .lent;
@@ -199,7 +213,8 @@ module _ {bytes : List ℕ} {p₀ : Progress} {h₀ words records space : ℕ} {
       tight = tight;
     }
       where
-        there : at-work sh″ s′ (take records t′) next lines′ to′ ≡ wrote (at-work sh s (take records t) at lines to) next (opening sh′ (record { shape = sh; memory = record { store = s; table = take records t } }))
+        there : at-work sh″ s′ (take records t′) next lines′ to′ ≡ wrote (at-work sh s (take records t) at lines to) next (opening sh′
+            (record { shape = sh; memory = record { store = s; table = take records t } }))
         there = λ j. record {
           pool = record { shape = shape j; memory = is j .memory };
           at = next;
@@ -207,30 +222,36 @@ module _ {bytes : List ℕ} {p₀ : Progress} {h₀ words records space : ℕ} {
           to = (line .0 ∙ ap (λ (r : Result). after lines to (lineOf (r .response))) is) j;
         }
 
-    pub not-opened : (sh′ : Shape) → Open sh′ next ≡ recordAt bytes at → (k : ℕ) → k ≡ openGate sh′ words records → k ≢ 0 → l ≡ Refused k → Round bytes p₀ h₀ words records space sh s t next lines′ to′ sound h
+    pub not-opened : (sh′ : Shape) → Open sh′ next ≡ recordAt bytes at → (k : ℕ) → k ≡ openGate sh′ words records → k ≢ 0 → l ≡ Refused k
+        → Round bytes p₀ h₀ words records space sh s t next lines′ to′ sound h
     unfolding open-pool
     not-opened sh′ e k is n said =
         let g = is ∙ open-gate-here sh′ in
         let none = ne-eqb (openRefusal sh′ s (take records t)) 0 (λ z. n (g ∙ z)) in
         opened-with sh′ e sh s t (R .array) (rw none) h (rw none) (rw (none, said, g)) sound W (R .tight)
 
-    pub opened : (sh′ : Shape) → Open sh′ next ≡ recordAt bytes at → (k : ℕ) → k ≡ openGate sh′ words records → k ≡ 0 → l ≡ Opened → (s′ : List ℕ) → s′ ≡ openStore sh′ s
-        → (t′ : List Worker) → t′ ≡ replicate (sh′ .workers) blank ++ drop (sh′ .workers) t → (h′ : ℕ) → h′ ≡ greater h (sh′ .workers) → Round bytes p₀ h₀ words records space sh′ s′ t′ next lines′ to′ true h′
+    pub opened : (sh′ : Shape) → Open sh′ next ≡ recordAt bytes at → (k : ℕ) → k ≡ openGate sh′ words records → k ≡ 0 → l ≡ Opened → (s′ : List ℕ)
+        → s′ ≡ openStore sh′ s
+        → (t′ : List Worker) → t′ ≡ replicate (sh′ .workers) blank ++ drop (sh′ .workers) t → (h′ : ℕ) → h′ ≡ greater h (sh′ .workers)
+        → Round bytes p₀ h₀ words records space sh′ s′ t′ next lines′ to′ true h′
     unfolding open-pool openTable
     opened sh′ e k is z said s′ store t′ table h′ holds =
         let all = eq-eqb (openRefusal sh′ s (take records t)) 0 (no-refusal sh′ k is z) in
         let L = lent-to sh′ k is z in
         let first = ap (take records) table ∙ over-taken blank records t (sh′ .workers) (omega (arith, L .table, counted)) (omega (arith, R .lent, R .array)) in
-        opened-with sh′ e sh′ s′ t′ (array-cleared sh′ k is z t′ table) (rw all) h′ (rw all holds) (rw (all, said, store, first)) true (λ _. rw (store, first) (sym (opened-sound sh′ m (L .limits)))) (λ _. sym is ∙ z)
+        opened-with sh′ e sh′ s′ t′ (array-cleared sh′ k is z t′ table) (rw all) h′ (rw all holds) (rw (all, said, store, first)) true
+        (λ _. rw (store, first) (sym (opened-sound sh′ m (L .limits)))) (λ _. sym is ∙ z)
 
   -- ── the ends ──
   pub kept : (length t ≡ 64) × (records ≤ 64) × Watched sh (record { store = s; table = take records t }) sound × Tight sh (length s) records sound
   kept = (R .array, R .lent, W, λ up. sym (ap (λ n. openGate sh n records) (R .store)) ∙ R .tight up)
 
-  pub at-drained : leb (to + 89) space ≡ true → End ≡ recordAt bytes at → (record { progress = at-work sh s (take records t) at lines to; stop = Drained } ≡ workedAll bytes p₀) × (h ≡ heldAll bytes h₀ p₀)
+  pub at-drained : leb (to + 89) space ≡ true → End ≡ recordAt bytes at
+      → (record { progress = at-work sh s (take records t) at lines to; stop = Drained } ≡ workedAll bytes p₀) × (h ≡ heldAll bytes h₀ p₀)
   at-drained fits e = drained bytes p₀ h₀ (at-work sh s (take records t) at lines to) h sound (R .going) (ap (leb (to + 89)) (sym (R .buffer)) ∙ fits) e
 
-  pub at-halted : leb (to + 89) space ≡ true → (k : ℕ) → variants.Refused k ≡ recordAt bytes at → (record { progress = at-work sh s (take records t) at lines to; stop = Halted k } ≡ workedAll bytes p₀) × (h ≡ heldAll bytes h₀ p₀)
+  pub at-halted : leb (to + 89) space ≡ true → (k : ℕ) → variants.Refused k ≡ recordAt bytes at
+      → (record { progress = at-work sh s (take records t) at lines to; stop = Halted k } ≡ workedAll bytes p₀) × (h ≡ heldAll bytes h₀ p₀)
   at-halted fits k e = halted bytes p₀ h₀ (at-work sh s (take records t) at lines to) h sound (R .going) (ap (leb (to + 89)) (sym (R .buffer)) ∙ fits) k e
 
   pub at-full : leb (to + 89) space ≡ false → (stop : Stop) → stop ≡ Full
@@ -258,7 +279,15 @@ module _ (bytes : List ℕ) (at : ℕ) (r : Read) (read : r ≡ recordAt bytes a
 
 -- ── before the loop ──
 pub first-round : (bytes : List ℕ) (sh : Shape) (s : List ℕ) (records : ℕ) (t : List Worker) (at : ℕ) (lines : List ℕ) (to : ℕ) (sound : Bool) (h : ℕ)
-    → Watched sh (record { store = s; table = take records t }) sound → length t ≡ 64 → records ≤ 64 → (words space : ℕ) → words ≡ length s → space ≡ length lines → Tight sh words records sound
+    → Watched sh (record { store = s; table = take records t }) sound → length t ≡ 64 → records ≤ 64 → (words space : ℕ) → words ≡ length s
+    → space ≡ length lines → Tight sh words records sound
     → Round bytes (at-work sh s (take records t) at lines to) h words records space sh s t at lines to sound h
 first-round bytes sh s records t at lines to sound h watched array lent words space store long tight =
-    record { going = going bytes (at-work sh s (take records t) at lines to) h sound watched; store = store; array = array; lent = lent; buffer = long; tight = tight }
+    record {
+      going = going bytes (at-work sh s (take records t) at lines to) h sound watched;
+      store = store;
+      array = array;
+      lent = lent;
+      buffer = long;
+      tight = tight;
+    }

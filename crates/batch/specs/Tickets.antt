@@ -93,13 +93,15 @@ lowFor (Enqueue i x) ts n = leastOf ts n
 lowFor (Dequeue i) ts n = 0
 lowFor (Step i) ts n = 0
 
-pub low-is : (sh : Shape) (t : List Worker) (ts : List ℕ) (a : Action) (low : ℕ) → ts ≡ ticketsOf t → sh .workers ≤ length t → low ≡ lowFor a ts (sh .workers) → LowFor sh t a low
+pub low-is : (sh : Shape) (t : List Worker) (ts : List ℕ) (a : Action) (low : ℕ) → ts ≡ ticketsOf t → sh .workers ≤ length t → low ≡ lowFor a ts (sh .workers)
+    → LowFor sh t a low
 low-is sh t ts (Enqueue i x) low e h is = is ∙ ap (λ (us : List ℕ). leastOf us (sh .workers)) e ∙ least-is t (sh .workers) h
 low-is sh t ts (Dequeue i) low e h is = tt
 low-is sh t ts (Step i) low e h is = tt
 
 -- a loop that stores ticket after ticket
-pub tickets-more : (t : List Worker) (k : ℕ) (ts : List ℕ) → k < length t → k < length ts → set (take k (ticketsOf t) ++ drop k ts) k (ticketOf (worker t k)) ≡ take (k + 1) (ticketsOf t) ++ drop (k + 1) ts
+pub tickets-more : (t : List Worker) (k : ℕ) (ts : List ℕ) → k < length t → k < length ts
+    → set (take k (ticketsOf t) ++ drop k ts) k (ticketOf (worker t k)) ≡ take (k + 1) (ticketsOf t) ++ drop (k + 1) ts
 tickets-more t k ts h l =
     let g : k < length (ticketsOf t) = rw (tickets-length t) h in
     ap (set (take k (ticketsOf t) ++ drop k ts) k) (sym (tickets-at t k h)) ∙ rw add-one (store-next 0 k (ticketsOf t) ts g l)

@@ -42,13 +42,17 @@ module _ (bytes : List ℕ) (size : ℕ) where
   worked-within zero p w = w
   worked-within (suc n) p w = go (λ q v. worked-within n q v) (hasRoom (p .lines) (p .to)) (recordAt bytes (p .at)) refl
     where
-      go : ((q : Progress) → Within bytes size q → Within bytes size (worked n bytes q .progress)) → (b : Bool) (r : Read) → recordAt bytes (p .at) ≡ r → Within bytes size (cond b (onward (worked n bytes) p r) (record { progress = p; stop = Full }) .progress)
+      go : ((q : Progress) → Within bytes size q → Within bytes size (worked n bytes q .progress)) → (b : Bool) (r : Read) → recordAt bytes (p .at) ≡ r
+          → Within bytes size (cond b (onward (worked n bytes) p r) (record { progress = p; stop = Full }) .progress)
       go rest false r e = w
-      go rest true (Open sh next) e = rest (wrote p next (opening sh (p .pool))) (wrote-within p next (opening sh (p .pool)) w (read-on bytes (p .at) (opens sh) next e .1))
-      go rest true (Act a next) e = rest (wrote p next (acting a (p .pool))) (wrote-within p next (acting a (p .pool)) w (read-on bytes (p .at) (acts a) next e .1))
+      go rest true (Open sh next) e =
+          rest (wrote p next (opening sh (p .pool))) (wrote-within p next (opening sh (p .pool)) w (read-on bytes (p .at) (opens sh) next e .1))
+      go rest true (Act a next) e =
+          rest (wrote p next (acting a (p .pool))) (wrote-within p next (acting a (p .pool)) w (read-on bytes (p .at) (acts a) next e .1))
       go rest true End e = w
       go rest true (Refused k) e = w
 
 -- what a caller has of it
-pub within : (bytes : List ℕ) (p : Progress) (q : Stopped) → q ≡ workedAll bytes p → p .at ≤ length bytes → p .to ≤ length (p .lines) → Within bytes (length (p .lines)) (q .progress)
+pub within : (bytes : List ℕ) (p : Progress) (q : Stopped) → q ≡ workedAll bytes p → p .at ≤ length bytes → p .to ≤ length (p .lines)
+    → Within bytes (length (p .lines)) (q .progress)
 within bytes p q e h k = rw e (worked-within bytes (length (p .lines)) (length bytes + 1) p (record { at = h; to = k; lines = refl }))

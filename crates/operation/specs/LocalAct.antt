@@ -74,14 +74,19 @@ LowFor sh t (Step i) low = Unit {0}
 
 module _ (sh : Shape) (m : Memory) (sound : Bool) (watched : Watched sh m sound) where
   let-in : (a : Action) → gateOf sh (length (m .store)) (length (m .table)) (actor a) sound ≡ 0
-      → back (m .table) (actor a) (unlessRefused (firstOf (ownOf sh m a)) (m .store) (worker (m .table) (actor a)) (done sh (m .store) (outcome sh m a))) ≡ act sh m a
+      → back (m .table) (actor a) (unlessRefused (firstOf (ownOf sh m a)) (m .store) (worker (m .table) (actor a)) (done sh (m .store) (outcome sh m a)))
+      ≡ act sh m a
   unfolding act
-  let-in a z = rw (refusal-is sh m sound watched a, eq-eqb (gateOf sh (length (m .store)) (length (m .table)) (actor a) sound) 0 z) (go (eqb (firstOf (ownOf sh m a)) 0))
+  let-in a z =
+      rw (refusal-is sh m sound watched a, eq-eqb (gateOf sh (length (m .store)) (length (m .table)) (actor a) sound) 0 z) (go (eqb (firstOf (ownOf sh m a)) 0))
     where
-      go : (b : Bool) → back (m .table) (actor a) (cond b (done sh (m .store) (outcome sh m a)) (refused (m .store) (worker (m .table) (actor a)) (firstOf (ownOf sh m a))))
+      go : (b : Bool) → back (m .table) (actor a) (cond b (done sh (m .store) (outcome sh m a)) (refused (m .store) (worker (m .table) (actor a))
+          (firstOf (ownOf sh m a))))
           ≡ cond b (perform sh m (actor a) (outcome sh m a)) (record { memory = m; response = Refused (firstOf (ownOf sh m a)) })
       go true = refl
-      go false = ap (λ (t : List Worker). record { memory = record { store = m .store; table = t }; response = Refused (firstOf (ownOf sh m a)) }) (set-getD (m .table) (actor a) blank)
+      go false =
+          ap (λ (t : List Worker). record { memory = record { store = m .store; table = t }; response = Refused (firstOf (ownOf sh m a)) })
+          (set-getD (m .table) (actor a) blank)
 
   at-least : (a : Action) → gateOf sh (length (m .store)) (length (m .table)) (actor a) sound ≡ 0
       → back (m .table) (actor a) (localAct sh (leastTicket (m .table) (sh .workers)) (m .store) a (worker (m .table) (actor a))) ≡ act sh m a
@@ -89,7 +94,8 @@ module _ (sh : Shape) (m : Memory) (sound : Bool) (watched : Watched sh m sound)
   at-least a z = rw (first-free-is sh (m .store) (m .table) (usable sh m sound watched (actor a) z .store)) (let-in a z)
 
   any-low : (a : Action) (low : ℕ) → LowFor sh (m .table) a low
-      → localAct sh low (m .store) a (worker (m .table) (actor a)) ≡ localAct sh (leastTicket (m .table) (sh .workers)) (m .store) a (worker (m .table) (actor a))
+      → localAct sh low (m .store) a (worker (m .table) (actor a))
+      ≡ localAct sh (leastTicket (m .table) (sh .workers)) (m .store) a (worker (m .table) (actor a))
   unfolding localAct
   any-low (Enqueue i x) low e = rw e
   any-low (Dequeue i) low e = refl

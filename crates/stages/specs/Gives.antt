@@ -32,7 +32,8 @@ pub walk-gives : (sh : Shape) (s : List ℕ) (w : Worker) → gives s (share (wa
 unfolding walk
 walk-gives sh s w = go (eqb (w .right) (sh .nodes)) (moreBuckets sh w)
   where
-    go : (a b : Bool) → gives s (share (cond a (cond b (on [] 12 w) (on [] 13 w)) (on [] 10 w))) ≡ done sh s (cond a (cond b (on [] 12 w) (on [] 13 w)) (on [] 10 w))
+    go : (a b : Bool) → gives s (share (cond a (cond b (on [] 12 w) (on [] 13 w)) (on [] 10 w))) ≡ done sh s (cond a (cond b (on [] 12 w) (on [] 13 w))
+        (on [] 10 w))
     go true true = refl
     go true false = refl
     go false b = refl

@@ -49,7 +49,8 @@ module _ (sh : Shape) (s : List ℕ) (w : Worker) (l : Laid sh s) (left : w .lef
   pub item-unlinked : (n : ℕ) → itemAt sh (writeAll sh s (unlink sh s w)) n ≡ itemAt sh s n
   item-unlinked n =
       let s′ = write sh s (cell (w .left)) (unmarked (successor (w .seen))) in
-      item-kept sh s′ (field 7 (w .right)) (unlinkedAt (started sh s)) n refl (field-in sh s′ 7 (w .right) (laid-write sh s _ _ l) (lit< tt) right) refl refl refl refl refl
+      item-kept sh s′ (field 7 (w .right)) (unlinkedAt (started sh s)) n refl
+      (field-in sh s′ 7 (w .right) (laid-write sh s _ _ l) (lit< tt) right) refl refl refl refl refl
       ∙ item-kept sh s (cell (w .left)) (unmarked (successor (w .seen))) n refl (cell-in sh s (w .left) l left) refl refl refl refl refl
 
   pub holds-unlinked : (n : ℕ) → Holds sh s n → Holds sh (writeAll sh s (unlink sh s w)) n

@@ -14,7 +14,8 @@ use Rattle.stages.specs.Gives.{settle-after}
 
 -- k calls had been started; s₁ is the store after the swap, s₂ after the standing
 module _ (sh : Shape) (s s₁ s₂ : List ℕ) (w : Worker) (k : ℕ) (ready : Ready sh s w) (right : w .right < sh .nodes)
-    (count : k ≡ read sh s (word 1)) (first : s₁ ≡ write sh s (cell (w .left)) (2 * (w .seen / 2))) (second : s₂ ≡ write sh s₁ (field 7 (w .right)) (2 + k)) where
+    (count : k ≡ read sh s (word 1)) (first : s₁ ≡ write sh s (cell (w .left)) (2 * (w .seen / 2)))
+    (second : s₂ ≡ write sh s₁ (field 7 (w .right)) (2 + k)) where
   after : s₂ ≡ writeAll sh s (unlink sh s w)
   after = second ∙ rw (first, count)
 
@@ -24,5 +25,6 @@ module _ (sh : Shape) (s s₁ s₂ : List ℕ) (w : Worker) (k : ℕ) (ready : R
   pub unlinked-step : read sh s (cell (w .left)) ≡ 2 * w .right → done sh s₂ (settle sh s₂ [] (withRight (w .seen / 2) w)) ≡ done sh s (step-3 sh s w)
   unfolding step-3
   unlinked-step same =
-      settle-after sh s s₂ (unlink sh s w) (withRight (w .seen / 2) w) after (ap (λ (t : List ℕ). itemAt sh t (w .own)) after ∙ item-unlinked sh s w (ready .laid) (ready .worker .left) right (w .own))
+      settle-after sh s s₂ (unlink sh s w) (withRight (w .seen / 2) w) after (ap (λ (t : List ℕ). itemAt sh t (w .own)) after
+      ∙ item-unlinked sh s w (ready .laid) (ready .worker .left) right (w .own))
       ∙ rw (eq-eqb (read sh s (cell (w .left))) (2 * w .right) same)

@@ -35,12 +35,14 @@ unfolding freeOfBelow
 free-none sh s low n = refl
 
 -- one node on, by what the code has read: the next node m, its standing x, the test's outcome
-module _ (sh : Shape) (s : List ℕ) (low k n m x : ℕ) (t : Bool) (some : 0 < k) (here : m ≡ nodeAfter sh n) (seen : x ≡ read sh s (field 7 m)) (test : t ≡ freeBelow low x) where
+module _ (sh : Shape) (s : List ℕ) (low k n m x : ℕ) (t : Bool) (some : 0 < k) (here : m ≡ nodeAfter sh n) (seen : x ≡ read sh s (field 7 m))
+    (test : t ≡ freeBelow low x) where
   one-on : freeOfBelow sh s low k n ≡ cond (freeBelow low (standing sh s (nodeAfter sh n))) (nodeAfter sh n) (freeOfBelow sh s low (k - 1) (nodeAfter sh n))
   unfolding freeOfBelow
   one-on = go k some
     where
-      go : (k : ℕ) → 0 < k → freeOfBelow sh s low k n ≡ cond (freeBelow low (standing sh s (nodeAfter sh n))) (nodeAfter sh n) (freeOfBelow sh s low (k - 1) (nodeAfter sh n))
+      go : (k : ℕ) → 0 < k → freeOfBelow sh s low k n ≡ cond (freeBelow low (standing sh s (nodeAfter sh n))) (nodeAfter sh n)
+          (freeOfBelow sh s low (k - 1) (nodeAfter sh n))
       go zero h = absurd (omega arith)
       go (suc j) h = let e : suc j - 1 ≡ j = omega arith in rw e
 

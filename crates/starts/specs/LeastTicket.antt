@@ -39,7 +39,8 @@ unfolding leastTicket
 least-bound t zero = omega arith
 least-bound t (suc n) = go (inProgress (worker t n)) (ltb (worker t n .ticket) (leastTicket t n)) refl (least-bound t n)
   where
-    go : (a b : Bool) → ltb (worker t n .ticket) (leastTicket t n) ≡ b → leastTicket t n ≤ 4294967296 → cond (a && b) (worker t n .ticket) (leastTicket t n) ≤ 4294967296
+    go : (a b : Bool) → ltb (worker t n .ticket) (leastTicket t n) ≡ b → leastTicket t n ≤ 4294967296
+        → cond (a && b) (worker t n .ticket) (leastTicket t n) ≤ 4294967296
     go true true e h = omega (arith, ltb-true (worker t n .ticket) (leastTicket t n) e)
     go true false e h = h
     go false b e h = h
@@ -81,6 +82,7 @@ free-is sh t x h = go (leb 2 x) refl
         pick true e = lt-ltb x (2 + l) (omega (arith, ltb-true (x - 2) l e))
         pick false e = le-ltb x (2 + l) (omega (arith, ltb-false (x - 2) l e))
 
-    go : (u : Bool) → leb 2 x ≡ u → (eqb x 0 || (u && ltb x (2 + leastTicket t (sh .workers)))) ≡ (eqb x 0 || (u && every (sh .workers) (λ i. not (startedBy (x - 2) (worker t i)))))
+    go : (u : Bool) → leb 2 x ≡ u
+        → (eqb x 0 || (u && ltb x (2 + leastTicket t (sh .workers)))) ≡ (eqb x 0 || (u && every (sh .workers) (λ i. not (startedBy (x - 2) (worker t i)))))
     go true e = rw (less (leastTicket t (sh .workers)) (leb-true 2 x e), below-least t (sh .workers) (x - 2) (omega arith))
     go false e = refl

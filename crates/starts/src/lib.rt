@@ -120,7 +120,8 @@ pub fn start_enqueue(
     store: &mut [u64],
 ) -> Reply
     requires { ⌜ Laid shape (now store) ⌝ }
-    requires { ⌜ (started shape (now store) < 4294967296) × (lastNode shape (now store) < shape .nodes) × (low ≤ 4294967296) × (1 ≤ shape .width) × (shape .width ≤ 65535) ⌝ }
+    requires { ⌜ (started shape (now store) < 4294967296) × (lastNode shape (now store) < shape .nodes) × (low ≤ 4294967296) × (1 ≤ shape .width)
+        × (shape .width ≤ 65535) ⌝ }
     ensures { λ r. ⌜ gives (now (store .exit)) r ≡ localEnqueue shape low (now (store .entry)) arrival w ⌝ }
 {
     let started = get_word(shape, word::STARTED, store);

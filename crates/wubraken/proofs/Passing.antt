@@ -90,10 +90,20 @@ module _ (sh : Shape) (kind i : ℕ) (x : Arrival) (b o : ℕ) (γ : GName) (S :
 
   module _ {M : Type 1} (𝓤 : URA M) (H : Heap 𝓤) (A : Atoms 𝓤) (mem : Memory → SProp 𝓤) (run : Routine → Fun 𝓤) (κ κ′ : Lft) (q q′ : Share) where
     abbrev pub to-act : Act 𝓤 H A mem run .Ghost
-    to-act = (((κ, (κ′, tt)), (q, (q′, tt)), tt, handed, (vals-sh sh, (vint w64 kind ∷ [], (vint w64 i ∷ [], (vals-ar x, (sliceVal (b, o) (length S) ∷ [], (sliceVal (b′, o′) (length ys) ∷ [], tt))))))), tt)
+    to-act = (
+      (
+        (κ, (κ′, tt)),
+        (q, (q′, tt)),
+        tt,
+        handed,
+        (vals-sh sh, (vint w64 kind ∷ [], (vint w64 i ∷ [], (vals-ar x, (sliceVal (b, o) (length S) ∷ [], (sliceVal (b′, o′) (length ys) ∷ [], tt)))))),
+      ),
+      tt,
+    )
 
     pub goes-act : Given 𝓤 H A → Is Sh.the-row sh (vals-sh sh) → kind < 2 ^ 64 → i < 2 ^ 64 → Is Ar.the-row x (vals-ar x)
-        → ent 𝓤 (sep 𝓤 (sep 𝓤 (A .lft κ q) (A .lft κ′ q′)) (sep 𝓤 (sem 𝓤 H A (MutSlice (named 0) κ u64 .own s (sv ∷ []))) (sem 𝓤 H A (MutSlice (named 1) κ′ T.the-row .own t (tv ∷ [])))))
+        → ent 𝓤 (sep 𝓤 (sep 𝓤 (A .lft κ q) (A .lft κ′ q′)) (sep 𝓤 (sem 𝓤 H A (MutSlice (named 0) κ u64 .own s (sv ∷ [])))
+        (sem 𝓤 H A (MutSlice (named 1) κ′ T.the-row .own t (tv ∷ [])))))
         (Act 𝓤 H A mem run .pre to-act)
     goes-act W sh-is kind-fits i-fits x-is =
         qed W ((‵ (flft κ q) ⊛ ‵ (flft κ′ q′)) ∷ (‵ (MutSlice (named 0) κ u64 .own s (sv ∷ [])) ⊛ ‵ (MutSlice (named 1) κ′ T.the-row .own t (tv ∷ []))) ∷ []) ∵

@@ -17,14 +17,16 @@ answerOf Opened = brief 0 0 0
 answerOf (Begun ticket) = brief 1 0 ticket
 answerOf On = brief 2 0 0
 answerOf (Stored ticket) = brief 3 0 ticket
-answerOf (Took time path order distance energy) = record { kind = 4; number = 0; ticket = 0; time = time; path = path; order = order; distance = distance; energy = energy }
+answerOf (Took time path order distance energy) =
+    record { kind = 4; number = 0; ticket = 0; time = time; path = path; order = order; distance = distance; energy = energy }
 answerOf Empty = brief 5 0 0
 answerOf (Refused number) = brief 6 number 0
 
 -- read back by its kind
 abbrev pub responseOf : Answer → Response
 responseOf a =
-    getD (Opened ∷ Begun (a .ticket) ∷ On ∷ Stored (a .ticket) ∷ Took (a .time) (a .path) (a .order) (a .distance) (a .energy) ∷ Empty ∷ []) (a .kind) (Refused (a .number))
+    getD (Opened ∷ Begun (a .ticket) ∷ On ∷ Stored (a .ticket) ∷ Took (a .time) (a .path) (a .order) (a .distance) (a .energy) ∷ Empty ∷ []) (a .kind)
+    (Refused (a .number))
 
 pub answer-tells : (r : Response) → responseOf (answerOf r) ≡ r
 answer-tells Opened = refl

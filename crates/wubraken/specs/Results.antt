@@ -52,7 +52,8 @@ told r = record { memory = r .memory; answer = answerOf (r .response); said = sa
 abbrev pub Handles : List ℕ → Handled → Done → Type 0
 Handles s r d = (s ≡ d .store) × (r .worker ≡ d .worker) × (r .answer ≡ answerOf (d .response))
 
-pub put-back-told : (t : List Worker) (i : ℕ) (s : List ℕ) (r : Handled) (d : Done) → Handles s r d → leaves s (set t i (r .worker)) (r .answer) ≡ told (back t i d)
+pub put-back-told : (t : List Worker) (i : ℕ) (s : List ℕ) (r : Handled) (d : Done) → Handles s r d
+    → leaves s (set t i (r .worker)) (r .answer) ≡ told (back t i d)
 put-back-told t i s r d (store, worker, answer) =
     (λ k. leaves (store k) (set t i (worker k)) (answer k))
     ∙ (λ k. record { memory = lent (d .store) (set t i (d .worker)); answer = answerOf (d .response); said = answer-said (d .response) k })
@@ -116,14 +117,16 @@ module _ (sh : Shape) (s : List ℕ) (t : List Worker) where
   unfolding actOn gateOn
   acted a = go (eqb (gate (actor a)) 0) refl
     where
-      go : (b : Bool) → eqb (gate (actor a)) 0 ≡ b → back t (actor a) (cond b (localAct sh (survey sh t .low) s a (worker t (actor a))) (refused s (worker t (actor a)) (gate (actor a)))) ≡ act sh (record { store = s; table = t }) a
+      go : (b : Bool) → eqb (gate (actor a)) 0 ≡ b → back t (actor a) (cond b (localAct sh (survey sh t .low) s a (worker t (actor a)))
+          (refused s (worker t (actor a)) (gate (actor a)))) ≡ act sh (record { store = s; table = t }) a
       go true e = act-is sh m sound W a (survey sh t .low) (low-for a (eqb-true _ 0 e)) (eqb-true _ 0 e)
       go false e =
           ap (λ (u : List Worker). record { memory = lent s u; response = Refused (gate (actor a)) }) (set-getD t (actor a) blank)
           ∙ refused-is sh m sound W a (eqb-false _ 0 e)
 
   -- past the records that were looked at there is no worker, or the gate refuses anyway
-  pub away-is : (a : Action) → ltb (actor a) (survey sh t .records) ≡ false → leaves s t (answerOf (Refused (gateOn sh s (actor a) (length t) (survey sh t .ok)))) ≡ told (act sh (lent s t) a)
+  pub away-is : (a : Action) → ltb (actor a) (survey sh t .records) ≡ false
+      → leaves s t (answerOf (Refused (gateOn sh s (actor a) (length t) (survey sh t .ok)))) ≡ told (act sh (lent s t) a)
   unfolding gateOn
   away-is a beyond = ap told (refused-is sh m sound W a (λ z.
       let p = usable sh m sound W (actor a) z in
@@ -131,15 +134,18 @@ module _ (sh : Shape) (s : List ℕ) (t : List Worker) where
       omega (arith, ltb-false (actor a) (survey sh t .records) beyond, survey-records sh t (surveyed sh (length t)) (surveyed sh (length t)), all, p .exists)))
 
   -- both, of worker i
-  pub acted-of : (kind i : ℕ) (x : Arrival) → back t i (actOn sh (actionOf kind i x) (length t) (survey sh t) s (worker t i)) ≡ act sh (lent s t) (actionOf kind i x)
+  pub acted-of : (kind i : ℕ) (x : Arrival)
+      → back t i (actOn sh (actionOf kind i x) (length t) (survey sh t) s (worker t i)) ≡ act sh (lent s t) (actionOf kind i x)
   acted-of kind i x =
-      subst (λ (j : ℕ). back t j (actOn sh (actionOf kind i x) (length t) (survey sh t) s (worker t j)) ≡ act sh (lent s t) (actionOf kind i x)) (actor-of kind i x)
+      subst (λ (j : ℕ). back t j (actOn sh (actionOf kind i x) (length t) (survey sh t) s (worker t j)) ≡ act sh (lent s t) (actionOf kind i x))
+      (actor-of kind i x)
       (acted (actionOf kind i x))
 
   pub away-of : (kind i : ℕ) (x : Arrival) → ltb i (survey sh t .records) ≡ false
       → leaves s t (answerOf (Refused (gateOn sh s i (length t) (survey sh t .ok)))) ≡ told (act sh (lent s t) (actionOf kind i x))
   away-of kind i x =
-      subst (λ (j : ℕ). ltb j (survey sh t .records) ≡ false → leaves s t (answerOf (Refused (gateOn sh s j (length t) (survey sh t .ok)))) ≡ told (act sh (lent s t) (actionOf kind i x)))
+      subst (λ (j : ℕ). ltb j (survey sh t .records) ≡ false
+      → leaves s t (answerOf (Refused (gateOn sh s j (length t) (survey sh t .ok)))) ≡ told (act sh (lent s t) (actionOf kind i x)))
       (actor-of kind i x) (away-is (actionOf kind i x))
 
 -- ── opening ──
@@ -156,7 +162,9 @@ unfolding opensWords openGate open-pool openRefusal openTable
 open-is sh s t s′ r e = rw (e .0, e .1, e .2) (go (eqb (openGate sh (length s) (length t)) 0))
   where
     go : (b : Bool)
-        → leaves (cond b (openStore sh s) s) (replicate (cond b (sh .workers) 0) blank ++ drop (cond b (sh .workers) 0) t) (answerOf (cond b Opened (Refused (openGate sh (length s) (length t)))))
-        ≡ told (cond b (record { memory = lent (openStore sh s) (replicate (sh .workers) blank ++ drop (sh .workers) t); response = Opened }) (record { memory = lent s t; response = Refused (openGate sh (length s) (length t)) }))
+        → leaves (cond b (openStore sh s) s) (replicate (cond b (sh .workers) 0) blank ++ drop (cond b (sh .workers) 0) t)
+        (answerOf (cond b Opened (Refused (openGate sh (length s) (length t)))))
+        ≡ told (cond b (record { memory = lent (openStore sh s) (replicate (sh .workers) blank ++ drop (sh .workers) t); response = Opened })
+        (record { memory = lent s t; response = Refused (openGate sh (length s) (length t)) }))
     go true = refl
     go false = refl

@@ -74,7 +74,8 @@ pub record Surveyed (sh : Shape) (i : ℕ) (a : Survey) (w : Worker) : Type 0 wh
 
 pub survey-tells : (sh : Shape) (t : List Worker) (i : ℕ) → i < length t → Surveyed sh i (survey sh t) (worker t i)
 survey-tells sh t i h = record {
-  ranged = λ ok inside below. every-at _ (surveyed sh (length t)) (sym (survey-ok sh t (surveyed sh (length t)) (surveyed sh (length t))) ∙ ok) i (go (ltb (length t) (sh .workers)) inside below);
+  ranged = λ ok inside below. every-at _ (surveyed sh (length t)) (sym (survey-ok sh t (surveyed sh (length t)) (surveyed sh (length t))) ∙ ok) i
+      (go (ltb (length t) (sh .workers)) inside below);
   low = rw (survey-low sh t (surveyed sh (length t)) (surveyed sh (length t))) (least-bound t (surveyed sh (length t)));
 }
   where

@@ -55,7 +55,8 @@ pub fn act_lent(
     store: &mut [u64],
     table: &mut [Worker],
 ) -> Answer
-    ensures { λ r. ⌜ leaves (now (store .exit)) (now (table .exit)) r ≡ told (act shape (lent (now (store .entry)) (now (table .entry))) (actionOf kind i arrival)) ⌝ }
+    ensures { λ r. ⌜ leaves (now (store .exit)) (now (table .exit)) r ≡ told (act shape (lent (now (store .entry)) (now (table .entry)))
+        (actionOf kind i arrival)) ⌝ }
 {
     let n = table.len();
     let seen = survey_table(shape, table);
@@ -78,7 +79,8 @@ pub extern "C" fn wubraken_enqueue(
     store: &mut [u64],
     table: &mut [Worker],
 ) -> Answer
-    ensures { λ r. ⌜ leaves (now (store .exit)) (now (table .exit)) r ≡ told (act shape (lent (now (store .entry)) (now (table .entry))) (Enqueue i arrival)) ⌝ }
+    ensures { λ r. ⌜ leaves (now (store .exit)) (now (table .exit)) r ≡ told (act shape (lent (now (store .entry)) (now (table .entry)))
+        (Enqueue i arrival)) ⌝ }
 {
     act_lent(shape, 0, i, arrival, store, table)
 }

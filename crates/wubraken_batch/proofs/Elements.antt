@@ -25,14 +25,16 @@ use denote.Index.{row}
 
 module _ {M : Type 1} (𝓤 : URA M) (H : Heap 𝓤) (A : Atoms 𝓤) (W : Given 𝓤 H A) (R : RattleType) (n : ℕ) (xs : List (R .Denot)) (b : ℕ) where
   pub apart : Single (R .mir) → (v : Val)
-      → ent 𝓤 (sep 𝓤 (sem 𝓤 H A (fat fullShare (tyArray (lone (R .mir)) n) b 0 v)) (sem 𝓤 H A (Array R n .own xs (v ∷ [])))) (sem 𝓤 H A (row R fullShare xs b 0))
+      → ent 𝓤 (sep 𝓤 (sem 𝓤 H A (fat fullShare (tyArray (lone (R .mir)) n) b 0 v)) (sem 𝓤 H A (Array R n .own xs (v ∷ []))))
+      (sem 𝓤 H A (row R fullShare xs b 0))
   apart s v =
       qed W (‵ (fat fullShare (tyArray (lone (R .mir)) n) b 0 v) ∷ ‵ (Array R n .own xs (v ∷ [])) ∷ []) ∵
       use2 W (‵ (partAt (Array R n) fullShare xs b 0)) (part-in 𝓤 H A W (Array R n) refl fullShare xs b 0 v) $
       use1 W (‵ (arr-parts (shares R) n .part fullShare xs b 0)) (array-apart 𝓤 H A W R fullShare s n xs b 0) $ fsplit ! $ drop ! $ done !
 
   pub joined : length xs ≡ n
-      → ent 𝓤 (sem 𝓤 H A (row R fullShare xs b 0)) (ex 𝓤 (λ (v : Val). sep 𝓤 (sem 𝓤 H A (fat fullShare (tyArray (lone (R .mir)) n) b 0 v)) (sem 𝓤 H A (Array R n .own xs (v ∷ [])))))
+      → ent 𝓤 (sem 𝓤 H A (row R fullShare xs b 0))
+      (ex 𝓤 (λ (v : Val). sep 𝓤 (sem 𝓤 H A (fat fullShare (tyArray (lone (R .mir)) n) b 0 v)) (sem 𝓤 H A (Array R n .own xs (v ∷ [])))))
   joined e =
       qed W (‵ (row R fullShare xs b 0) ∷ []) ∵ feqI ! ℕ (length xs) n e $ fjoin ! $
       use1 W (‵ (partAt (Array R n) fullShare xs b 0)) (array-whole 𝓤 H A W R fullShare n xs b 0) $ by ! (part-out 𝓤 H A W (Array R n) refl fullShare xs b 0)

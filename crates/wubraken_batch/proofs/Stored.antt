@@ -33,7 +33,8 @@ module _ (rs ys : List Worker) where
 
   pub closed : (k : ℕ) → k ≤ length rs → k ≤ length ys → storedOf rs ys k ≡ take k rs ++ drop k ys
   closed zero h l = sym start
-  closed (suc k) h l = sym (more k) ∙ ap (λ (us : List Worker). set us k (getD rs k blank)) (closed k (omega arith) (omega arith)) ∙ store-next blank k rs ys h l
+  closed (suc k) h l =
+      sym (more k) ∙ ap (λ (us : List Worker). set us k (getD rs k blank)) (closed k (omega arith) (omega arith)) ∙ store-next blank k rs ys h l
 
   pub same-first : (k : ℕ) → k ≤ length rs → k ≤ length ys → take k (storedOf rs ys k) ≡ take k rs
   same-first k h l = ap (take k) (closed k h l) ∙ take-at (take k rs) (drop k ys) k (length-take-le k rs h)

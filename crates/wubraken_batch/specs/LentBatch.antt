@@ -66,7 +66,15 @@ heldOn sh s t bytes lines = heldAll bytes (surveyed sh (length t)) (at-work sh s
 -- ── records behind the held ones ──
 -- what a batch left, but the records from the k-th on as u has them
 abbrev pub keepingFrom : ℕ → Account → List Worker → Account
-keepingFrom k a u = record { shape = a .shape; memory = lent (a .memory .store) (over k (a .memory .table) u); lines = a .lines; read = a .read; written = a .written; stop = a .stop }
+keepingFrom k a u =
+    record {
+      shape = a .shape;
+      memory = lent (a .memory .store) (over k (a .memory .table) u);
+      lines = a .lines;
+      read = a .read;
+      written = a .written;
+      stop = a .stop;
+    }
 
 module _ (sh : Shape) (n : ℕ) where
   -- a shape within its limits that n records are enough for has all its workers' records looked at
@@ -102,7 +110,8 @@ unfoldable pub heldInRange : Shape → ℕ → List Worker → Bool
 heldInRange sh n t = every n (λ i. recordInRange sh (worker t i))
 
 -- the flag of held records
-pub held-watched : (sh : Shape) (s : List ℕ) (n : ℕ) (t : List Worker) → n ≤ length t → Watched sh (record { store = s; table = take n t }) (soundOf sh s n (heldInRange sh (surveyed sh n) t))
+pub held-watched : (sh : Shape) (s : List ℕ) (n : ℕ) (t : List Worker) → n ≤ length t
+    → Watched sh (record { store = s; table = take n t }) (soundOf sh s n (heldInRange sh (surveyed sh n) t))
 unfolding heldInRange tableInRange
 held-watched sh s n t h =
     subst (λ m. Watched sh (lent s (take n t)) (soundOf sh s m (heldInRange sh (surveyed sh n) t))) (length-take-le n t h)
@@ -123,20 +132,31 @@ module _ (sh : Shape) (s : List ℕ) (t : List Worker) (bytes lines : List ℕ) 
   pub copied-bound : (copied ≤ 64) × (copied ≤ length t)
   copied-bound = let b = counted-bound (length t) in let c = surveyed-bound sh counted in (omega (arith, b .1), omega (arith, b .0))
 
-  module _ (held : List Worker) (out : held ≡ take (surveyed sh (countedOf (length t))) t ++ drop (surveyed sh (countedOf (length t))) (replicate 64 blank)) where
+  module _ (held : List Worker)
+      (out : held ≡ take (surveyed sh (countedOf (length t))) t ++ drop (surveyed sh (countedOf (length t))) (replicate 64 blank)) where
     copied-long : length (take copied t) ≡ copied
     copied-long = length-take-le copied t (copied-bound .1)
 
     array : length held ≡ 64
-    array = ap length out ∙ length-append (take copied t) (drop copied (replicate 64 blank)) ∙ omega (arith, copied-long, length-drop copied (replicate 64 blank), length-replicate 64 blank, copied-bound .0)
+    array =
+        ap length out ∙ length-append (take copied t) (drop copied (replicate 64 blank)) ∙ omega (
+          arith,
+          copied-long,
+          length-drop copied (replicate 64 blank),
+          length-replicate 64 blank,
+          copied-bound .0,
+        )
 
     few : length (take counted held) ≡ counted
     few = length-take-le counted held (omega (arith, array, counted-bound (length t) .1))
 
-    same-first : take (surveyed sh (length (take (countedOf (length t)) held))) t ≡ take (surveyed sh (length (take (countedOf (length t)) held))) (take (countedOf (length t)) held)
+    same-first : take (surveyed sh (length (take (countedOf (length t)) held))) t
+        ≡ take (surveyed sh (length (take (countedOf (length t)) held))) (take (countedOf (length t)) held)
     same-first =
         subst⁻¹ (λ (m : ℕ). take (surveyed sh m) t ≡ take (surveyed sh m) (take counted held)) few
-        (sym (take-take copied counted held (surveyed-bound sh counted) ∙ ap (take copied) out ∙ take-at (take copied t) (drop copied (replicate 64 blank)) copied copied-long))
+        (sym (take-take copied counted held (surveyed-bound sh counted)
+        ∙ ap (take copied) out
+        ∙ take-at (take copied t) (drop copied (replicate 64 blank)) copied copied-long))
 
     same-count : countedOf (length t) ≡ countedOf (length (take (countedOf (length t)) held))
     same-count = sym (ap countedOf few ∙ counted-again (length t))
@@ -148,11 +168,13 @@ module _ (sh : Shape) (s : List ℕ) (t : List Worker) (bytes lines : List ℕ) 
         (omega (arith, h, e, same-count, b .1), omega (arith, h, e, same-count, b .0))
 
     -- what was run on the copy, and stored back, is the batch on the table
-    pub batch-is : (r : HeldBatch) (zs ls : List ℕ) → account zs (take (countedOf (length t)) (r .table)) ls (r .ending) ≡ batchOn sh s (take (countedOf (length t)) held) bytes lines
+    pub batch-is : (r : HeldBatch) (zs ls : List ℕ)
+        → account zs (take (countedOf (length t)) (r .table)) ls (r .ending) ≡ batchOn sh s (take (countedOf (length t)) held) bytes lines
         → r .held ≡ heldOn sh s (take (countedOf (length t)) held) bytes lines → (ws : List Worker) → ws ≡ take (r .held) (r .table) ++ drop (r .held) t
         → account zs ws ls (r .ending) ≡ batchOn sh s t bytes lines
     batch-is r zs ls e h ws back =
-        ap (λ (u : List Worker). account zs u ls (r .ending)) (back ∙ ap (λ (u : List Worker). u ++ drop (r .held) t) (sym (take-take (r .held) counted (r .table) (omega (arith, held-within sh s bytes lines (take counted held), h, same-count)))))
+        ap (λ (u : List Worker). account zs u ls (r .ending)) (back ∙ ap (λ (u : List Worker). u ++ drop (r .held) t) (sym (take-take (r .held) counted
+        (r .table) (omega (arith, held-within sh s bytes lines (take counted held), h, same-count)))))
         ∙ ap (λ (a : Account). keepingFrom (r .held) a t) e
         ∙ ap (λ k. keepingFrom k (batchOn sh s (take counted held) bytes lines) t) h
         ∙ sym (batch-beyond sh s bytes lines (take counted held) t same-first same-count)

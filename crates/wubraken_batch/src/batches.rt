@@ -73,7 +73,8 @@ pub fn run_held(
     store: &mut [u64],
 ) -> HeldBatch
     requires { ⌜ n ≤ 64 ⌝ }
-    ensures { λ r. ⌜ (account (now (store .exit)) (take n (r .table)) (now (out .exit)) (r .ending) ≡ batchOn shape (now (store .entry)) (take n table) (now (input .entry)) (now (out .entry)))
+    ensures { λ r. ⌜ (account (now (store .exit)) (take n (r .table)) (now (out .exit)) (r .ending)
+        ≡ batchOn shape (now (store .entry)) (take n table) (now (input .entry)) (now (out .entry)))
         × (r .held ≡ heldOn shape (now (store .entry)) (take n table) (now (input .entry)) (now (out .entry))) ⌝ }
 {
     let held = records_surveyed(shape, n);

@@ -23,7 +23,8 @@ pub extern "C" fn wubraken_run_batch(
     store: &mut [u64],
     table: &mut [Worker],
 ) -> BatchEnd
-    ensures { λ r. ⌜ account (now (store .exit)) (now (table .exit)) (now (out .exit)) r ≡ batchOn shape (now (store .entry)) (now (table .entry)) (now (input .entry)) (now (out .entry)) ⌝ }
+    ensures { λ r. ⌜ account (now (store .exit)) (now (table .exit)) (now (out .exit)) r
+        ≡ batchOn shape (now (store .entry)) (now (table .entry)) (now (input .entry)) (now (out .entry)) ⌝ }
 {
     let n = records_counted(table.len());
     let k = records_surveyed(shape, n);

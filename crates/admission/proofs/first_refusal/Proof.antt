@@ -22,15 +22,38 @@ returns-2 c = rw (← c .before .before .before .shape-in-range .ensures, c .bef
 
 returns-3 : tie.Need-returns-3
 unfolding gateOf
-returns-3 c = rw (← c .before .before .before .before .shape-in-range .ensures, c .before .before .before .if1 .left, ← c .before .before .is-short .ensures, c .before .if2 .left, c .if3 .taken)
+returns-3 c =
+    rw (
+      ← c .before .before .before .before .shape-in-range .ensures,
+      c .before .before .before .if1 .left,
+      ← c .before .before .is-short .ensures,
+      c .before .if2 .left,
+      c .if3 .taken,
+    )
 
 returns-4 : tie.Need-returns-4
 unfolding gateOf
-returns-4 c = rw (← c .before .before .before .before .before .before .shape-in-range .ensures, c .before .before .before .before .before .if1 .left, ← c .before .before .before .before .is-short .ensures, c .before .before .before .if2 .left, c .before .before .if3 .left, le-leb _ _ (c .if4 .taken))
+returns-4 c =
+    rw (
+      ← c .before .before .before .before .before .before .shape-in-range .ensures,
+      c .before .before .before .before .before .if1 .left,
+      ← c .before .before .before .before .is-short .ensures,
+      c .before .before .before .if2 .left,
+      c .before .before .if3 .left,
+      le-leb _ _ (c .if4 .taken),
+    )
 
 returns-5 : tie.Need-returns-5
 unfolding gateOf
-returns-5 c = rw (← c .before .before .before .before .before .before .shape-in-range .ensures, c .before .before .before .before .before .if1 .left, ← c .before .before .before .before .is-short .ensures, c .before .before .before .if2 .left, c .before .before .if3 .left, lt-leb _ _ (c .if4 .left))
+returns-5 c =
+    rw (
+      ← c .before .before .before .before .before .before .shape-in-range .ensures,
+      c .before .before .before .before .before .if1 .left,
+      ← c .before .before .before .before .is-short .ensures,
+      c .before .before .before .if2 .left,
+      c .before .before .if3 .left,
+      lt-leb _ _ (c .if4 .left),
+    )
 
 pub first-refusal-spec : {M : Type 1} → statement M
 first-refusal-spec =

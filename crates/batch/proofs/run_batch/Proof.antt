@@ -23,7 +23,8 @@ Inv-loop input at₀ out₀ to₀ store₀ shape₀ sound₀ records held₀ tab
     × (tickets ≡ ticketsOf table) × (stop ≡ Full) × (words ≡ length store₀) × (room ≡ length out₀)
 
 abbrev μ-loop : tie.MeasureT-loop
-μ-loop input at₀ out₀ to₀ store₀ shape₀ sound₀ records held₀ table₀ tickets₀ words room stop₀ at out to store shape sound held table tickets stop = length input - at
+μ-loop input at₀ out₀ to₀ store₀ shape₀ sound₀ records held₀ table₀ tickets₀ words room stop₀ at out to store shape sound held table tickets stop =
+    length input - at
 
 tickets-of-requires : tie.Need-tickets-of-requires Inv-loop μ-loop
 tickets-of-requires c κs = search needs
@@ -55,7 +56,9 @@ open-store-requires c κs =
     (laid-for R _ _ is (c .before .if2 .left), lent-to R _ _ is (c .before .if2 .left) .limits .some-node)
 
 cleared-requires : tie.Need-cleared-requires Inv-loop μ-loop
-cleared-requires c κs = lent-to (c .before .before .before .before .before .before .before .before .before .before .before .before .loop .inv .0) _ _ (c .before .before .before .before .before .open-gate .ensures) (c .before .before .before .before .if2 .left) .limits .workers
+cleared-requires c κs =
+    lent-to (c .before .before .before .before .before .before .before .before .before .before .before .before .loop .inv .0) _ _
+    (c .before .before .before .before .before .open-gate .ensures) (c .before .before .before .before .if2 .left) .limits .workers
 
 tickets-of-requires-2 : tie.Need-tickets-of-requires-2 Inv-loop μ-loop
 tickets-of-requires-2 c κs = search needs
@@ -67,25 +70,55 @@ write-opened-requires : tie.Need-write-opened-requires Inv-loop μ-loop
 write-opened-requires c κs = search needs
 
 loop-less : tie.Need-loop-less Inv-loop μ-loop
-loop-less c = nearer-open _ _ _ (c .before .before .before .before .before .before .before .before .before .read-record .ensures) _ _ (c .before .before .before .before .before .before .before .«record» .given .1)
+loop-less c =
+    nearer-open _ _ _ (c .before .before .before .before .before .before .before .before .before .read-record .ensures) _ _
+    (c .before .before .before .before .before .before .before .«record» .given .1)
 
 loop-again : tie.Need-loop-again Inv-loop μ-loop
 loop-again c =
     let inv = c .before .before .before .before .before .before .before .before .before .before .before .before .loop .inv in
-    let fits = sym (c .before .before .before .before .before .before .before .before .before .before .before .has-room .ensures) ∙ c .before .before .before .before .before .before .before .before .before .before .if1 .taken in
-    let read = known-open _ _ _ (c .before .before .before .before .before .before .before .before .before .read-record .ensures) _ _ (c .before .before .before .before .before .before .before .«record» .given .1) in
-    (not-opened (inv .0) fits _ _ _ _ (c .before .before .write-refusal .ensures) _ read _ (c .before .before .before .before .before .open-gate .ensures) (c .before .before .before .before .if2 .taken) refl, inv .1, inv .2, inv .3, inv .4)
+    let fits = sym (c .before .before .before .before .before .before .before .before .before .before .before .has-room .ensures)
+    ∙ c .before .before .before .before .before .before .before .before .before .before .if1 .taken in
+    let read = known-open _ _ _ (c .before .before .before .before .before .before .before .before .before .read-record .ensures) _ _
+    (c .before .before .before .before .before .before .before .«record» .given .1) in (
+      not-opened (inv .0) fits _ _ _ _ (c .before .before .write-refusal .ensures) _ read _ (c .before .before .before .before .before .open-gate .ensures)
+          (c .before .before .before .before .if2 .taken) refl,
+      inv .1,
+      inv .2,
+      inv .3,
+      inv .4,
+    )
 
 loop-less-2 : tie.Need-loop-less-2 Inv-loop μ-loop
-loop-less-2 c = nearer-open _ _ _ (c .before .before .before .before .before .before .before .before .before .before .before .before .before .before .before .before .read-record .ensures) _ _ (c .before .before .before .before .before .before .before .before .before .before .before .before .before .before .«record» .given .1)
+loop-less-2 c =
+    nearer-open _ _ _ (c .before .before .before .before .before .before .before .before .before .before .before .before .before .before .before .before
+    .read-record .ensures) _ _
+    (c .before .before .before .before .before .before .before .before .before .before .before .before .before .before .«record» .given .1)
 
 loop-again-2 : tie.Need-loop-again-2 Inv-loop μ-loop
 loop-again-2 c =
-    let inv = c .before .before .before .before .before .before .before .before .before .before .before .before .before .before .before .before .before .before .before .loop .inv in
-    let fits = sym (c .before .before .before .before .before .before .before .before .before .before .before .before .before .before .before .before .before .before .has-room .ensures) ∙ c .before .before .before .before .before .before .before .before .before .before .before .before .before .before .before .before .before .if1 .taken in
-    let read = known-open _ _ _ (c .before .before .before .before .before .before .before .before .before .before .before .before .before .before .before .before .read-record .ensures) _ _ (c .before .before .before .before .before .before .before .before .before .before .before .before .before .before .«record» .given .1) in
-    let did = opened (inv .0) fits _ _ _ _ (c .before .before .write-opened .ensures) _ read _ (c .before .before .before .before .before .before .before .before .before .before .before .before .open-gate .ensures) (c .before .before .before .before .before .before .before .before .before .before .before .if2 .left) refl in
-    (did _ (c .before .before .before .before .before .before .before .before .before .open-store .ensures) _ (c .before .before .before .before .before .before .cleared .ensures) _ (c .before .before .before .before .greater .ensures), c .before .before .before .before .before .tickets-of2 .ensures, inv .2, inv .3, inv .4)
+    let inv =
+    c .before .before .before .before .before .before .before .before .before .before .before .before .before .before .before .before .before .before .before
+    .loop .inv in
+    let fits =
+    sym (c .before .before .before .before .before .before .before .before .before .before .before .before .before .before .before .before .before .before
+    .has-room .ensures)
+    ∙ c .before .before .before .before .before .before .before .before .before .before .before .before .before .before .before .before .before .if1 .taken in
+    let read =
+    known-open _ _ _ (c .before .before .before .before .before .before .before .before .before .before .before .before .before .before .before .before
+    .read-record .ensures) _ _
+    (c .before .before .before .before .before .before .before .before .before .before .before .before .before .before .«record» .given .1) in
+    let did =
+    opened (inv .0) fits _ _ _ _ (c .before .before .write-opened .ensures) _ read _
+    (c .before .before .before .before .before .before .before .before .before .before .before .before .open-gate .ensures)
+    (c .before .before .before .before .before .before .before .before .before .before .before .if2 .left) refl in (
+      did _ (c .before .before .before .before .before .before .before .before .before .open-store .ensures) _
+          (c .before .before .before .before .before .before .cleared .ensures) _ (c .before .before .before .before .greater .ensures),
+      c .before .before .before .before .before .tickets-of2 .ensures,
+      inv .2,
+      inv .3,
+      inv .4,
+    )
 
 enum-known-record-2 : tie.Need-enum-known-record-2 Inv-loop μ-loop
 enum-known-record-2 c = search needs
@@ -105,65 +138,135 @@ mul-w c =
     omega arith
 
 array-copy-out-w : tie.Need-array-copy-out-w Inv-loop μ-loop
-array-copy-out-w c = below-64 (c .before .before .before .before .before .before .before .before .before .loop .inv .0) _ _ (c .before .gate .ensures) (c .if3 .left)
+array-copy-out-w c =
+    below-64 (c .before .before .before .before .before .before .before .before .before .loop .inv .0) _ _ (c .before .gate .ensures) (c .if3 .left)
 
 low-for-requires : tie.Need-low-for-requires Inv-loop μ-loop
-low-for-requires c κs = in-use (c .before .before .before .before .before .before .before .before .before .before .before .loop .inv .0) _ _ (c .before .before .before .gate .ensures) (c .before .before .if3 .left) .lent .limits .workers
+low-for-requires c κs =
+    in-use (c .before .before .before .before .before .before .before .before .before .before .before .loop .inv .0) _ _
+    (c .before .before .before .gate .ensures) (c .before .before .if3 .left) .lent .limits .workers
 
 action-leaks-requires : tie.Need-action-leaks-requires Inv-loop μ-loop
 unfolding blank
-action-leaks-requires c κs = let-in (c .before .before .before .before .before .before .before .before .before .before .before .before .before .loop .inv .0) _ _ (c .before .before .before .before .before .gate .ensures) (c .before .before .before .before .if3 .left) .ready
+action-leaks-requires c κs =
+    let-in (c .before .before .before .before .before .before .before .before .before .before .before .before .before .loop .inv .0) _ _
+    (c .before .before .before .before .before .gate .ensures) (c .before .before .before .before .if3 .left) .ready
 
 perform-requires : tie.Need-perform-requires Inv-loop μ-loop
 unfolding blank
-perform-requires c κs = (let-in (c .before .before .before .before .before .before .before .before .before .before .before .before .before .before .before .loop .inv .0) _ _ (c .before .before .before .before .before .before .before .gate .ensures) (c .before .before .before .before .before .before .if3 .left), c .before .before .before .low-for .ensures .1)
+perform-requires c κs = (
+  let-in (c .before .before .before .before .before .before .before .before .before .before .before .before .before .before .before .loop .inv .0) _ _
+      (c .before .before .before .before .before .before .before .gate .ensures) (c .before .before .before .before .before .before .if3 .left),
+  c .before .before .before .low-for .ensures .1,
+)
 
 mul-table : tie.Need-mul-table Inv-loop μ-loop
 mul-table c =
-    let p = below-64 (c .before .before .before .before .before .before .before .before .before .before .before .before .before .before .before .before .before .before .before .loop .inv .0) _ _ (c .before .before .before .before .before .before .before .before .before .before .before .gate .ensures) (c .before .before .before .before .before .before .before .before .before .before .if3 .left) in
+    let p =
+    below-64 (c .before .before .before .before .before .before .before .before .before .before .before .before .before .before .before .before .before .before
+    .before .loop .inv .0) _ _ (c .before .before .before .before .before .before .before .before .before .before .before .gate .ensures)
+    (c .before .before .before .before .before .before .before .before .before .before .if3 .left) in
     omega arith
 
 array-set-from-table : tie.Need-array-set-from-table Inv-loop μ-loop
-array-set-from-table c = below-64 (c .before .before .before .before .before .before .before .before .before .before .before .before .before .before .before .before .before .before .before .loop .inv .0) _ _ (c .before .before .before .before .before .before .before .before .before .before .before .gate .ensures) (c .before .before .before .before .before .before .before .before .before .before .if3 .left)
+array-set-from-table c =
+    below-64 (c .before .before .before .before .before .before .before .before .before .before .before .before .before .before .before .before .before .before
+    .before .loop .inv .0) _ _ (c .before .before .before .before .before .before .before .before .before .before .before .gate .ensures)
+    (c .before .before .before .before .before .before .before .before .before .before .if3 .left)
 
 lower-ticket-requires : tie.Need-lower-ticket-requires Inv-loop μ-loop
 lower-ticket-requires c κs = search needs
 
 mul-tickets : tie.Need-mul-tickets Inv-loop μ-loop
 mul-tickets c =
-    let p = below-64 (c .before .before .before .before .before .before .before .before .before .before .before .before .before .before .before .before .before .before .before .before .loop .inv .0) _ _ (c .before .before .before .before .before .before .before .before .before .before .before .before .gate .ensures) (c .before .before .before .before .before .before .before .before .before .before .before .if3 .left) in
+    let p =
+    below-64 (c .before .before .before .before .before .before .before .before .before .before .before .before .before .before .before .before .before .before
+    .before .before .loop .inv .0) _ _ (c .before .before .before .before .before .before .before .before .before .before .before .before .gate .ensures)
+    (c .before .before .before .before .before .before .before .before .before .before .before .if3 .left) in
     omega arith
 
 array-write-tickets : tie.Need-array-write-tickets Inv-loop μ-loop
-array-write-tickets c = below-64 (c .before .before .before .before .before .before .before .before .before .before .before .before .before .before .before .before .before .before .before .before .loop .inv .0) _ _ (c .before .before .before .before .before .before .before .before .before .before .before .before .gate .ensures) (c .before .before .before .before .before .before .before .before .before .before .before .if3 .left)
+array-write-tickets c =
+    below-64 (c .before .before .before .before .before .before .before .before .before .before .before .before .before .before .before .before .before .before
+    .before .before .loop .inv .0) _ _ (c .before .before .before .before .before .before .before .before .before .before .before .before .gate .ensures)
+    (c .before .before .before .before .before .before .before .before .before .before .before .if3 .left)
 
 write-line-requires : tie.Need-write-line-requires Inv-loop μ-loop
 write-line-requires c κs = search needs
 
 loop-less-3 : tie.Need-loop-less-3 Inv-loop μ-loop
-loop-less-3 c = nearer-act _ _ _ (c .before .before .before .before .before .before .before .before .before .before .read-record .ensures) _ _ (c .before .before .before .before .before .before .before .before .record2 .given .1)
+loop-less-3 c =
+    nearer-act _ _ _ (c .before .before .before .before .before .before .before .before .before .before .read-record .ensures) _ _
+    (c .before .before .before .before .before .before .before .before .record2 .given .1)
 
 loop-again-3 : tie.Need-loop-again-3 Inv-loop μ-loop
 loop-again-3 c =
     let inv = c .before .before .before .before .before .before .before .before .before .before .before .before .before .loop .inv in
-    let fits = sym (c .before .before .before .before .before .before .before .before .before .before .before .before .has-room .ensures) ∙ c .before .before .before .before .before .before .before .before .before .before .before .if1 .taken in
-    let read = known-act _ _ _ (c .before .before .before .before .before .before .before .before .before .before .read-record .ensures) _ _ (c .before .before .before .before .before .before .before .before .record2 .given .1) in
-    (turned-away (inv .0) fits _ _ _ _ (c .before .before .write-refusal2 .ensures) _ _ (c .before .before .before .before .before .before .actor .ensures) read _ (c .before .before .before .before .before .gate .ensures) (c .before .before .before .before .if3 .taken) refl, inv .1, inv .2, inv .3, inv .4)
+    let fits = sym (c .before .before .before .before .before .before .before .before .before .before .before .before .has-room .ensures)
+    ∙ c .before .before .before .before .before .before .before .before .before .before .before .if1 .taken in
+    let read = known-act _ _ _ (c .before .before .before .before .before .before .before .before .before .before .read-record .ensures) _ _
+    (c .before .before .before .before .before .before .before .before .record2 .given .1) in (
+      turned-away (inv .0) fits _ _ _ _ (c .before .before .write-refusal2 .ensures) _ _ (c .before .before .before .before .before .before .actor .ensures)
+          read _ (c .before .before .before .before .before .gate .ensures) (c .before .before .before .before .if3 .taken) refl,
+      inv .1,
+      inv .2,
+      inv .3,
+      inv .4,
+    )
 
 loop-less-4 : tie.Need-loop-less-4 Inv-loop μ-loop
-loop-less-4 c = nearer-act _ _ _ (c .before .before .before .before .before .before .before .before .before .before .before .before .before .before .before .before .before .before .before .before .before .read-record .ensures) _ _ (c .before .before .before .before .before .before .before .before .before .before .before .before .before .before .before .before .before .before .before .record2 .given .1)
+loop-less-4 c =
+    nearer-act _ _ _ (c .before .before .before .before .before .before .before .before .before .before .before .before .before .before .before .before .before
+    .before .before .before .before .read-record .ensures) _ _
+    (c .before .before .before .before .before .before .before .before .before .before .before .before .before .before .before .before .before .before .before
+    .record2 .given .1)
 
 loop-again-4 : tie.Need-loop-again-4 Inv-loop μ-loop
 unfolding blank
 loop-again-4 c =
-    let inv = c .before .before .before .before .before .before .before .before .before .before .before .before .before .before .before .before .before .before .before .before .before .before .before .before .loop .inv in
-    let fits = sym (c .before .before .before .before .before .before .before .before .before .before .before .before .before .before .before .before .before .before .before .before .before .before .before .has-room .ensures) ∙ c .before .before .before .before .before .before .before .before .before .before .before .before .before .before .before .before .before .before .before .before .before .before .if1 .taken in
-    let read = known-act _ _ _ (c .before .before .before .before .before .before .before .before .before .before .before .before .before .before .before .before .before .before .before .before .before .read-record .ensures) _ _ (c .before .before .before .before .before .before .before .before .before .before .before .before .before .before .before .before .before .before .before .record2 .given .1) in
-    let U = in-use (inv .0) _ _ (c .before .before .before .before .before .before .before .before .before .before .before .before .before .before .before .before .gate .ensures) (c .before .before .before .before .before .before .before .before .before .before .before .before .before .before .before .if3 .left) in
-    let low = low-is (c .before .before .before .before .before .before .before .before .before .before .before .before .before .before .before .before .before .before .before .before .before .before .before .before .loop .shape) (c .before .before .before .before .before .before .before .before .before .before .before .before .before .before .before .before .before .before .before .before .before .before .before .before .loop .table) _ (c .before .before .before .before .before .before .before .before .before .before .before .before .before .before .before .before .before .before .before .record2 .given .0 .0) _ (inv .1) (omega (arith, U .lent .limits .workers, inv .0 .array)) (c .before .before .before .before .before .before .before .before .before .before .before .before .low-for .ensures .0) in
-    let did = performed-at (inv .0) fits _ _ _ _ (c .before .before .write-line .ensures) _ _ (c .before .before .before .before .before .before .before .before .before .before .before .before .before .before .before .before .before .actor .ensures) read _ (c .before .before .before .before .before .before .before .before .before .before .before .before .before .before .before .before .gate .ensures) (c .before .before .before .before .before .before .before .before .before .before .before .before .before .before .before .if3 .left) _ _ _ low _ (c .before .before .before .before .before .before .before .before .before .before .action-leaks .ensures) (c .before .before .before .before .before .before .before .before .perform .ensures) in
-    let kept = ap (λ (x : ℕ). set (c .before .before .before .before .before .before .before .before .before .before .before .before .before .before .before .before .before .before .before .before .before .before .before .before .loop .tickets) (c .before .before .before .before .before .before .before .before .before .before .before .before .before .before .before .before .before .actor .result) x) (c .before .before .before .before .lower-ticket .ensures)
-    ∙ ap (λ (ts : List ℕ). set ts (c .before .before .before .before .before .before .before .before .before .before .before .before .before .before .before .before .before .actor .result) (ticketOf (c .before .before .before .before .before .before .before .before .perform .result .worker))) (inv .1) ∙ sym (tickets-set (c .before .before .before .before .before .before .before .before .before .before .before .before .before .before .before .before .before .before .before .before .before .before .before .before .loop .table) (c .before .before .before .before .before .before .before .before .before .before .before .before .before .before .before .before .before .actor .result) (c .before .before .before .before .before .before .before .before .perform .result .worker)) in
+    let inv =
+    c .before .before .before .before .before .before .before .before .before .before .before .before .before .before .before .before .before .before .before
+    .before .before .before .before .before .loop .inv in
+    let fits =
+    sym (c .before .before .before .before .before .before .before .before .before .before .before .before .before .before .before .before .before .before
+    .before .before .before .before .before .has-room .ensures)
+    ∙ c .before .before .before .before .before .before .before .before .before .before .before .before .before .before .before .before .before .before .before
+    .before .before .before .if1 .taken in
+    let read =
+    known-act _ _ _ (c .before .before .before .before .before .before .before .before .before .before .before .before .before .before .before .before .before
+    .before .before .before .before .read-record .ensures) _ _
+    (c .before .before .before .before .before .before .before .before .before .before .before .before .before .before .before .before .before .before .before
+    .record2 .given .1) in
+    let U =
+    in-use (inv .0) _ _ (c .before .before .before .before .before .before .before .before .before .before .before .before .before .before .before .before .gate
+    .ensures) (c .before .before .before .before .before .before .before .before .before .before .before .before .before .before .before .if3 .left) in
+    let low =
+    low-is (c .before .before .before .before .before .before .before .before .before .before .before .before .before .before .before .before .before .before
+    .before .before .before .before .before .before .loop .shape)
+    (c .before .before .before .before .before .before .before .before .before .before .before .before .before .before .before .before .before .before .before
+    .before .before .before .before .before .loop .table) _
+    (c .before .before .before .before .before .before .before .before .before .before .before .before .before .before .before .before .before .before .before
+    .record2 .given .0 .0) _ (inv .1) (omega (arith, U .lent .limits .workers, inv .0 .array))
+    (c .before .before .before .before .before .before .before .before .before .before .before .before .low-for .ensures .0) in
+    let did =
+    performed-at (inv .0) fits _ _ _ _ (c .before .before .write-line .ensures) _ _
+    (c .before .before .before .before .before .before .before .before .before .before .before .before .before .before .before .before .before .actor .ensures)
+    read _ (c .before .before .before .before .before .before .before .before .before .before .before .before .before .before .before .before .gate .ensures)
+    (c .before .before .before .before .before .before .before .before .before .before .before .before .before .before .before .if3 .left) _ _ _ low _
+    (c .before .before .before .before .before .before .before .before .before .before .action-leaks .ensures)
+    (c .before .before .before .before .before .before .before .before .perform .ensures) in
+    let kept =
+    ap (λ (x : ℕ). set (c .before .before .before .before .before .before .before .before .before .before .before .before .before .before .before .before
+    .before .before .before .before .before .before .before .before .loop .tickets)
+    (c .before .before .before .before .before .before .before .before .before .before .before .before .before .before .before .before .before .actor .result)
+    x) (c .before .before .before .before .lower-ticket .ensures)
+    ∙ ap (λ (ts : List ℕ). set ts
+    (c .before .before .before .before .before .before .before .before .before .before .before .before .before .before .before .before .before .actor .result)
+    (ticketOf (c .before .before .before .before .before .before .before .before .perform .result .worker))) (inv .1)
+    ∙ sym (tickets-set (c .before .before .before .before .before .before .before .before .before .before .before .before .before .before .before .before
+    .before .before .before .before .before .before .before .before .loop .table)
+    (c .before .before .before .before .before .before .before .before .before .before .before .before .before .before .before .before .before .actor .result)
+    (c .before .before .before .before .before .before .before .before .perform .result .worker)) in
     (did, kept, inv .2, inv .3, inv .4)
 
 enum-told : tie.Need-enum-told Inv-loop μ-loop
@@ -193,11 +296,13 @@ same-length-4 c = sym (c .before .before .before .before .before .loop .inv .0 .
 returns-2 : tie.Need-returns-2 Inv-loop μ-loop
 returns-2 c =
     let R = c .before .before .before .before .before .loop .inv .0 in
-    let end = at-drained R (sym (c .before .before .before .before .has-room .ensures) ∙ c .before .before .before .if1 .taken) (sym (c .enum-told .given .1) ∙ c .before .before .read-record .ensures) in
+    let end = at-drained R (sym (c .before .before .before .before .has-room .ensures) ∙ c .before .before .before .if1 .taken) (sym (c .enum-told .given .1)
+    ∙ c .before .before .read-record .ensures) in
     (end .0, kept R, refl, end .1)
 
 same-length-5 : tie.Need-same-length-5 Inv-loop μ-loop
-same-length-5 c = sym (c .before .before .before .before .before .before .loop .inv .0 .buffer) ∙ c .before .before .before .before .before .before .loop .inv .4
+same-length-5 c =
+    sym (c .before .before .before .before .before .before .loop .inv .0 .buffer) ∙ c .before .before .before .before .before .before .loop .inv .4
 
 same-length-6 : tie.Need-same-length-6 Inv-loop μ-loop
 same-length-6 c = sym (c .before .before .before .before .before .before .loop .inv .0 .store) ∙ c .before .before .before .before .before .before .loop .inv .3
@@ -205,7 +310,9 @@ same-length-6 c = sym (c .before .before .before .before .before .before .loop .
 returns-3 : tie.Need-returns-3 Inv-loop μ-loop
 returns-3 c =
     let R = c .before .before .before .before .before .before .loop .inv .0 in
-    let end = at-halted R (sym (c .before .before .before .before .before .has-room .ensures) ∙ c .before .before .before .before .if1 .taken) _ (sym (c .before .record3 .given .1) ∙ c .before .before .before .read-record .ensures) in
+    let end = at-halted R (sym (c .before .before .before .before .before .has-room .ensures) ∙ c .before .before .before .before .if1 .taken) _
+    (sym (c .before .record3 .given .1)
+    ∙ c .before .before .before .read-record .ensures) in
     (end .0, kept R, refl, end .1)
 
 pub run-batch-spec : {M : Type 1} → statement M

@@ -17,7 +17,8 @@ use Rattle.calendar.specs.rules.Ranges.{worker, pathInRange, orderInRang
 use Rattle.calendar.specs.facts.RangeFacts.{Limits, limits, StoreRanges, store-ranges, RecordRanges, table-ranges}
 use Rattle.calendar.specs.facts.Views.{view}
 use Rattle.calendar.specs.rules.Reclaim.{firstFree}
-use Rattle.calendar.specs.rules.Refusals.{badShape, tooShort, outOfRange, noWorker, badArrival, tooLate, busy, idle, noTicket, noEpoch, noNode, openRefusal, enqueueRefusal, dequeueRefusal, stepRefusal}
+use Rattle.calendar.specs.rules.Refusals.{badShape, tooShort, outOfRange, noWorker, badArrival, tooLate, busy, idle, noTicket, noEpoch, noNode}
+use Rattle.calendar.specs.rules.Refusals.{openRefusal, enqueueRefusal, dequeueRefusal, stepRefusal}
 use Rattle.calendar.specs.rules.Refusals.{openTests, enqueueTests, dequeueTests, stepTests}
 use Rattle.calendar.specs.facts.FirstOf.{first-none}
 
@@ -60,7 +61,8 @@ lent sh s t one two =
     let (p, q) = neither _ _ two in
     record { limits = limits sh (not-false _ one); store = ltb-false _ _ p; table = ltb-false _ _ q }
 
-usable : (sh : Shape) (s : List ℕ) (t : List Worker) (i : ℕ) → badShape sh ≡ false → tooShort sh s t ≡ false → outOfRange sh s t ≡ false → noWorker sh i ≡ false → Usable sh s t i
+usable : (sh : Shape) (s : List ℕ) (t : List Worker) (i : ℕ) → badShape sh ≡ false → tooShort sh s t ≡ false → outOfRange sh s t ≡ false → noWorker sh i ≡ false
+    → Usable sh s t i
 usable sh s t i one two three four =
     let (p, q) = parts (storeInRange sh s) (tableInRange sh t) (not-false _ three) in
     record { lent = lent sh s t one two; store = store-ranges sh s p; table = table-ranges sh t q; exists = leb-false _ _ four }

@@ -8,7 +8,8 @@ use native.Mathlib.Omega.{arith}
 use Rattle.arrival.specs.declared.Shape.{Shape}
 use Rattle.arrival.specs.declared.Arrival.{Arrival}
 use Rattle.arrival.specs.declared.Worker.{Worker}
-use Rattle.calendar.specs.rules.Refusals.{firstOf, openTests, enqueueTests, dequeueTests, stepTests, openRefusal, enqueueRefusal, dequeueRefusal, stepRefusal}
+use Rattle.calendar.specs.rules.Refusals.{firstOf, openTests, enqueueTests, dequeueTests, stepTests, openRefusal, enqueueRefusal, dequeueRefusal}
+use Rattle.calendar.specs.rules.Refusals.{stepRefusal}
 use Rattle.calendar.specs.facts.FirstOf.{Rising, rises, by-numbers}
 
 -- number n is in the list, and its test holds
@@ -20,7 +21,8 @@ pub first-applies : (xs : List (ℕ × Bool)) → firstOf xs ≢ 0 → Applies (
 first-applies [] h = absurd (h refl)
 first-applies (x ∷ xs) h = go (x .1) refl (λ n. first-applies xs n)
   where
-    go : (b : Bool) → x .1 ≡ b → (firstOf xs ≢ 0 → Applies (firstOf xs) xs) → ((x .0 ≡ cond (x .1) (x .0) (firstOf xs)) × (x .1 ≡ true)) ⊎ Applies (cond (x .1) (x .0) (firstOf xs)) xs
+    go : (b : Bool) → x .1 ≡ b → (firstOf xs ≢ 0 → Applies (firstOf xs) xs)
+        → ((x .0 ≡ cond (x .1) (x .0) (firstOf xs)) × (x .1 ≡ true)) ⊎ Applies (cond (x .1) (x .0) (firstOf xs)) xs
     go true e rest = inl (rw e, e)
     go false e rest = inr (rw e (rest (λ z. h (rw e z))))
 
@@ -28,7 +30,8 @@ pub first-lowest : (k : ℕ) (xs : List (ℕ × Bool)) → Rising k xs → (n : 
 first-lowest k [] r n a = absurd a
 first-lowest k (x ∷ xs) r n a = go (x .1) refl a (λ b. first-lowest (x .0) xs (r .1) n b)
   where
-    go : (b : Bool) → x .1 ≡ b → Applies n (x ∷ xs) → (Applies n xs → (x .0 < firstOf xs) × (firstOf xs ≤ n)) → (k < cond (x .1) (x .0) (firstOf xs)) × (cond (x .1) (x .0) (firstOf xs) ≤ n)
+    go : (b : Bool) → x .1 ≡ b → Applies n (x ∷ xs) → (Applies n xs → (x .0 < firstOf xs) × (firstOf xs ≤ n))
+        → (k < cond (x .1) (x .0) (firstOf xs)) × (cond (x .1) (x .0) (firstOf xs) ≤ n)
     go true e (inl (q, t)) rest = rw e (r .0, omega (arith, q))
     go true e (inr b) rest = let (up, most) = rest b in rw e (r .0, omega (arith, up, most))
     go false e (inl (q, t)) rest = absurd (let z : _≡_ {A = ℕ} 0 1 = cc in omega arith)

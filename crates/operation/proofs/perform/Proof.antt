@@ -11,8 +11,10 @@ enum-known-action c = search needs
 
 start-enqueue-requires : tie.Need-start-enqueue-requires
 start-enqueue-requires c κs =
-    let A = c .before .before .before .before .before .pre .0 in
-    (A .ready .laid, (A .ready .store .started, A .ready .store .last, c .before .before .before .before .before .pre .1, A .limits .some-width, A .limits .width))
+    let A = c .before .before .before .before .before .pre .0 in (
+      A .ready .laid,
+      (A .ready .store .started, A .ready .store .last, c .before .before .before .before .before .pre .1, A .limits .some-width, A .limits .width),
+    )
 
 enum-told : tie.Need-enum-told
 enum-told c = search needs
@@ -44,7 +46,9 @@ same-length-3 : tie.Need-same-length-3
 same-length-3 c = search needs
 
 returns-3 : tie.Need-returns-3
-returns-3 c = rw (c .before .before .before .before .enum-told2 .given .1) (c .before .before .step .ensures ∙ local-step _ _ _ _ _ (c .before .before .before .before .before .before .before .pre .0 .ready .worker .stage))
+returns-3 c =
+    rw (c .before .before .before .before .enum-told2 .given .1) (c .before .before .step .ensures
+    ∙ local-step _ _ _ _ _ (c .before .before .before .before .before .before .before .pre .0 .ready .worker .stage))
 
 pub perform-spec : {M : Type 1} → statement M
 perform-spec =

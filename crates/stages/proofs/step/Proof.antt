@@ -70,19 +70,22 @@ same-length-3 : tie.Need-same-length-3
 same-length-3 c = search needs
 
 returns-4 : tie.Need-returns-4
-returns-4 c = c .before .before .step-3 .ensures ∙ at-stage _ _ _ 3 (c .before .before .before .before .match .keys4) (omega arith) (omega arith) (λ e. omega arith)
+returns-4 c =
+    c .before .before .step-3 .ensures ∙ at-stage _ _ _ 3 (c .before .before .before .before .match .keys4) (omega arith) (omega arith) (λ e. omega arith)
 
 same-length-4 : tie.Need-same-length-4
 same-length-4 c = search needs
 
 returns-5 : tie.Need-returns-5
-returns-5 c = c .before .before .step-4 .ensures ∙ at-stage _ _ _ 4 (c .before .before .before .before .match .keys5) (omega arith) (omega arith) (λ e. omega arith)
+returns-5 c =
+    c .before .before .step-4 .ensures ∙ at-stage _ _ _ 4 (c .before .before .before .before .match .keys5) (omega arith) (omega arith) (λ e. omega arith)
 
 same-length-5 : tie.Need-same-length-5
 same-length-5 c = search needs
 
 returns-6 : tie.Need-returns-6
-returns-6 c = c .before .before .step-5 .ensures ∙ at-stage _ _ _ 5 (c .before .before .before .before .match .keys6) (omega arith) (omega arith) (λ e. omega arith)
+returns-6 c =
+    c .before .before .step-5 .ensures ∙ at-stage _ _ _ 5 (c .before .before .before .before .match .keys6) (omega arith) (omega arith) (λ e. omega arith)
 
 same-length-6 : tie.Need-same-length-6
 same-length-6 c = search needs
@@ -118,13 +121,15 @@ same-length-11 : tie.Need-same-length-11
 same-length-11 c = search needs
 
 returns-12 : tie.Need-returns-12
-returns-12 c = c .before .before .step-11 .ensures ∙ at-stage _ _ _ 11 (c .before .before .before .before .match .keys12) (omega arith) (omega arith) (λ e. omega arith)
+returns-12 c =
+    c .before .before .step-11 .ensures ∙ at-stage _ _ _ 11 (c .before .before .before .before .match .keys12) (omega arith) (omega arith) (λ e. omega arith)
 
 same-length-12 : tie.Need-same-length-12
 same-length-12 c = search needs
 
 returns-13 : tie.Need-returns-13
-returns-13 c = c .before .before .step-12 .ensures ∙ at-stage _ _ _ 12 (c .before .before .before .before .match .keys13) (omega arith) (omega arith) (λ e. omega arith)
+returns-13 c =
+    c .before .before .step-12 .ensures ∙ at-stage _ _ _ 12 (c .before .before .before .before .match .keys13) (omega arith) (omega arith) (λ e. omega arith)
 
 same-length-13 : tie.Need-same-length-13
 same-length-13 c = search needs

@@ -39,7 +39,14 @@ same-length c = search needs
 
 returns : tie.Need-returns
 unfolding enqueueStart
-returns c = rw (← c .before .before .before .before .before .before .before .before .before .before .before .before .before .before .before .before .get-word .ensures, c .before .before .before .fill-node .ensures, c .before .before .before .before .before .before .before .put-word2 .ensures, c .before .before .before .before .before .before .before .before .before .before .before .put-word .ensures, c .bucket-of .ensures)
+returns c =
+    rw (
+      ← c .before .before .before .before .before .before .before .before .before .before .before .before .before .before .before .before .get-word .ensures,
+      c .before .before .before .fill-node .ensures,
+      c .before .before .before .before .before .before .before .put-word2 .ensures,
+      c .before .before .before .before .before .before .before .before .before .before .before .put-word .ensures,
+      c .bucket-of .ensures,
+    )
 
 pub begin-enqueue-spec : {M : Type 1} → statement M
 begin-enqueue-spec =

@@ -10,7 +10,11 @@ returns : tie.Need-returns
 returns c = rw (c .if1 .taken)
 
 mul-if2 : tie.Need-mul-if2
-mul-if2 c = omega (arith, mul-le-mul-left (c .before .before .before .before .before .before .args .shape .buckets) (c .before .before .before .before .before .before .pre .0))
+mul-if2 c =
+    omega (
+      arith,
+      mul-le-mul-left (c .before .before .before .before .before .before .args .shape .buckets) (c .before .before .before .before .before .before .pre .0),
+    )
 
 cast-if2 : tie.Need-cast-if2
 cast-if2 c = search needs
@@ -22,10 +26,22 @@ returns-3 : tie.Need-returns-3
 returns-3 c = rw (c .before .before .before .before .before .if1 .left, lt-leb _ _ (c .before .before .if2 .left), ne-eqb _ _ (c .if3 .taken))
 
 returns-4 : tie.Need-returns-4
-returns-4 c = rw (c .before .before .before .before .before .before .if1 .left, lt-leb _ _ (c .before .before .before .if2 .left), eq-eqb _ _ (c .before .if3 .left), eq-eqb _ _ (c .if4 .taken))
+returns-4 c =
+    rw (
+      c .before .before .before .before .before .before .if1 .left,
+      lt-leb _ _ (c .before .before .before .if2 .left),
+      eq-eqb _ _ (c .before .if3 .left),
+      eq-eqb _ _ (c .if4 .taken),
+    )
 
 returns-5 : tie.Need-returns-5
-returns-5 c = rw (c .before .before .before .before .before .before .if1 .left, lt-leb _ _ (c .before .before .before .if2 .left), eq-eqb _ _ (c .before .if3 .left), ne-eqb _ _ (c .if4 .left))
+returns-5 c =
+    rw (
+      c .before .before .before .before .before .before .if1 .left,
+      lt-leb _ _ (c .before .before .before .if2 .left),
+      eq-eqb _ _ (c .before .if3 .left),
+      ne-eqb _ _ (c .if4 .left),
+    )
 
 pub enqueue-refusal-spec : {M : Type 1} → statement M
 enqueue-refusal-spec =

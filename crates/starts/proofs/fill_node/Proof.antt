@@ -25,7 +25,17 @@ same-length : tie.Need-same-length
 same-length c = search needs
 
 returns : tie.Need-returns
-returns c = rw (c .before .before .put-field6 .ensures, c .before .before .before .before .before .before .put-field5 .ensures, c .before .before .before .before .before .before .before .before .before .before .put-field4 .ensures, c .before .before .before .before .before .before .before .before .before .before .before .before .before .before .put-field3 .ensures, c .before .before .before .before .before .before .before .before .before .before .before .before .before .before .before .before .before .before .put-field2 .ensures, c .before .before .before .before .before .before .before .before .before .before .before .before .before .before .before .before .before .before .before .before .before .before .put-field .ensures)
+returns c =
+    rw (
+      c .before .before .put-field6 .ensures,
+      c .before .before .before .before .before .before .put-field5 .ensures,
+      c .before .before .before .before .before .before .before .before .before .before .put-field4 .ensures,
+      c .before .before .before .before .before .before .before .before .before .before .before .before .before .before .put-field3 .ensures,
+      c .before .before .before .before .before .before .before .before .before .before .before .before .before .before .before .before .before .before
+          .put-field2 .ensures,
+      c .before .before .before .before .before .before .before .before .before .before .before .before .before .before .before .before .before .before .before
+          .before .before .before .put-field .ensures,
+    )
 
 pub fill-node-spec : {M : Type 1} → statement M
 fill-node-spec =

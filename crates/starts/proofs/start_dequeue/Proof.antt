@@ -23,7 +23,13 @@ same-length c = search needs
 
 returns-2 : tie.Need-returns-2
 unfolding localDequeue
-returns-2 c = rw (eq-eqb _ _ (c .before .before .before .before .if1 .left), ← c .before .before .get-word .ensures, eq-eqb _ _ (c .before .if2 .taken), c .refuse2 .ensures)
+returns-2 c =
+    rw (
+      eq-eqb _ _ (c .before .before .before .before .if1 .left),
+      ← c .before .before .get-word .ensures,
+      eq-eqb _ _ (c .before .if2 .taken),
+      c .refuse2 .ensures,
+    )
 
 begin-dequeue-requires : tie.Need-begin-dequeue-requires
 begin-dequeue-requires c κs = search needs
@@ -33,7 +39,12 @@ same-length-2 c = search needs
 
 returns-3 : tie.Need-returns-3
 unfolding localDequeue
-returns-3 c = rw (eq-eqb _ _ (c .before .before .before .before .before .before .before .if1 .left), ← c .before .before .before .before .before .get-word .ensures, ne-eqb _ _ (c .before .before .before .before .if2 .left)) (c .before .before .begin-dequeue .ensures)
+returns-3 c =
+    rw (
+      eq-eqb _ _ (c .before .before .before .before .before .before .before .if1 .left),
+      ← c .before .before .before .before .before .get-word .ensures,
+      ne-eqb _ _ (c .before .before .before .before .if2 .left),
+    ) (c .before .before .begin-dequeue .ensures)
 
 pub start-dequeue-spec : {M : Type 1} → statement M
 start-dequeue-spec =

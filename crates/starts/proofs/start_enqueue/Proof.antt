@@ -19,7 +19,9 @@ same-length : tie.Need-same-length
 same-length c = search needs
 
 returns : tie.Need-returns
-returns c = rw (c .refuse .ensures) (at-early _ _ _ _ _ _ _ 0 (c .before .before .before .get-word .ensures) (c .before .before .enqueue-refusal .ensures) (c .before .if1 .taken))
+returns c =
+    rw (c .refuse .ensures) (at-early _ _ _ _ _ _ _ 0 (c .before .before .before .get-word .ensures) (c .before .before .enqueue-refusal .ensures)
+    (c .before .if1 .taken))
 
 first-free-requires : tie.Need-first-free-requires
 first-free-requires c κs = search needs
@@ -31,16 +33,27 @@ same-length-2 : tie.Need-same-length-2
 same-length-2 c = search needs
 
 returns-2 : tie.Need-returns-2
-returns-2 c = rw (c .refuse2 .ensures) (at-full _ _ _ _ _ _ _ _ (c .before .before .before .before .before .before .before .get-word .ensures) (c .before .before .before .before .before .before .enqueue-refusal .ensures) (c .before .before .before .before .before .if1 .left) (c .before .before .before .first-free .ensures .0) (c .before .if2 .taken))
+returns-2 c =
+    rw (c .refuse2 .ensures) (at-full _ _ _ _ _ _ _ _ (c .before .before .before .before .before .before .before .get-word .ensures)
+    (c .before .before .before .before .before .before .enqueue-refusal .ensures) (c .before .before .before .before .before .if1 .left)
+    (c .before .before .before .first-free .ensures .0) (c .before .if2 .taken))
 
 begin-enqueue-requires : tie.Need-begin-enqueue-requires
-begin-enqueue-requires c κs = let e = c .before .before .before .first-free .ensures .1 in let d = c .before .if2 .left in let p = c .before .before .before .before .before .before .before .before .before .before .pre in (p .0, (p .1 .0, omega arith, p .1 .3))
+begin-enqueue-requires c κs =
+    let e = c .before .before .before .first-free .ensures .1 in
+    let d = c .before .if2 .left in
+    let p = c .before .before .before .before .before .before .before .before .before .before .pre in (p .0, (p .1 .0, omega arith, p .1 .3))
 
 same-length-3 : tie.Need-same-length-3
 same-length-3 c = search needs
 
 returns-3 : tie.Need-returns-3
-returns-3 c = c .before .before .begin-enqueue .ensures ∙ at-begun _ _ _ _ _ _ _ _ (c .before .before .before .before .before .before .before .before .before .before .get-word .ensures) (c .before .before .before .before .before .before .before .before .before .enqueue-refusal .ensures) (c .before .before .before .before .before .before .before .before .if1 .left) (c .before .before .before .before .before .before .first-free .ensures .0) (c .before .before .before .before .if2 .left)
+returns-3 c =
+    c .before .before .begin-enqueue .ensures
+    ∙ at-begun _ _ _ _ _ _ _ _ (c .before .before .before .before .before .before .before .before .before .before .get-word .ensures)
+    (c .before .before .before .before .before .before .before .before .before .enqueue-refusal .ensures)
+    (c .before .before .before .before .before .before .before .before .if1 .left) (c .before .before .before .before .before .before .first-free .ensures .0)
+    (c .before .before .before .before .if2 .left)
 
 pub start-enqueue-spec : {M : Type 1} → statement M
 start-enqueue-spec =

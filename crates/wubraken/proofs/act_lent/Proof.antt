@@ -1,4 +1,6 @@
--- `act_lent` meets its contract: a walk of its MIR, by hand. The table is lent as a `&` to `survey_table` and comes back. Where worker i has a record its borrow is opened once: the record is taken out of the row, copied, handed to `act_on_record` by value, stored to, and put back, and the borrow is closed at the list with the new record in it. Where it has none `turn_away` answers.
+-- `act_lent` meets its contract: a walk of its MIR, by hand. The table is lent as a `&` to `survey_table` and comes back. Where worker i has a record its
+-- borrow is opened once: the record is taken out of the row, copied, handed to `act_on_record` by value, stored to, and put back, and the borrow is closed at
+-- the list with the new record in it. Where it has none `turn_away` answers.
 -- The store goes to either at its own lifetime and is not needed after the call. All that the proof knows of the callees is that they meet their contracts.
 -- Assumes nothing.
 use mathlib.Core.Path.{_≡_, refl, sym, ap, subst, _∙_}
@@ -20,10 +22,12 @@ use prog.Wp.{Heap, Calls, Loops, WpFn, Tables}
 use ghost.Atoms.{Atoms, sem}
 use contract.Monad.{Fun, fact}
 use contract.Running.{givenOf, tables, tablesOf}
-use types.Kit.{Given, ‵, raw, _⊛_, ⋆, some, later, _$_, _∵_, !, qed, by, move, keep, drop, use1, use2, split, join, pick, rewrite, fsplit, fjoin, feqL, suffices, frame, await, done}
+use types.Kit.{Given, ‵, raw, _⊛_, ⋆, some, later, _$_, _∵_, !, qed, by, move, keep, drop, use1, use2, split, join, pick, rewrite, fsplit, fjoin, feqL}
+use types.Kit.{suffices, frame, await, done}
 use types.Tokens.{lft-new, lft-end}
 use types.Part.{agg, whole, sub, look-in}
-use types.Run.{look, look-raw, store, store-raw, init, forget, stop, hop, fld, from, load, addr, lit, of-opd, and-then, no-more, bin, assigns, land, first, branches, returns-within, enter, alloc1, alloc0, params1, pass1, pass0, free1, free0}
+use types.Run.{look, look-raw, store, store-raw, init, forget, stop, hop, fld, from, load, addr, lit, of-opd, and-then, no-more, bin, assigns, land, first}
+use types.Run.{branches, returns-within, enter, alloc1, alloc0, params1, pass1, pass0, free1, free0}
 use sound.WpLaws.{FmC, fmOf, WpFn-mono}
 use denote.RattleType.{owns}
 use denote.Shadow.{pureI}
@@ -89,7 +93,16 @@ use Rattle.wubraken.proofs.act_lent.Statement as stated
 use Rattle.wubraken.proofs.act_lent.Code as code
 
 abbrev stayed : Stays (f.ended .signature .params) (f.ended .kept)
-stayed = (stay-none (λ _. Sh.the-row) yes, (stay-none (λ _. u64) yes, (stay-none (λ _. usize) yes, (stay-none (λ _. Ar.the-row) yes, (gave-slice (0 ∷ []) tt (plain (λ _. u64)), (stay-slice (1 ∷ []) tt (plain (λ _. T.the-row)), tt))))))
+stayed = (
+  stay-none (λ _. Sh.the-row) yes,
+  (
+    stay-none (λ _. u64) yes,
+    (
+      stay-none (λ _. usize) yes,
+      (stay-none (λ _. Ar.the-row) yes, (gave-slice (0 ∷ []) tt (plain (λ _. u64)), (stay-slice (1 ∷ []) tt (plain (λ _. T.the-row)), tt))),
+    ),
+  ),
+)
 
 abbrev vals : Worker → List Val
 vals = LL.vals T.the-type T′.the-laws
@@ -137,7 +150,8 @@ abbrev Scan : {M : Type 1} (𝓤 : URA M) (H : Heap 𝓤) (A : Atoms 𝓤) (mem 
 Scan 𝓤 H A mem run = tripleOf 𝓤 H A scan.signature (scan.spec 𝓤 H A mem run)
 
 -- of what `survey_table` ensures, the clause alone: it has no last value
-scan-of : {M : Type 1} (𝓤 : URA M) (H : Heap 𝓤) (A : Atoms 𝓤) (mem : Memory → SProp 𝓤) (run : Routine → Fun 𝓤) (κ : Lft) (sh : Shape) (y : RefT (List Worker)) (r : Survey)
+scan-of : {M : Type 1} (𝓤 : URA M) (H : Heap 𝓤) (A : Atoms 𝓤) (mem : Memory → SProp 𝓤) (run : Routine → Fun 𝓤) (κ : Lft) (sh : Shape) (y : RefT (List Worker))
+    (r : Survey)
     → ent 𝓤 (ensured 𝓤 H A scan.ended (scan.clauses 𝓤 H A mem run) (κ, tt) (sh, (y, tt)) tt r) (fact 𝓤 (r ≡ survey sh (y .now)))
 scan-of 𝓤 H A mem run κ sh y r = exE 𝓤 _ (λ ws. snd∗ 𝓤 (sem 𝓤 H A (lasts scan.ended (κ, tt) (sh, (y, tt)) ws)) (fact 𝓤 (r ≡ survey sh (y .now))))
 
@@ -161,8 +175,10 @@ module _ (sh : Shape) (kind i : ℕ) (x : Arrival) (S : List ℕ) (ys : List Wor
   says-out : ltb i (survey sh ys .records) ≡ false → (r : Answer) (zs : List ℕ) → SaidAway r zs → Says r zs ys
   says-out beyond r zs e = (λ k. leaves (e .1 k) ys (e .0 k)) ∙ away-of sh S ys kind i x beyond
 
-module _ {M : Type 1} (𝓤 : URA M) (H : Heap 𝓤) (A : Atoms 𝓤) (W : Given 𝓤 H A) (mem : Memory → SProp 𝓤) (run : Routine → Fun 𝓤) (κ κ′ : Lft) (q q′ : Share) (sh : Shape) (kind i : ℕ) (x : Arrival) (b o : ℕ) (γ : GName) (S : List ℕ) (b′ o′ : ℕ) (γ′ : GName) (ys : List Worker)
-    (sh-is : Is Sh.the-row sh (vals-sh sh)) (kind-fits : kind < 2 ^ 64) (i-fits : i < 2 ^ 64) (x-is : Is Ar.the-row x (vals-ar x)) (room-s : Room u64 (length S)) (room : Room T.the-row (length ys)) where
+module _ {M : Type 1} (𝓤 : URA M) (H : Heap 𝓤) (A : Atoms 𝓤) (W : Given 𝓤 H A) (mem : Memory → SProp 𝓤) (run : Routine → Fun 𝓤) (κ κ′ : Lft) (q q′ : Share)
+    (sh : Shape) (kind i : ℕ) (x : Arrival) (b o : ℕ) (γ : GName) (S : List ℕ) (b′ o′ : ℕ) (γ′ : GName) (ys : List Worker)
+    (sh-is : Is Sh.the-row sh (vals-sh sh)) (kind-fits : kind < 2 ^ 64) (i-fits : i < 2 ^ 64) (x-is : Is Ar.the-row x (vals-ar x))
+    (room-s : Room u64 (length S)) (room : Room T.the-row (length ys)) where
   -- the store, and the table at the list l
   abbrev s : RefT (List ℕ)
   s = record { ptr = (b, o); name = γ; now = S }
@@ -198,123 +214,233 @@ module _ {M : Type 1} (𝓤 : URA M) (H : Heap 𝓤) (A : Atoms 𝓤) (W : Given
   abbrev to-scan : ℕ → GName → Scan 𝓤 H A mem run .Ghost
   to-scan ν δ = (((ν ∷ [], tt), (fullShare, tt), tt, (sh, (at-name δ ys, tt)), (vals-sh sh, (tv ∷ [], tt))), tt)
 
-  goes-scan : (ν : ℕ) (δ : GName) → ent 𝓤 (sep 𝓤 (A .lft (ν ∷ []) fullShare) (sem 𝓤 H A (ShrSlice (named 0) (ν ∷ []) T.the-row .own (at-name δ ys) (tv ∷ [])))) (Scan 𝓤 H A mem run .pre (to-scan ν δ))
+  goes-scan : (ν : ℕ) (δ : GName) → ent 𝓤 (sep 𝓤 (A .lft (ν ∷ []) fullShare) (sem 𝓤 H A (ShrSlice (named 0) (ν ∷ []) T.the-row .own (at-name δ ys) (tv ∷ []))))
+      (Scan 𝓤 H A mem run .pre (to-scan ν δ))
   goes-scan ν δ =
-      qed W (‵ (flft (ν ∷ []) fullShare) ∷ ‵ (ShrSlice (named 0) (ν ∷ []) T.the-row .own (at-name δ ys) (tv ∷ [])) ∷ []) ∵ nothing ! $ move ! (1 ∷ 0 ∷ []) $ join ! $
-      nothing ! $ move ! (2 ∷ 0 ∷ []) $ fjoin ! $ owned ! Sh.the-row (Is Sh.the-row) (LL.makes Sh.the-type Sh′.the-plain 𝓤 H A) sh _ sh-is $ fjoin ! $ move ! (1 ∷ 0 ∷ []) $ join ! $ frame ! $ done !
+      qed W (‵ (flft (ν ∷ []) fullShare) ∷ ‵ (ShrSlice (named 0) (ν ∷ []) T.the-row .own (at-name δ ys) (tv ∷ [])) ∷ []) ∵ nothing ! $ move ! (1 ∷ 0 ∷ []) $
+      join ! $
+      nothing ! $ move ! (2 ∷ 0 ∷ []) $ fjoin ! $ owned ! Sh.the-row (Is Sh.the-row) (LL.makes Sh.the-type Sh′.the-plain 𝓤 H A) sh _ sh-is $ fjoin ! $
+      move ! (1 ∷ 0 ∷ []) $ join ! $ frame ! $ done !
 
   -- the same for `act_on_record`
   abbrev to-turn : Turn 𝓤 H A mem run .Ghost
-  to-turn = (((κ, tt), (q, tt), tt, (sh, (kind, (i, (x, (length ys, (all, (wk, (s, tt)))))))), (vals-sh sh, (vint w64 kind ∷ [], (vint w64 i ∷ [], (vals-ar x, (vint w64 (length ys) ∷ [], (vals-s all, (vals wk, (sv ∷ [], tt))))))))), tt)
+  to-turn = (
+    (
+      (κ, tt),
+      (q, tt),
+      tt,
+      (sh, (kind, (i, (x, (length ys, (all, (wk, (s, tt)))))))),
+      (vals-sh sh, (vint w64 kind ∷ [], (vint w64 i ∷ [], (vals-ar x, (vint w64 (length ys) ∷ [], (vals-s all, (vals wk, (sv ∷ [], tt)))))))),
+    ),
+    tt,
+  )
 
-  goes-turn : Is Sv.the-row all (vals-s all) → i < length ys → Is T.the-row wk (vals wk) → ent 𝓤 (sep 𝓤 (A .lft κ q) (sem 𝓤 H A (MutSlice (named 0) κ u64 .own s (sv ∷ [])))) (Turn 𝓤 H A mem run .pre to-turn)
+  goes-turn : Is Sv.the-row all (vals-s all) → i < length ys → Is T.the-row wk (vals wk)
+      → ent 𝓤 (sep 𝓤 (A .lft κ q) (sem 𝓤 H A (MutSlice (named 0) κ u64 .own s (sv ∷ [])))) (Turn 𝓤 H A mem run .pre to-turn)
   goes-turn all-is inside g =
-      qed W (‵ (flft κ q) ∷ ‵ (MutSlice (named 0) κ u64 .own s (sv ∷ [])) ∷ []) ∵ says ! (survey-tells sh ys i inside) $ nothing ! $ move ! (1 ∷ 0 ∷ []) $ join ! $ frame ! $
+      qed W (‵ (flft κ q) ∷ ‵ (MutSlice (named 0) κ u64 .own s (sv ∷ [])) ∷ []) ∵ says ! (survey-tells sh ys i inside) $ nothing ! $ move ! (1 ∷ 0 ∷ []) $
+      join ! $ frame ! $
       nothing ! $ move ! (1 ∷ 0 ∷ []) $ fjoin ! $ owned ! T.the-row (Is T.the-row) (LL.makes T.the-type T′.the-plain 𝓤 H A) wk _ g $ fjoin ! $
-      owned ! Sv.the-row (Is Sv.the-row) (LL.makes Sv.the-type Sv′.the-plain 𝓤 H A) all _ all-is $ fjoin ! $ owned ! usize (Is usize) (uint-makes 𝓤 H A W w64) (length ys) _ (refl, room .0) $ fjoin ! $ owned ! Ar.the-row (Is Ar.the-row) (LL.makes Ar.the-type Ar′.the-plain 𝓤 H A) x _ x-is $ fjoin ! $ owned ! usize (Is usize) (uint-makes 𝓤 H A W w64) i _ (refl, i-fits) $ fjoin ! $ owned ! u64 (Is u64) (uint-makes 𝓤 H A W w64) kind _ (refl, kind-fits) $ fjoin ! $ owned ! Sh.the-row (Is Sh.the-row) (LL.makes Sh.the-type Sh′.the-plain 𝓤 H A) sh _ sh-is $ fjoin ! $ done !
+      owned ! Sv.the-row (Is Sv.the-row) (LL.makes Sv.the-type Sv′.the-plain 𝓤 H A) all _ all-is $ fjoin ! $
+      owned ! usize (Is usize) (uint-makes 𝓤 H A W w64) (length ys) _ (refl, room .0) $ fjoin ! $
+      owned ! Ar.the-row (Is Ar.the-row) (LL.makes Ar.the-type Ar′.the-plain 𝓤 H A) x _ x-is $ fjoin ! $
+      owned ! usize (Is usize) (uint-makes 𝓤 H A W w64) i _ (refl, i-fits) $ fjoin ! $ owned ! u64 (Is u64) (uint-makes 𝓤 H A W w64) kind _ (refl, kind-fits) $
+      fjoin ! $ owned ! Sh.the-row (Is Sh.the-row) (LL.makes Sh.the-type Sh′.the-plain 𝓤 H A) sh _ sh-is $ fjoin ! $ done !
 
   -- and for `turn_away`
   abbrev to-away : Away 𝓤 H A mem run .Ghost
-  to-away = (((κ, tt), (q, tt), tt, (sh, (i, (length ys, (all, (s, tt))))), (vals-sh sh, (vint w64 i ∷ [], (vint w64 (length ys) ∷ [], (vals-s all, (sv ∷ [], tt)))))), tt)
+  to-away = (
+    ((κ, tt), (q, tt), tt, (sh, (i, (length ys, (all, (s, tt))))), (vals-sh sh, (vint w64 i ∷ [], (vint w64 (length ys) ∷ [], (vals-s all, (sv ∷ [], tt)))))),
+    tt,
+  )
 
-  goes-away : Is Sv.the-row all (vals-s all) → ent 𝓤 (sep 𝓤 (A .lft κ q) (sem 𝓤 H A (MutSlice (named 0) κ u64 .own s (sv ∷ [])))) (Away 𝓤 H A mem run .pre to-away)
+  goes-away : Is Sv.the-row all (vals-s all)
+      → ent 𝓤 (sep 𝓤 (A .lft κ q) (sem 𝓤 H A (MutSlice (named 0) κ u64 .own s (sv ∷ [])))) (Away 𝓤 H A mem run .pre to-away)
   goes-away all-is =
       qed W (‵ (flft κ q) ∷ ‵ (MutSlice (named 0) κ u64 .own s (sv ∷ [])) ∷ []) ∵ nothing ! $ move ! (1 ∷ 0 ∷ []) $ join ! $
-      nothing ! $ move ! (2 ∷ 0 ∷ []) $ fjoin ! $ owned ! Sv.the-row (Is Sv.the-row) (LL.makes Sv.the-type Sv′.the-plain 𝓤 H A) all _ all-is $ fjoin ! $ owned ! usize (Is usize) (uint-makes 𝓤 H A W w64) (length ys) _ (refl, room .0) $ fjoin ! $ owned ! usize (Is usize) (uint-makes 𝓤 H A W w64) i _ (refl, i-fits) $ fjoin ! $ owned ! Sh.the-row (Is Sh.the-row) (LL.makes Sh.the-type Sh′.the-plain 𝓤 H A) sh _ sh-is $ fjoin ! $ move ! (1 ∷ 0 ∷ []) $ join ! $ frame ! $ done !
+      nothing ! $ move ! (2 ∷ 0 ∷ []) $ fjoin ! $ owned ! Sv.the-row (Is Sv.the-row) (LL.makes Sv.the-type Sv′.the-plain 𝓤 H A) all _ all-is $ fjoin ! $
+      owned ! usize (Is usize) (uint-makes 𝓤 H A W w64) (length ys) _ (refl, room .0) $ fjoin ! $
+      owned ! usize (Is usize) (uint-makes 𝓤 H A W w64) i _ (refl, i-fits) $ fjoin ! $
+      owned ! Sh.the-row (Is Sh.the-row) (LL.makes Sh.the-type Sh′.the-plain 𝓤 H A) sh _ sh-is $ fjoin ! $ move ! (1 ∷ 0 ∷ []) $ join ! $ frame ! $ done !
 
-  exits : (r : Handled) (zs : List ℕ) → Says sh kind i x S ys (r .answer) zs (set ys i (r .worker)) → length zs ≡ length S → Is R.the-row (r .answer) (val-r (r .answer) ∷ [])
-      → ent 𝓤 (⋆ 𝓤 H A (‵ (fobs γ′ (codedHoleys T.the-row .code (heres T.the-row (set ys i (r .worker))))) ∷ ‵ (fbor κ′ (Held T.the-row (length (set ys i (r .worker))) b′ o′ γ′)) ∷ ‵ (flft κ′ q′) ∷ (‵ (flft κ q) ⊛ ‵ ftrue) ∷ ‵ (finally u64 γ zs) ∷ []))
+  exits : (r : Handled) (zs : List ℕ) → Says sh kind i x S ys (r .answer) zs (set ys i (r .worker)) → length zs ≡ length S
+      → Is R.the-row (r .answer) (val-r (r .answer) ∷ [])
+      → ent 𝓤 (⋆ 𝓤 H A (‵ (fobs γ′ (codedHoleys T.the-row .code (heres T.the-row (set ys i (r .worker)))))
+      ∷ ‵ (fbor κ′ (Held T.the-row (length (set ys i (r .worker))) b′ o′ γ′)) ∷ ‵ (flft κ′ q′) ∷ (‵ (flft κ q) ⊛ ‵ ftrue) ∷ ‵ (finally u64 γ zs) ∷ []))
       (Post (val-r (r .answer)))
   exits r zs e same is =
-      qed W (‵ (fobs γ′ (codedHoleys T.the-row .code (heres T.the-row (set ys i (r .worker))))) ∷ ‵ (fbor κ′ (Held T.the-row (length (set ys i (r .worker))) b′ o′ γ′)) ∷ ‵ (flft κ′ q′) ∷ (‵ (flft κ q) ⊛ ‵ ftrue) ∷ ‵ (finally u64 γ zs) ∷ []) ∵
-      suffices ! _ (ends-at 𝓤 H A f.ended stayed (f.clauses 𝓤 H A mem run) W (((κ, (κ′, tt)), (q, (q′, tt)), tt, args, at), tt) (val-r (r .answer)) (r .answer) (tt, (tt, (tt, (tt, (zs, (set ys i (r .worker), tt)))))) (tt, (tt, (tt, (tt, (same, (length-set ys i (r .worker), tt))))))) $ says ! e $
+      qed W (‵ (fobs γ′ (codedHoleys T.the-row .code (heres T.the-row (set ys i (r .worker)))))
+      ∷ ‵ (fbor κ′ (Held T.the-row (length (set ys i (r .worker))) b′ o′ γ′)) ∷ ‵ (flft κ′ q′) ∷ (‵ (flft κ q) ⊛ ‵ ftrue) ∷ ‵ (finally u64 γ zs) ∷ []) ∵
+      suffices ! _ (ends-at 𝓤 H A f.ended stayed (f.clauses 𝓤 H A mem run) W (((κ, (κ′, tt)), (q, (q′, tt)), tt, args, at), tt) (val-r (r .answer)) (r .answer)
+      (tt, (tt, (tt, (tt, (zs, (set ys i (r .worker), tt)))))) (tt, (tt, (tt, (tt, (same, (length-set ys i (r .worker), tt))))))) $ says ! e $
       move ! (3 ∷ []) $ split ! $ move ! (4 ∷ 1 ∷ []) $ join ! $ move ! (1 ∷ 0 ∷ []) $ join ! $ frame ! $
       -- [obs; the borrow; the store's last list]
-      fjoin ! $ pureI ! (at-slice T.the-row (t (set ys i (r .worker))) (tv ∷ [])) (tt, (tt, tt)) (ap (λ (m : ℕ). sliceVal (b′, o′) m ∷ []) (sym (length-set ys i (r .worker))), subst (Room T.the-row) (sym (length-set ys i (r .worker))) room) $ fjoin ! $
-      nothing ! $ move ! (1 ∷ 0 ∷ []) $ fjoin ! $ move ! (1 ∷ 0 ∷ []) $ fjoin ! $ owned ! Ar.the-row (Is Ar.the-row) (LL.makes Ar.the-type Ar′.the-plain 𝓤 H A) x _ x-is $ fjoin ! $ owned ! usize (Is usize) (uint-makes 𝓤 H A W w64) i _ (refl, i-fits) $ fjoin ! $ owned ! u64 (Is u64) (uint-makes 𝓤 H A W w64) kind _ (refl, kind-fits) $ fjoin ! $ owned ! Sh.the-row (Is Sh.the-row) (LL.makes Sh.the-type Sh′.the-plain 𝓤 H A) sh _ sh-is $ fjoin ! $
+      fjoin ! $ pureI ! (at-slice T.the-row (t (set ys i (r .worker))) (tv ∷ [])) (tt, (tt, tt)) (
+        ap (λ (m : ℕ). sliceVal (b′, o′) m ∷ []) (sym (length-set ys i (r .worker))),
+        subst (Room T.the-row) (sym (length-set ys i (r .worker))) room,
+      ) $ fjoin ! $
+      nothing ! $ move ! (1 ∷ 0 ∷ []) $ fjoin ! $ move ! (1 ∷ 0 ∷ []) $ fjoin ! $
+      owned ! Ar.the-row (Is Ar.the-row) (LL.makes Ar.the-type Ar′.the-plain 𝓤 H A) x _ x-is $ fjoin ! $
+      owned ! usize (Is usize) (uint-makes 𝓤 H A W w64) i _ (refl, i-fits) $ fjoin ! $ owned ! u64 (Is u64) (uint-makes 𝓤 H A W w64) kind _ (refl, kind-fits) $
+      fjoin ! $ owned ! Sh.the-row (Is Sh.the-row) (LL.makes Sh.the-type Sh′.the-plain 𝓤 H A) sh _ sh-is $ fjoin ! $
       frame ! $ owned ! R.the-row (Is R.the-row) (LL.makes R.the-type R′.the-plain 𝓤 H A) (r .answer) _ is $ done !
 
   -- where worker i has no record the table is as it was
   exits-out : (r : Answer) (zs : List ℕ) → Says sh kind i x S ys r zs ys → length zs ≡ length S → Is R.the-row r (val-r r ∷ [])
-      → ent 𝓤 (⋆ 𝓤 H A ((‵ (flft κ q) ⊛ ‵ ftrue) ∷ ‵ (finally u64 γ zs) ∷ ‵ (MutSlice (named 1) κ′ T.the-row .own (t ys) (tv ∷ [])) ∷ ‵ (flft κ′ q′) ∷ [])) (Post (val-r r))
+      → ent 𝓤 (⋆ 𝓤 H A ((‵ (flft κ q) ⊛ ‵ ftrue) ∷ ‵ (finally u64 γ zs) ∷ ‵ (MutSlice (named 1) κ′ T.the-row .own (t ys) (tv ∷ [])) ∷ ‵ (flft κ′ q′) ∷ []))
+      (Post (val-r r))
   exits-out r zs e same is =
       qed W ((‵ (flft κ q) ⊛ ‵ ftrue) ∷ ‵ (finally u64 γ zs) ∷ ‵ (MutSlice (named 1) κ′ T.the-row .own (t ys) (tv ∷ [])) ∷ ‵ (flft κ′ q′) ∷ []) ∵
-      suffices ! _ (ends-at 𝓤 H A f.ended stayed (f.clauses 𝓤 H A mem run) W (((κ, (κ′, tt)), (q, (q′, tt)), tt, args, at), tt) (val-r r) r (tt, (tt, (tt, (tt, (zs, (ys, tt)))))) (tt, (tt, (tt, (tt, (same, (refl, tt))))))) $ says ! e $
+      suffices ! _ (ends-at 𝓤 H A f.ended stayed (f.clauses 𝓤 H A mem run) W (((κ, (κ′, tt)), (q, (q′, tt)), tt, args, at), tt) (val-r r) r
+      (tt, (tt, (tt, (tt, (zs, (ys, tt)))))) (tt, (tt, (tt, (tt, (same, (refl, tt))))))) $ says ! e $
       split ! $ move ! (4 ∷ 1 ∷ []) $ join ! $ move ! (1 ∷ 0 ∷ []) $ join ! $ frame ! $
       -- [the store's last list; the table]
-      nothing ! $ move ! (2 ∷ 0 ∷ []) $ fjoin ! $ move ! (1 ∷ 0 ∷ []) $ fjoin ! $ owned ! Ar.the-row (Is Ar.the-row) (LL.makes Ar.the-type Ar′.the-plain 𝓤 H A) x _ x-is $ fjoin ! $ owned ! usize (Is usize) (uint-makes 𝓤 H A W w64) i _ (refl, i-fits) $ fjoin ! $ owned ! u64 (Is u64) (uint-makes 𝓤 H A W w64) kind _ (refl, kind-fits) $ fjoin ! $ owned ! Sh.the-row (Is Sh.the-row) (LL.makes Sh.the-type Sh′.the-plain 𝓤 H A) sh _ sh-is $ fjoin ! $
+      nothing ! $ move ! (2 ∷ 0 ∷ []) $ fjoin ! $ move ! (1 ∷ 0 ∷ []) $ fjoin ! $
+      owned ! Ar.the-row (Is Ar.the-row) (LL.makes Ar.the-type Ar′.the-plain 𝓤 H A) x _ x-is $ fjoin ! $
+      owned ! usize (Is usize) (uint-makes 𝓤 H A W w64) i _ (refl, i-fits) $ fjoin ! $ owned ! u64 (Is u64) (uint-makes 𝓤 H A W w64) kind _ (refl, kind-fits) $
+      fjoin ! $ owned ! Sh.the-row (Is Sh.the-row) (LL.makes Sh.the-type Sh′.the-plain 𝓤 H A) sh _ sh-is $ fjoin ! $
       frame ! $ owned ! R.the-row (Is R.the-row) (LL.makes R.the-type R′.the-plain 𝓤 H A) r _ is $ done !
 
-  module _ (C : Calls 𝓤 H) (Λ : Loops 𝓤 H) (fm : FmC 𝓤 H (W .laws) C) (known-scan : Triple 𝓤 (C #scan) (Scan 𝓤 H A mem run)) (known : Triple 𝓤 (C #turn) (Turn 𝓤 H A mem run)) (known-away : Triple 𝓤 (C #away) (Away 𝓤 H A mem run)) where
-    walk : ent 𝓤 (onEntry 𝓤 H A f.signature (κ, (κ′, tt)) (q, (q′, tt)) args at) (WpFn 𝓤 H C Λ code.function (val-sh sh ∷ vint w64 kind ∷ vint w64 i ∷ val-ar x ∷ sv ∷ tv ∷ []) Post)
+  module _ (C : Calls 𝓤 H) (Λ : Loops 𝓤 H) (fm : FmC 𝓤 H (W .laws) C) (known-scan : Triple 𝓤 (C #scan) (Scan 𝓤 H A mem run))
+      (known : Triple 𝓤 (C #turn) (Turn 𝓤 H A mem run)) (known-away : Triple 𝓤 (C #away) (Away 𝓤 H A mem run)) where
+    walk : ent 𝓤 (onEntry 𝓤 H A f.signature (κ, (κ′, tt)) (q, (q′, tt)) args at)
+        (WpFn 𝓤 H C Λ code.function (val-sh sh ∷ vint w64 kind ∷ vint w64 i ∷ val-ar x ∷ sv ∷ tv ∷ []) Post)
     walk =
-        qed W ((‵ (flft κ q) ⊛ ‵ (flft κ′ q′) ⊛ ‵ ftrue) ∷ ‵ (owns (Sh.the-row ∷ u64 ∷ usize ∷ Ar.the-row ∷ MutSlice (named 0) κ u64 ∷ MutSlice (named 1) κ′ T.the-row ∷ []) args at) ∷ []) ∵ enter ! C Λ code.function (val-sh sh ∷ vint w64 kind ∷ vint w64 i ∷ val-ar x ∷ sv ∷ tv ∷ []) _ $
-        alloc1 ! (λ l₀. alloc1 ! (λ l₁. alloc1 ! (λ l₂. alloc1 ! (λ l₃. alloc1 ! (λ l₄. alloc1 ! (λ l₅. alloc1 ! (λ l₆. alloc1 ! (λ l₇. alloc1 ! (λ l₈. alloc1 ! (λ l₉. alloc1 ! (λ l₁₀. alloc1 ! (λ l₁₁. alloc1 ! (λ l₁₂. alloc1 ! (λ l₁₃. alloc1 ! (λ l₁₄. alloc1 ! (λ l₁₅. alloc1 ! (λ l₁₆. alloc1 ! (λ l₁₇. alloc1 ! (λ l₁₈. alloc1 ! (λ l₁₉. alloc1 ! (λ l₂₀. alloc1 ! (λ l₂₁. alloc0 ! $ params1 ! $
-        pass1 ! (init ! 40 refl typed-sh) $ pass1 ! (init ! 38 refl (tt, record { fits = kind-fits })) $ pass1 ! (init ! 36 refl (tt, record { fits = i-fits })) $ pass1 ! (init ! 34 refl typed-x) $ pass1 ! (init ! 32 refl (tt, (tt, (record { fits = room-s .0 }, tt)))) $ pass1 ! (init ! 30 refl (tt, (tt, (record { fits = room .0 }, tt)))) $ pass0 ! $
-        assigns ! (of-opd ! (load ! (from ! (fld ! refl (stop !))) (look-in ! 30 (sub ! 1 refl (whole !))))) (from ! (stop !)) (init ! 28 refl (tt, record { fits = room .0 })) $
+        qed W ((‵ (flft κ q) ⊛ ‵ (flft κ′ q′) ⊛ ‵ ftrue)
+        ∷ ‵ (owns (Sh.the-row ∷ u64 ∷ usize ∷ Ar.the-row ∷ MutSlice (named 0) κ u64 ∷ MutSlice (named 1) κ′ T.the-row ∷ []) args at) ∷ []) ∵
+        enter ! C Λ code.function (val-sh sh ∷ vint w64 kind ∷ vint w64 i ∷ val-ar x ∷ sv ∷ tv ∷ []) _ $
+        alloc1 ! (λ l₀. alloc1 ! (λ l₁. alloc1 ! (λ l₂. alloc1 ! (λ l₃. alloc1 ! (λ l₄. alloc1 ! (λ l₅. alloc1 ! (λ l₆. alloc1 ! (λ l₇. alloc1 ! (λ l₈.
+        alloc1 ! (λ l₉. alloc1 ! (λ l₁₀. alloc1 ! (λ l₁₁. alloc1 ! (λ l₁₂. alloc1 ! (λ l₁₃. alloc1 ! (λ l₁₄. alloc1 ! (λ l₁₅. alloc1 ! (λ l₁₆. alloc1 ! (λ l₁₇.
+        alloc1 ! (λ l₁₈. alloc1 ! (λ l₁₉. alloc1 ! (λ l₂₀. alloc1 ! (λ l₂₁. alloc0 ! $ params1 ! $
+        pass1 ! (init ! 40 refl typed-sh) $ pass1 ! (init ! 38 refl (tt, record { fits = kind-fits })) $
+        pass1 ! (init ! 36 refl (tt, record { fits = i-fits })) $ pass1 ! (init ! 34 refl typed-x) $
+        pass1 ! (init ! 32 refl (tt, (tt, (record { fits = room-s .0 }, tt)))) $ pass1 ! (init ! 30 refl (tt, (tt, (record { fits = room .0 }, tt)))) $
+        pass0 ! $
+        assigns ! (of-opd ! (load ! (from ! (fld ! refl (stop !))) (look-in ! 30 (sub ! 1 refl (whole !))))) (from ! (stop !))
+        (init ! 28 refl (tt, record { fits = room .0 })) $
         -- the table is lent as a `&`, for a lifetime ν of the call; the other parameters' facts are dropped, and made anew where they are asked
         assigns ! (addr ! (from ! (fld ! refl (hop ! (look-in ! 30 (sub ! 0 refl (whole !))) (stop !))))) (from ! (stop !)) (init ! 20 refl (tt, tt)) $
-        assigns ! (agg ! (and-then ! (load ! (from ! (stop !)) (look ! 20 refl)) (and-then ! (load ! (from ! (fld ! refl (stop !))) (look-in ! 30 (sub ! 1 refl (whole !)))) (no-more !)))) (from ! (stop !)) (init ! 18 refl (tt, (tt, (record { fits = room .0 }, tt)))) $
-        move ! (45 ∷ []) $ fsplit ! $ drop ! $ fsplit ! $ drop ! $ fsplit ! $ drop ! $ fsplit ! $ drop ! $ fsplit ! $ move ! (1 ∷ []) $ fsplit ! $ move ! (1 ∷ []) $ drop ! $ move ! (46 ∷ []) $ split ! $ move ! (1 ∷ []) $ split ! $ lft-new ! tt (λ ν. move ! (4 ∷ 1 ∷ []) $
-        use2 W (later (some (λ (δ : GName). ‵ (ShrSlice (named 0) (ν ∷ []) T.the-row .own (at-name δ ys) (tv ∷ [])) ⊛ ‵ (LentShared T.the-row κ′ (ν ∷ []) q′ γ′ b′ o′ ys)))) (lends-shared T.the-row κ′ (ν ∷ []) q′ γ′ b′ o′ 𝓤 H A W (named 1) (named 0) ys) $ await ! tt $ pick ! (λ δ. split ! $
+        assigns ! (agg ! (and-then ! (load ! (from ! (stop !)) (look ! 20 refl))
+        (and-then ! (load ! (from ! (fld ! refl (stop !))) (look-in ! 30 (sub ! 1 refl (whole !)))) (no-more !)))) (from ! (stop !)) (init ! 18 refl
+        (tt, (tt, (record { fits = room .0 }, tt)))) $
+        move ! (45 ∷ []) $ fsplit ! $ drop ! $ fsplit ! $ drop ! $ fsplit ! $ drop ! $ fsplit ! $ drop ! $ fsplit ! $ move ! (1 ∷ []) $ fsplit ! $
+        move ! (1 ∷ []) $ drop ! $ move ! (46 ∷ []) $ split ! $ move ! (1 ∷ []) $ split ! $ lft-new ! tt (λ ν. move ! (4 ∷ 1 ∷ []) $
+        use2 W (later (some (λ (δ : GName). ‵ (ShrSlice (named 0) (ν ∷ []) T.the-row .own (at-name δ ys) (tv ∷ []))
+        ⊛ ‵ (LentShared T.the-row κ′ (ν ∷ []) q′ γ′ b′ o′ ys)))) (lends-shared T.the-row κ′ (ν ∷ []) q′ γ′ b′ o′ 𝓤 H A W (named 1) (named 0) ys) $ await ! tt $
+        pick ! (λ δ. split ! $
         move ! (2 ∷ 0 ∷ []) $ use2 W (raw (Scan 𝓤 H A mem run .pre (to-scan ν δ))) (goes-scan ν δ) $
-        calls-at ! fm (Scan 𝓤 H A mem run) known-scan (to-scan ν δ) (and-then ! (load ! (from ! (stop !)) (look ! 45 refl)) (and-then ! (load ! (from ! (stop !)) (look ! 23 refl)) (no-more !))) (λ v₀.
-        use1 W (later (some (λ (m : Survey). ((‵ (flft (ν ∷ []) fullShare) ⊛ ‵ ftrue) ⊛ ‵ (Sv.the-row .own m (v₀ ∷ []))) ⊛ raw (ensured 𝓤 H A scan.ended (scan.clauses 𝓤 H A mem run) (ν ∷ [], tt) (sh, (at-name δ ys, tt)) tt m)))) (id⊢ 𝓤 _) $ await ! tt $ pick ! (λ m.
+        calls-at ! fm (Scan 𝓤 H A mem run) known-scan (to-scan ν δ)
+        (and-then ! (load ! (from ! (stop !)) (look ! 45 refl)) (and-then ! (load ! (from ! (stop !)) (look ! 23 refl)) (no-more !))) (λ v₀.
+        use1 W (later (some (λ (m : Survey). ((‵ (flft (ν ∷ []) fullShare) ⊛ ‵ ftrue) ⊛ ‵ (Sv.the-row .own m (v₀ ∷ [])))
+        ⊛ raw (ensured 𝓤 H A scan.ended (scan.clauses 𝓤 H A mem run) (ν ∷ [], tt) (sh, (at-name δ ys, tt)) tt m)))) (id⊢ 𝓤 _) $ await ! tt $ pick ! (λ m.
         split ! $ move ! (1 ∷ []) $ use1 W (raw (fact 𝓤 (m ≡ all))) (scan-of 𝓤 H A mem run (ν ∷ []) sh (at-name δ ys) m) $ heard ! (m ≡ all) (λ e₀.
         split ! $ move ! (1 ∷ []) $ peeks ! Sv.the-row (Is Sv.the-row) (shows 𝓤 H A Sv.the-row) m (v₀ ∷ []) (λ is₀.
-        land ! (from ! (stop !)) (init ! 32 refl (LL.lawful Sv.the-type Sv′.the-laws 𝓤 H A W .typed m _ is₀ .0)) $ rewrite ! 32 (λ (u : Val). ‵ (fat fullShare Sv′.mir l₈ 0 u)) (ap only (LL.tells Sv.the-type Sv′.the-laws m _ is₀) ∙ ap val-s e₀) refl $
+        land ! (from ! (stop !)) (init ! 32 refl (LL.lawful Sv.the-type Sv′.the-laws 𝓤 H A W .typed m _ is₀ .0)) $
+        rewrite ! 32 (λ (u : Val). ‵ (fat fullShare Sv′.mir l₈ 0 u)) (ap only (LL.tells Sv.the-type Sv′.the-laws m _ is₀) ∙ ap val-s e₀) refl $
         -- the lifetime is ended, and the table comes back
         drop ! $ split ! $ lft-end ! tt $ move ! (0 ∷ 2 ∷ []) $
-        use2 W (later (‵ (MutSlice (named 1) κ′ T.the-row .own (t ys) (tv ∷ [])) ⊛ ‵ (flft κ′ q′))) (comes-back-shared T.the-row κ′ (ν ∷ []) q′ γ′ b′ o′ 𝓤 H A W (named 1) (named 0) ys room) $ await ! tt $ split ! $
+        use2 W (later (‵ (MutSlice (named 1) κ′ T.the-row .own (t ys) (tv ∷ [])) ⊛ ‵ (flft κ′ q′))) (comes-back-shared T.the-row κ′ (ν ∷ []) q′ γ′ b′ o′ 𝓤 H A W
+        (named 1) (named 0) ys room) $ await ! tt $ split ! $
         -- [the table; its token; true; true; the store's token; the store; the locals, the last first]
-        assigns ! (bin ! (load ! (from ! (stop !)) (look ! 42 refl)) (load ! (from ! (fld ! refl (stop !))) (look-in ! 32 (sub ! 2 refl (whole !)))) tt) (from ! (stop !)) (init ! 22 refl (tt, tt)) $
+        assigns ! (bin ! (load ! (from ! (stop !)) (look ! 42 refl)) (load ! (from ! (fld ! refl (stop !))) (look-in ! 32 (sub ! 2 refl (whole !)))) tt)
+        (from ! (stop !)) (init ! 22 refl (tt, tt)) $
         first ! $ branches ! (load ! (from ! (stop !)) (look ! 22 refl)) (λ inside.
         fsplit ! $ move ! (1 ∷ []) $ fsplit ! $ move ! (0 ∷ 1 ∷ 3 ∷ []) $
-        opens-slice ! tt T.the-row ys b′ o′ $ elem-out ! T.the-row (Is T.the-row) (shows 𝓤 H A T.the-row) vals (LL.tells T.the-type T′.the-laws) fullShare ys i blank b′ o′ (within inside) (λ g.
+        opens-slice ! tt T.the-row ys b′ o′ $
+        elem-out ! T.the-row (Is T.the-row) (shows 𝓤 H A T.the-row) vals (LL.tells T.the-type T′.the-laws) fullShare ys i blank b′ o′ (within inside) (λ g.
         -- [table[i]; what it owns; the others; the open borrow; obs; auth; the table's fact; true; true; the store's token; the store's; the locals]
-        assigns ! (bin ! (load ! (from ! (stop !)) (look ! 47 refl)) (lit ! tt) (record { fits = place-fits inside })) (from ! (stop !)) (init ! 25 refl (tt, record { fits = place-fits inside })) $
-        assigns ! (bin ! (load ! (from ! (fld ! refl (stop !))) (look-in ! 41 (sub ! 0 refl (whole !)))) (load ! (from ! (stop !)) (look ! 25 refl)) tt) (from ! (stop !)) (init ! 23 refl (tt, tt)) $
+        assigns ! (bin ! (load ! (from ! (stop !)) (look ! 47 refl)) (lit ! tt) (record { fits = place-fits inside })) (from ! (stop !)) (init ! 25 refl
+        (tt, record { fits = place-fits inside })) $
+        assigns ! (bin ! (load ! (from ! (fld ! refl (stop !))) (look-in ! 41 (sub ! 0 refl (whole !)))) (load ! (from ! (stop !)) (look ! 25 refl)) tt)
+        (from ! (stop !)) (init ! 23 refl (tt, tt)) $
         rewrite ! 23 (λ (p : ℕ). ‵ (fat fullShare tyPtr l₁₅ 0 (vptr b′ p))) (sym (place-is 72 o′ i)) refl $
         assigns ! (of-opd ! (load ! (from ! (hop ! (look ! 23 refl) (stop !))) (look-raw ! 0 refl))) (from ! (stop !)) (init ! 21 refl (typed wk g)) $
         assigns ! (of-opd ! (load ! (from ! (stop !)) (look ! 21 refl))) (from ! (stop !)) (init ! 35 refl (typed wk g)) $
         assigns ! (addr ! (from ! (fld ! refl (hop ! (look-in ! 43 (sub ! 0 refl (whole !))) (stop !))))) (from ! (stop !)) (init ! 19 refl (tt, tt)) $
-        assigns ! (agg ! (and-then ! (load ! (from ! (stop !)) (look ! 19 refl)) (and-then ! (load ! (from ! (fld ! refl (stop !))) (look-in ! 43 (sub ! 1 refl (whole !)))) (no-more !)))) (from ! (stop !)) (init ! 17 refl (tt, (tt, (record { fits = room-s .0 }, tt)))) $
+        assigns ! (agg ! (and-then ! (load ! (from ! (stop !)) (look ! 19 refl))
+        (and-then ! (load ! (from ! (fld ! refl (stop !))) (look-in ! 43 (sub ! 1 refl (whole !)))) (no-more !)))) (from ! (stop !)) (init ! 17 refl
+        (tt, (tt, (record { fits = room-s .0 }, tt)))) $
         -- `act_on_record`
         move ! (9 ∷ 10 ∷ []) $ use2 W (raw (Turn 𝓤 H A mem run .pre to-turn)) (goes-turn (all-is m v₀ is₀ e₀) (within inside) g) $
-        calls-at ! fm (Turn 𝓤 H A mem run) known to-turn (and-then ! (load ! (from ! (stop !)) (look ! 50 refl)) (and-then ! (load ! (from ! (stop !)) (look ! 48 refl)) (and-then ! (load ! (from ! (stop !)) (look ! 46 refl)) (and-then ! (load ! (from ! (stop !)) (look ! 44 refl)) (and-then ! (load ! (from ! (stop !)) (look ! 38 refl)) (and-then ! (load ! (from ! (stop !)) (look ! 36 refl)) (and-then ! (load ! (from ! (stop !)) (look ! 34 refl)) (and-then ! (load ! (from ! (stop !)) (look ! 16 refl)) (no-more !))))))))) (λ v.
-        use1 W (later (some (λ (r : Handled). ((‵ (flft κ q) ⊛ ‵ ftrue) ⊛ ‵ (U.the-row .own r (v ∷ []))) ⊛ raw (ensured 𝓤 H A turn.ended (turn.clauses 𝓤 H A mem run) (κ, tt) (sh, (kind, (i, (x, (length ys, (all, (wk, (s, tt)))))))) tt r)))) (id⊢ 𝓤 _) $ await ! tt $ pick ! (λ r.
-        split ! $ move ! (1 ∷ []) $ use1 W (some (λ (zs : (Unit {0} × (Unit {0} × (Unit {0} × (Unit {0} × (Unit {0} × (Unit {0} × (Unit {0} × (List ℕ × Unit {0}))))))))). ‵ (lasts turn.ended (κ, tt) (sh, (kind, (i, (x, (length ys, (all, (wk, (s, tt)))))))) zs) ⊛ raw (fact 𝓤 (Said sh kind i x S ys r (zs .1 .1 .1 .1 .1 .1 .1 .0))))) (id⊢ 𝓤 _) $ pick ! (λ zs.
-        split ! $ move ! (1 ∷ []) $ heard ! (Said sh kind i x S ys r (zs .1 .1 .1 .1 .1 .1 .1 .0)) (λ e. fsplit ! $ drop ! $ fsplit ! $ drop ! $ fsplit ! $ drop ! $ fsplit ! $ drop ! $ fsplit ! $ drop ! $ fsplit ! $ drop ! $ fsplit ! $ drop ! $ fsplit ! $ fsplit ! $ move ! (1 ∷ []) $ feqL ! (λ same.
+        calls-at ! fm (Turn 𝓤 H A mem run) known to-turn
+        (and-then ! (load ! (from ! (stop !)) (look ! 50 refl))
+        (and-then ! (load ! (from ! (stop !)) (look ! 48 refl))
+        (and-then ! (load ! (from ! (stop !)) (look ! 46 refl))
+        (and-then ! (load ! (from ! (stop !)) (look ! 44 refl))
+        (and-then ! (load ! (from ! (stop !)) (look ! 38 refl)) (and-then ! (load ! (from ! (stop !)) (look ! 36 refl))
+        (and-then ! (load ! (from ! (stop !)) (look ! 34 refl)) (and-then ! (load ! (from ! (stop !)) (look ! 16 refl)) (no-more !))))))))) (λ v.
+        use1 W (later (some (λ (r : Handled). ((‵ (flft κ q) ⊛ ‵ ftrue) ⊛ ‵ (U.the-row .own r (v ∷ [])))
+        ⊛ raw (ensured 𝓤 H A turn.ended (turn.clauses 𝓤 H A mem run) (κ, tt) (sh, (kind, (i, (x, (length ys, (all, (wk, (s, tt)))))))) tt r)))) (id⊢ 𝓤 _) $
+        await ! tt $ pick ! (λ r.
+        split ! $ move ! (1 ∷ []) $ use1 W
+        (some (λ (zs : (Unit {0} × (Unit {0} × (Unit {0} × (Unit {0} × (Unit {0} × (Unit {0} × (Unit {0} × (List ℕ × Unit {0}))))))))).
+        ‵ (lasts turn.ended (κ, tt) (sh, (kind, (i, (x, (length ys, (all, (wk, (s, tt)))))))) zs)
+        ⊛ raw (fact 𝓤 (Said sh kind i x S ys r (zs .1 .1 .1 .1 .1 .1 .1 .0))))) (id⊢ 𝓤 _) $ pick ! (λ zs.
+        split ! $ move ! (1 ∷ []) $ heard ! (Said sh kind i x S ys r (zs .1 .1 .1 .1 .1 .1 .1 .0)) (λ e. fsplit ! $ drop ! $ fsplit ! $ drop ! $ fsplit ! $
+        drop ! $ fsplit ! $ drop ! $ fsplit ! $ drop ! $ fsplit ! $ drop ! $ fsplit ! $ drop ! $ fsplit ! $ fsplit ! $ move ! (1 ∷ []) $ feqL ! (λ same.
         move ! (2 ∷ []) $ split ! $ move ! (1 ∷ []) $ peeks ! U.the-row (Is U.the-row) (shows 𝓤 H A U.the-row) r (v ∷ []) (λ is.
-        land ! (from ! (stop !)) (init ! 35 refl (LL.lawful U.the-type U′.the-laws 𝓤 H A W .typed r _ is .0)) $ rewrite ! 35 (λ (u : Val). ‵ (fat fullShare U′.mir l₁₀ 0 u)) (ap only (LL.tells U.the-type U′.the-laws r _ is)) refl $
-        -- [what r owns; the store's token; its last list; true; table[i]; what it owns; the others; the open borrow; obs; auth; the table's fact; true; true; the locals]
-        assigns ! (bin ! (load ! (from ! (stop !)) (look ! 49 refl)) (lit ! tt) (record { fits = place-fits inside })) (from ! (stop !)) (store ! 27 refl (tt, record { fits = place-fits inside })) $
-        assigns ! (bin ! (load ! (from ! (fld ! refl (stop !))) (look-in ! 43 (sub ! 0 refl (whole !)))) (load ! (from ! (stop !)) (look ! 27 refl)) tt) (from ! (stop !)) (init ! 17 refl (tt, tt)) $
+        land ! (from ! (stop !)) (init ! 35 refl (LL.lawful U.the-type U′.the-laws 𝓤 H A W .typed r _ is .0)) $
+        rewrite ! 35 (λ (u : Val). ‵ (fat fullShare U′.mir l₁₀ 0 u)) (ap only (LL.tells U.the-type U′.the-laws r _ is)) refl $
+        -- [what r owns; the store's token; its last list; true; table[i]; what it owns; the others; the open borrow; obs; auth; the table's fact; true; true;
+        -- the locals]
+        assigns ! (bin ! (load ! (from ! (stop !)) (look ! 49 refl)) (lit ! tt) (record { fits = place-fits inside })) (from ! (stop !)) (store ! 27 refl
+        (tt, record { fits = place-fits inside })) $
+        assigns ! (bin ! (load ! (from ! (fld ! refl (stop !))) (look-in ! 43 (sub ! 0 refl (whole !)))) (load ! (from ! (stop !)) (look ! 27 refl)) tt)
+        (from ! (stop !)) (init ! 17 refl (tt, tt)) $
         rewrite ! 17 (λ (p : ℕ). ‵ (fat fullShare tyPtr l₁₉ 0 (vptr b′ p))) (sym (place-is 72 o′ i)) refl $
-        assigns ! (of-opd ! (load ! (from ! (fld ! refl (stop !))) (look-in ! 35 (sub ! 0 refl (whole !))))) (from ! (hop ! (look ! 17 refl) (stop !))) (store-raw ! 4 refl (typed (r .worker) (worker-is r v is))) $
+        assigns ! (of-opd ! (load ! (from ! (fld ! refl (stop !))) (look-in ! 35 (sub ! 0 refl (whole !))))) (from ! (hop ! (look ! 17 refl) (stop !)))
+        (store-raw ! 4 refl (typed (r .worker) (worker-is r v is))) $
         move ! (5 ∷ []) $ drop ! $ owned ! T.the-row (Is T.the-row) (LL.makes T.the-type T′.the-plain 𝓤 H A) (r .worker) _ (worker-is r v is) $
         move ! (5 ∷ 0 ∷ 6 ∷ []) $ elem-put ! T.the-row fullShare ys i (r .worker) (vals (r .worker)) b′ o′ (within inside) $
         move ! (0 ∷ 5 ∷ 6 ∷ 7 ∷ []) $ closes-slice ! tt T.the-row ys (set ys i (r .worker)) (length-set ys i (r .worker)) b′ o′ $
         -- [obs; the borrow; the table's token; what r owns; the store's token; its last list; true; the table's fact; true; true; the locals]
-        assigns ! (of-opd ! (load ! (from ! (fld ! refl (stop !))) (look-in ! 32 (sub ! 1 refl (whole !))))) (from ! (stop !)) (init ! 52 refl (typed-r (r .answer) (answer-is r v is))) $
-        returns-within ! Post refl (look ! 52 refl) $ forget ! 52 refl $ forget ! 50 refl $ forget ! 48 refl $ forget ! 46 refl $ forget ! 44 refl $ forget ! 42 refl $ forget ! 40 refl $ forget ! 38 refl $ forget ! 36 refl $ forget ! 34 refl $ forget ! 32 refl $ forget ! 30 refl $ forget ! 28 refl $ forget ! 26 refl $ forget ! 24 refl $ forget ! 22 refl $ forget ! 20 refl $ forget ! 18 refl $ forget ! 16 refl $ forget ! 14 refl $
-        move ! (52 ∷ 53 ∷ []) $ free1 ! $ move ! (50 ∷ 51 ∷ []) $ free1 ! $ move ! (48 ∷ 49 ∷ []) $ free1 ! $ move ! (46 ∷ 47 ∷ []) $ free1 ! $ move ! (44 ∷ 45 ∷ []) $ free1 ! $ move ! (42 ∷ 43 ∷ []) $ free1 ! $ move ! (40 ∷ 41 ∷ []) $ free1 ! $ move ! (38 ∷ 39 ∷ []) $ free1 ! $ move ! (36 ∷ 37 ∷ []) $ free1 ! $ move ! (34 ∷ 35 ∷ []) $ free1 ! $ move ! (32 ∷ 33 ∷ []) $ free1 ! $ move ! (30 ∷ 31 ∷ []) $ free1 ! $ move ! (28 ∷ 29 ∷ []) $ free1 ! $ move ! (26 ∷ 27 ∷ []) $ free1 ! $ move ! (24 ∷ 25 ∷ []) $ free1 ! $ move ! (22 ∷ 23 ∷ []) $ free1 ! $ move ! (20 ∷ 21 ∷ []) $ free1 ! $ move ! (18 ∷ 19 ∷ []) $ free1 ! $ move ! (16 ∷ 17 ∷ []) $ free1 ! $ move ! (14 ∷ 15 ∷ []) $ free1 ! $ move ! (12 ∷ 13 ∷ []) $ free1 ! $ move ! (10 ∷ 11 ∷ []) $ free1 ! $ free0 ! $
-        keep ! (0 ∷ 1 ∷ 2 ∷ 4 ∷ 5 ∷ []) $ by ! (exits r (zs .1 .1 .1 .1 .1 .1 .1 .0) (says-in sh kind i x S ys (within inside) r (zs .1 .1 .1 .1 .1 .1 .1 .0) e) same (answer-is r v is))))))))))
+        assigns ! (of-opd ! (load ! (from ! (fld ! refl (stop !))) (look-in ! 32 (sub ! 1 refl (whole !))))) (from ! (stop !)) (init ! 52 refl
+        (typed-r (r .answer) (answer-is r v is))) $
+        returns-within ! Post refl (look ! 52 refl) $ forget ! 52 refl $ forget ! 50 refl $ forget ! 48 refl $ forget ! 46 refl $ forget ! 44 refl $
+        forget ! 42 refl $ forget ! 40 refl $ forget ! 38 refl $ forget ! 36 refl $ forget ! 34 refl $ forget ! 32 refl $ forget ! 30 refl $ forget ! 28 refl $
+        forget ! 26 refl $ forget ! 24 refl $ forget ! 22 refl $ forget ! 20 refl $ forget ! 18 refl $ forget ! 16 refl $ forget ! 14 refl $
+        move ! (52 ∷ 53 ∷ []) $ free1 ! $ move ! (50 ∷ 51 ∷ []) $ free1 ! $ move ! (48 ∷ 49 ∷ []) $ free1 ! $ move ! (46 ∷ 47 ∷ []) $ free1 ! $
+        move ! (44 ∷ 45 ∷ []) $ free1 ! $ move ! (42 ∷ 43 ∷ []) $ free1 ! $ move ! (40 ∷ 41 ∷ []) $ free1 ! $ move ! (38 ∷ 39 ∷ []) $ free1 ! $
+        move ! (36 ∷ 37 ∷ []) $ free1 ! $ move ! (34 ∷ 35 ∷ []) $ free1 ! $ move ! (32 ∷ 33 ∷ []) $ free1 ! $ move ! (30 ∷ 31 ∷ []) $ free1 ! $
+        move ! (28 ∷ 29 ∷ []) $ free1 ! $ move ! (26 ∷ 27 ∷ []) $ free1 ! $ move ! (24 ∷ 25 ∷ []) $ free1 ! $ move ! (22 ∷ 23 ∷ []) $ free1 ! $
+        move ! (20 ∷ 21 ∷ []) $ free1 ! $ move ! (18 ∷ 19 ∷ []) $ free1 ! $ move ! (16 ∷ 17 ∷ []) $ free1 ! $ move ! (14 ∷ 15 ∷ []) $ free1 ! $
+        move ! (12 ∷ 13 ∷ []) $ free1 ! $ move ! (10 ∷ 11 ∷ []) $ free1 ! $ free0 ! $
+        keep ! (0 ∷ 1 ∷ 2 ∷ 4 ∷ 5 ∷ []) $ by ! (exits r (zs .1 .1 .1 .1 .1 .1 .1 .0)
+        (says-in sh kind i x S ys (within inside) r (zs .1 .1 .1 .1 .1 .1 .1 .0) e) same (answer-is r v is))))))))))
         (λ outside.
         assigns ! (addr ! (from ! (fld ! refl (hop ! (look-in ! 38 (sub ! 0 refl (whole !))) (stop !))))) (from ! (stop !)) (init ! 8 refl (tt, tt)) $
-        assigns ! (agg ! (and-then ! (load ! (from ! (stop !)) (look ! 8 refl)) (and-then ! (load ! (from ! (fld ! refl (stop !))) (look-in ! 38 (sub ! 1 refl (whole !)))) (no-more !)))) (from ! (stop !)) (init ! 6 refl (tt, (tt, (record { fits = room-s .0 }, tt)))) $
+        assigns ! (agg ! (and-then ! (load ! (from ! (stop !)) (look ! 8 refl))
+        (and-then ! (load ! (from ! (fld ! refl (stop !))) (look-in ! 38 (sub ! 1 refl (whole !)))) (no-more !)))) (from ! (stop !)) (init ! 6 refl
+        (tt, (tt, (record { fits = room-s .0 }, tt)))) $
         -- `turn_away`
         move ! (4 ∷ 5 ∷ []) $ use2 W (raw (Away 𝓤 H A mem run .pre to-away)) (goes-away (all-is m v₀ is₀ e₀)) $
-        calls-at ! fm (Away 𝓤 H A mem run) known-away to-away (and-then ! (load ! (from ! (stop !)) (look ! 45 refl)) (and-then ! (load ! (from ! (stop !)) (look ! 41 refl)) (and-then ! (load ! (from ! (stop !)) (look ! 33 refl)) (and-then ! (load ! (from ! (stop !)) (look ! 31 refl)) (and-then ! (load ! (from ! (stop !)) (look ! 5 refl)) (no-more !)))))) (λ v.
-        use1 W (later (some (λ (r : Answer). ((‵ (flft κ q) ⊛ ‵ ftrue) ⊛ ‵ (R.the-row .own r (v ∷ []))) ⊛ raw (ensured 𝓤 H A away.ended (away.clauses 𝓤 H A mem run) (κ, tt) (sh, (i, (length ys, (all, (s, tt))))) tt r)))) (id⊢ 𝓤 _) $ await ! tt $ pick ! (λ r.
-        split ! $ move ! (1 ∷ []) $ use1 W (some (λ (zs : (Unit {0} × (Unit {0} × (Unit {0} × (Unit {0} × (List ℕ × Unit {0})))))). ‵ (lasts away.ended (κ, tt) (sh, (i, (length ys, (all, (s, tt))))) zs) ⊛ raw (fact 𝓤 (SaidAway sh kind i x S ys r (zs .1 .1 .1 .1 .0))))) (id⊢ 𝓤 _) $ pick ! (λ zs.
-        split ! $ move ! (1 ∷ []) $ heard ! (SaidAway sh kind i x S ys r (zs .1 .1 .1 .1 .0)) (λ e. fsplit ! $ drop ! $ fsplit ! $ drop ! $ fsplit ! $ drop ! $ fsplit ! $ drop ! $ fsplit ! $ fsplit ! $ move ! (1 ∷ []) $ feqL ! (λ same.
+        calls-at ! fm (Away 𝓤 H A mem run) known-away to-away
+        (and-then ! (load ! (from ! (stop !)) (look ! 45 refl))
+        (and-then ! (load ! (from ! (stop !)) (look ! 41 refl)) (and-then ! (load ! (from ! (stop !)) (look ! 33 refl))
+        (and-then ! (load ! (from ! (stop !)) (look ! 31 refl)) (and-then ! (load ! (from ! (stop !)) (look ! 5 refl)) (no-more !)))))) (λ v.
+        use1 W (later (some (λ (r : Answer). ((‵ (flft κ q) ⊛ ‵ ftrue) ⊛ ‵ (R.the-row .own r (v ∷ [])))
+        ⊛ raw (ensured 𝓤 H A away.ended (away.clauses 𝓤 H A mem run) (κ, tt) (sh, (i, (length ys, (all, (s, tt))))) tt r)))) (id⊢ 𝓤 _) $ await ! tt $
+        pick ! (λ r.
+        split ! $ move ! (1 ∷ []) $ use1 W
+        (some (λ (zs : (Unit {0} × (Unit {0} × (Unit {0} × (Unit {0} × (List ℕ × Unit {0})))))). ‵ (lasts away.ended (κ, tt)
+        (sh, (i, (length ys, (all, (s, tt))))) zs) ⊛ raw (fact 𝓤 (SaidAway sh kind i x S ys r (zs .1 .1 .1 .1 .0))))) (id⊢ 𝓤 _) $ pick ! (λ zs.
+        split ! $ move ! (1 ∷ []) $ heard ! (SaidAway sh kind i x S ys r (zs .1 .1 .1 .1 .0)) (λ e. fsplit ! $ drop ! $ fsplit ! $ drop ! $ fsplit ! $ drop ! $
+        fsplit ! $ drop ! $ fsplit ! $ fsplit ! $ move ! (1 ∷ []) $ feqL ! (λ same.
         move ! (2 ∷ []) $ split ! $ move ! (1 ∷ []) $ peeks ! R.the-row (Is R.the-row) (shows 𝓤 H A R.the-row) r (v ∷ []) (λ is.
-        land ! (from ! (stop !)) (init ! 50 refl (LL.lawful R.the-type R′.the-laws 𝓤 H A W .typed r _ is .0)) $ rewrite ! 50 (λ (u : Val). ‵ (fat fullShare R′.mir l₀ 0 u)) (ap only (LL.tells R.the-type R′.the-laws r _ is)) refl $
+        land ! (from ! (stop !)) (init ! 50 refl (LL.lawful R.the-type R′.the-laws 𝓤 H A W .typed r _ is .0)) $
+        rewrite ! 50 (λ (u : Val). ‵ (fat fullShare R′.mir l₀ 0 u)) (ap only (LL.tells R.the-type R′.the-laws r _ is)) refl $
         -- [what r owns; the store's token; its last list; true; the table; its token; true; true; the locals]
-        returns-within ! Post refl (look ! 50 refl) $ forget ! 50 refl $ forget ! 48 refl $ forget ! 46 refl $ forget ! 44 refl $ forget ! 42 refl $ forget ! 40 refl $ forget ! 38 refl $ forget ! 36 refl $ forget ! 34 refl $ forget ! 28 refl $ forget ! 26 refl $ forget ! 24 refl $ forget ! 10 refl $ forget ! 8 refl $
-        move ! (50 ∷ 51 ∷ []) $ free1 ! $ move ! (48 ∷ 49 ∷ []) $ free1 ! $ move ! (46 ∷ 47 ∷ []) $ free1 ! $ move ! (44 ∷ 45 ∷ []) $ free1 ! $ move ! (42 ∷ 43 ∷ []) $ free1 ! $ move ! (40 ∷ 41 ∷ []) $ free1 ! $ move ! (38 ∷ 39 ∷ []) $ free1 ! $ move ! (36 ∷ 37 ∷ []) $ free1 ! $ move ! (34 ∷ 35 ∷ []) $ free1 ! $ move ! (32 ∷ 33 ∷ []) $ free1 ! $ move ! (30 ∷ 31 ∷ []) $ free1 ! $ move ! (28 ∷ 29 ∷ []) $ free1 ! $ move ! (26 ∷ 27 ∷ []) $ free1 ! $ move ! (24 ∷ 25 ∷ []) $ free1 ! $ move ! (22 ∷ 23 ∷ []) $ free1 ! $ move ! (20 ∷ 21 ∷ []) $ free1 ! $ move ! (18 ∷ 19 ∷ []) $ free1 ! $ move ! (16 ∷ 17 ∷ []) $ free1 ! $ move ! (14 ∷ 15 ∷ []) $ free1 ! $ move ! (12 ∷ 13 ∷ []) $ free1 ! $ move ! (10 ∷ 11 ∷ []) $ free1 ! $ move ! (8 ∷ 9 ∷ []) $ free1 ! $ free0 ! $
-        keep ! (1 ∷ 2 ∷ 4 ∷ 5 ∷ []) $ by ! (exits-out r (zs .1 .1 .1 .1 .0) (says-out sh kind i x S ys (fails _ outside) r (zs .1 .1 .1 .1 .0) e) same (subst (Is R.the-row r) (LL.tells R.the-type R′.the-laws r _ is) is)))))))))))))))))))))))))))))))))))))
+        returns-within ! Post refl (look ! 50 refl) $ forget ! 50 refl $ forget ! 48 refl $ forget ! 46 refl $ forget ! 44 refl $ forget ! 42 refl $
+        forget ! 40 refl $ forget ! 38 refl $ forget ! 36 refl $ forget ! 34 refl $ forget ! 28 refl $ forget ! 26 refl $ forget ! 24 refl $ forget ! 10 refl $
+        forget ! 8 refl $
+        move ! (50 ∷ 51 ∷ []) $ free1 ! $ move ! (48 ∷ 49 ∷ []) $ free1 ! $ move ! (46 ∷ 47 ∷ []) $ free1 ! $ move ! (44 ∷ 45 ∷ []) $ free1 ! $
+        move ! (42 ∷ 43 ∷ []) $ free1 ! $ move ! (40 ∷ 41 ∷ []) $ free1 ! $ move ! (38 ∷ 39 ∷ []) $ free1 ! $ move ! (36 ∷ 37 ∷ []) $ free1 ! $
+        move ! (34 ∷ 35 ∷ []) $ free1 ! $ move ! (32 ∷ 33 ∷ []) $ free1 ! $ move ! (30 ∷ 31 ∷ []) $ free1 ! $ move ! (28 ∷ 29 ∷ []) $ free1 ! $
+        move ! (26 ∷ 27 ∷ []) $ free1 ! $ move ! (24 ∷ 25 ∷ []) $ free1 ! $ move ! (22 ∷ 23 ∷ []) $ free1 ! $ move ! (20 ∷ 21 ∷ []) $ free1 ! $
+        move ! (18 ∷ 19 ∷ []) $ free1 ! $ move ! (16 ∷ 17 ∷ []) $ free1 ! $ move ! (14 ∷ 15 ∷ []) $ free1 ! $ move ! (12 ∷ 13 ∷ []) $ free1 ! $
+        move ! (10 ∷ 11 ∷ []) $ free1 ! $ move ! (8 ∷ 9 ∷ []) $ free1 ! $ free0 ! $
+        keep ! (1 ∷ 2 ∷ 4 ∷ 5 ∷ []) $ by ! (exits-out r (zs .1 .1 .1 .1 .0) (says-out sh kind i x S ys (fails _ outside) r (zs .1 .1 .1 .1 .0) e) same
+        (subst (Is R.the-row r) (LL.tells R.the-type R′.the-laws r _ is) is)))))))))))))))))))))))))))))))))))))
       where
         typed : (w : Worker) → Is T.the-row w (vals w) → Holds (hasTy T′.mir (val w)) × WT (val w)
         typed w g = LL.lawful T.the-type T′.the-laws 𝓤 H A W .typed w _ g .0
@@ -338,26 +464,55 @@ module _ {M : Type 1} (𝓤 : URA M) (H : Heap 𝓤) (A : Atoms 𝓤) (W : Given
         answer-is r v is = LL.owed U.the-type U′.the-laws r _ is .1 .0
 
         within : Holds (ltb i (all .records)) → i < length ys
-        within inside = omega (arith, ltb→lt i (all .records) inside, survey-records sh ys (surveyed sh (length ys)) (surveyed sh (length ys)), surveyed-bound sh (length ys))
+        within inside =
+            omega (
+              arith,
+              ltb→lt i (all .records) inside,
+              survey-records sh ys (surveyed sh (length ys)) (surveyed sh (length ys)),
+              surveyed-bound sh (length ys),
+            )
 
         -- the elements' bytes fit an isize, so element i's offset fits a usize
         place-fits : Holds (ltb i (all .records)) → i * 72 < 2 ^ 64
         place-fits inside = omega (arith, within inside, room .1)
 
 module _ {M : Type 1} (𝓤 : URA M) (H : Heap 𝓤) (A : Atoms 𝓤) (W : Given 𝓤 H A) (mem : Memory → SProp 𝓤) (run : Routine → Fun 𝓤) where
-  walks : (C : Calls 𝓤 H) (Λ : Loops 𝓤 H) → FmC 𝓤 H (W .laws) C → Triple 𝓤 (C #scan) (Scan 𝓤 H A mem run) → Triple 𝓤 (C #turn) (Turn 𝓤 H A mem run) → Triple 𝓤 (C #away) (Away 𝓤 H A mem run) → Walks 𝓤 H A f.ended stayed (WpFn 𝓤 H C Λ code.function) (f.clauses 𝓤 H A mem run)
+  walks : (C : Calls 𝓤 H) (Λ : Loops 𝓤 H) → FmC 𝓤 H (W .laws) C → Triple 𝓤 (C #scan) (Scan 𝓤 H A mem run) → Triple 𝓤 (C #turn) (Turn 𝓤 H A mem run)
+      → Triple 𝓤 (C #away) (Away 𝓤 H A mem run) → Walks 𝓤 H A f.ended stayed (WpFn 𝓤 H C Λ code.function) (f.clauses 𝓤 H A mem run)
   walks C Λ fm known-scan known known-away = walked 𝓤 H A f.ended stayed (f.clauses 𝓤 H A mem run) (WpFn 𝓤 H C Λ code.function)
       (λ κs. (vals-sh, (uint-vals w64, (uint-vals w64, (vals-ar, (slice-vals, (slice-vals, tt)))))))
-      (λ κs. (LL.tells Sh.the-type Sh′.the-laws, (uint-tells w64, (uint-tells w64, (LL.tells Ar.the-type Ar′.the-laws, (mut-slice-tells (named 0) (κs .0) u64, (mut-slice-tells (named 1) (κs .1 .0) T.the-row, tt)))))))
+      (λ κs. (
+        LL.tells Sh.the-type Sh′.the-laws,
+        (
+          uint-tells w64,
+          (uint-tells w64, (LL.tells Ar.the-type Ar′.the-laws, (mut-slice-tells (named 0) (κs .0) u64, (mut-slice-tells (named 1) (κs .1 .0) T.the-row, tt)))),
+        ),
+      ))
       (λ κs qs bounds a g are. via 𝓤 _ (fst∗ 𝓤 _ (emp 𝓤))
-      (walk 𝓤 H A W mem run (κs .0) (κs .1 .0) (qs .0) (qs .1 .0) (a .0) (a .1 .0) (a .1 .1 .0) (a .1 .1 .1 .0) (a .1 .1 .1 .1 .0 .ptr .0) (a .1 .1 .1 .1 .0 .ptr .1) (a .1 .1 .1 .1 .0 .name) (a .1 .1 .1 .1 .0 .now) (a .1 .1 .1 .1 .1 .0 .ptr .0) (a .1 .1 .1 .1 .1 .0 .ptr .1) (a .1 .1 .1 .1 .1 .0 .name) (a .1 .1 .1 .1 .1 .0 .now)
+      (walk 𝓤 H A W mem run (κs .0) (κs .1 .0) (qs .0) (qs .1 .0) (a .0) (a .1 .0) (a .1 .1 .0) (a .1 .1 .1 .0) (a .1 .1 .1 .1 .0 .ptr .0)
+      (a .1 .1 .1 .1 .0 .ptr .1) (a .1 .1 .1 .1 .0 .name) (a .1 .1 .1 .1 .0 .now) (a .1 .1 .1 .1 .1 .0 .ptr .0) (a .1 .1 .1 .1 .1 .0 .ptr .1)
+      (a .1 .1 .1 .1 .1 .0 .name) (a .1 .1 .1 .1 .1 .0 .now)
       (are .0) (are .1 .0 .1) (are .1 .1 .0 .1) (are .1 .1 .1 .0) (are .1 .1 .1 .1 .0 .0 .1) (are .1 .1 .1 .1 .1 .0 .0 .1) C Λ fm known-scan known known-away))
 
-meets : {M : Type 1} (𝓤 : URA M) (H : Heap 𝓤) (A : Atoms 𝓤) → Given 𝓤 H A → (mem : Memory → SProp 𝓤) (run : Routine → Fun 𝓤) (𝓣 : Tables 𝓤 H) → Triple 𝓤 (𝓣 .C #scan) (Scan 𝓤 H A mem run) → Triple 𝓤 (𝓣 .C #turn) (Turn 𝓤 H A mem run) → Triple 𝓤 (𝓣 .C #away) (Away 𝓤 H A mem run)
+meets : {M : Type 1} (𝓤 : URA M) (H : Heap 𝓤) (A : Atoms 𝓤) → Given 𝓤 H A → (mem : Memory → SProp 𝓤) (run : Routine → Fun 𝓤) (𝓣 : Tables 𝓤 H)
+    → Triple 𝓤 (𝓣 .C #scan) (Scan 𝓤 H A mem run) → Triple 𝓤 (𝓣 .C #turn) (Turn 𝓤 H A mem run) → Triple 𝓤 (𝓣 .C #away) (Away 𝓤 H A mem run)
     → Meets 𝓤 H A f.signature (WpFn 𝓤 H (𝓣 .C) (𝓣 .Λ) code.function) (f.spec 𝓤 H A mem run)
 meets 𝓤 H A W mem run 𝓣 known-scan known known-away =
-    walk-meets 𝓤 H A f.ended stayed W (goes-none 𝓤 H A W 2 (λ _. Sh.the-row) yes (λ κs x f. refl), (goes-none 𝓤 H A W 2 (λ _. u64) yes (λ κs x f. refl), (goes-none 𝓤 H A W 2 (λ _. usize) yes (λ κs x f. refl), (goes-none 𝓤 H A W 2 (λ _. Ar.the-row) yes (λ κs x f. refl), (goes-gave-slice 𝓤 H A W 2 0 tt (plain (λ _. u64)), (goes-slice 𝓤 H A W 2 1 tt (plain (λ _. T.the-row)), tt)))))) (f.clauses 𝓤 H A mem run)
-    (WpFn 𝓤 H (𝓣 .C) (𝓣 .Λ) code.function) (WpFn-mono 𝓤 H (W .laws) 𝓣 code.function) (walks 𝓤 H A W mem run (𝓣 .C) (𝓣 .Λ) (fmOf 𝓤 H (W .laws) 𝓣) known-scan known known-away)
+    walk-meets 𝓤 H A f.ended stayed W (
+      goes-none 𝓤 H A W 2 (λ _. Sh.the-row) yes (λ κs x f. refl),
+      (
+        goes-none 𝓤 H A W 2 (λ _. u64) yes (λ κs x f. refl),
+        (
+          goes-none 𝓤 H A W 2 (λ _. usize) yes (λ κs x f. refl),
+          (
+            goes-none 𝓤 H A W 2 (λ _. Ar.the-row) yes (λ κs x f. refl),
+            (goes-gave-slice 𝓤 H A W 2 0 tt (plain (λ _. u64)), (goes-slice 𝓤 H A W 2 1 tt (plain (λ _. T.the-row)), tt)),
+          ),
+        ),
+      ),
+    ) (f.clauses 𝓤 H A mem run)
+    (WpFn 𝓤 H (𝓣 .C) (𝓣 .Λ) code.function) (WpFn-mono 𝓤 H (W .laws) 𝓣 code.function)
+    (walks 𝓤 H A W mem run (𝓣 .C) (𝓣 .Λ) (fmOf 𝓤 H (W .laws) 𝓣) known-scan known known-away)
 
 pub act-lent-spec : {M : Type 1} → stated.statement M
 unfolding code.routine tablesOf

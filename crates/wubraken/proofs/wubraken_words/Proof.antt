@@ -23,7 +23,8 @@ layout-words-requires c κs =
 
 returns-2 : tie.Need-returns-2
 returns-2 c =
-    let e : shapeInRange (c .before .before .before .args .shape) ≡ true = sym (c .before .before .shape-in-range .ensures) ∙ not-false _ (c .before .if1 .left) in
+    let e : shapeInRange (c .before .before .before .args .shape) ≡ true = sym (c .before .before .shape-in-range .ensures)
+    ∙ not-false _ (c .before .if1 .left) in
     rw e (c .layout-words .ensures)
 
 pub wubraken-words-spec : {M : Type 1} → statement M

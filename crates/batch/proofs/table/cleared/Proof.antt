@@ -33,10 +33,15 @@ loop-less c = search needs
 
 loop-again : tie.Need-loop-again Inv-loop μ-loop
 unfolding blank
-loop-again c = (omega arith, ap (λ t. set t (c .before .loop .i) blank) (c .before .loop .inv .1) ∙ cleared-more blank (c .before .loop .i) (c .before .before .args .t1) (omega arith))
+loop-again c = (
+  omega arith,
+  ap (λ t. set t (c .before .loop .i) blank) (c .before .loop .inv .1) ∙ cleared-more blank (c .before .loop .i) (c .before .before .args .t1) (omega arith),
+)
 
 returns : tie.Need-returns Inv-loop μ-loop
-returns c = let e : c .before .loop .i ≡ c .before .before .args .n = omega arith in c .before .loop .inv .1 ∙ ap (λ k. replicate k blank ++ drop k (c .before .before .args .t1)) e
+returns c =
+    let e : c .before .loop .i ≡ c .before .before .args .n = omega arith in
+    c .before .loop .inv .1 ∙ ap (λ k. replicate k blank ++ drop k (c .before .before .args .t1)) e
 
 pub cleared-spec : {M : Type 1} → statement M
 cleared-spec =

@@ -32,7 +32,11 @@ loop-less : tie.Need-loop-less Inv-loop μ-loop
 loop-less c = search needs
 
 loop-again : tie.Need-loop-again Inv-loop μ-loop
-loop-again c = (omega arith, least-of-more _ _ _ _ (c .before .before .before .loop .inv .1) (c .lesser .ensures), rw (c .lesser .ensures) (least-at-most _ _ 4294967296 (c .before .before .before .loop .inv .2)))
+loop-again c = (
+  omega arith,
+  least-of-more _ _ _ _ (c .before .before .before .loop .inv .1) (c .lesser .ensures),
+  rw (c .lesser .ensures) (least-at-most _ _ 4294967296 (c .before .before .before .loop .inv .2)),
+)
 
 returns : tie.Need-returns Inv-loop μ-loop
 returns c =

@@ -45,8 +45,12 @@ unfolding blank
 loop-again c =
     let t = c .before .before .before .before .args .t1 in
     let i = c .before .before .before .loop .i in
-    let long : length t ≡ 64 = search needs in
-    (omega arith, ap (λ (ts : List ℕ). set ts i (c .lower-ticket .result)) (c .before .before .before .loop .inv .1) ∙ ap (λ (x : ℕ). set (take i (ticketsOf t) ++ drop i (replicate 64 4294967296)) i x) (c .lower-ticket .ensures) ∙ tickets-more t i (replicate 64 4294967296) (omega (arith, long)) (omega arith))
+    let long : length t ≡ 64 = search needs in (
+      omega arith,
+      ap (λ (ts : List ℕ). set ts i (c .lower-ticket .result)) (c .before .before .before .loop .inv .1)
+          ∙ ap (λ (x : ℕ). set (take i (ticketsOf t) ++ drop i (replicate 64 4294967296)) i x) (c .lower-ticket .ensures)
+          ∙ tickets-more t i (replicate 64 4294967296) (omega (arith, long)) (omega arith),
+    )
 
 returns : tie.Need-returns Inv-loop μ-loop
 returns c =

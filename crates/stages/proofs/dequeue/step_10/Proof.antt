@@ -30,11 +30,25 @@ returns c = rw (← c .before .before .get-cell .ensures, eq-eqb _ _ (c .before 
 
 returns-2 : tie.Need-returns-2
 unfolding step-10
-returns-2 c = rw (← c .before .before .before .before .before .get-cell .ensures, ne-eqb _ _ (c .before .before .before .before .if1 .left), ← c .before .before .get-field .ensures, lt-ltb _ _ (c .before .if2 .taken), c .go-on .ensures)
+returns-2 c =
+    rw (
+      ← c .before .before .before .before .before .get-cell .ensures,
+      ne-eqb _ _ (c .before .before .before .before .if1 .left),
+      ← c .before .before .get-field .ensures,
+      lt-ltb _ _ (c .before .if2 .taken),
+      c .go-on .ensures,
+    )
 
 returns-3 : tie.Need-returns-3
 unfolding step-10
-returns-3 c = rw (← c .before .before .before .before .before .get-cell .ensures, ne-eqb _ _ (c .before .before .before .before .if1 .left), ← c .before .before .get-field .ensures, le-ltb _ _ (c .before .if2 .left), c .go-on2 .ensures)
+returns-3 c =
+    rw (
+      ← c .before .before .before .before .before .get-cell .ensures,
+      ne-eqb _ _ (c .before .before .before .before .if1 .left),
+      ← c .before .before .get-field .ensures,
+      le-ltb _ _ (c .before .if2 .left),
+      c .go-on2 .ensures,
+    )
 
 pub step-10-spec : {M : Type 1} → statement M
 step-10-spec =

@@ -31,7 +31,13 @@ same-length c = search needs
 
 returns : tie.Need-returns
 unfolding step-11
-returns c = rw (← c .before .before .before .before .before .before .before .before .get-cell .ensures, eq-eqb _ _ (c .before .before .before .before .before .before .if1 .taken), c .go-on .ensures, c .before .before .before .put-cell .ensures)
+returns c =
+    rw (
+      ← c .before .before .before .before .before .before .before .before .get-cell .ensures,
+      eq-eqb _ _ (c .before .before .before .before .before .before .if1 .taken),
+      c .go-on .ensures,
+      c .before .before .before .put-cell .ensures,
+    )
 
 same-length-2 : tie.Need-same-length-2
 same-length-2 c = search needs

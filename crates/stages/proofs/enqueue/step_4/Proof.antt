@@ -27,7 +27,13 @@ same-length c = search needs
 
 returns : tie.Need-returns
 unfolding step-4
-returns c = rw (← c .before .before .before .before .before .before .before .before .before .before .before .get-word .ensures, c .go-on .ensures, c .before .before .before .put-cell .ensures, c .before .before .before .before .before .before .before .before .before .put-field .ensures)
+returns c =
+    rw (
+      ← c .before .before .before .before .before .before .before .before .before .before .before .get-word .ensures,
+      c .go-on .ensures,
+      c .before .before .before .put-cell .ensures,
+      c .before .before .before .before .before .before .before .before .before .put-field .ensures,
+    )
 
 pub step-4-spec : {M : Type 1} → statement M
 step-4-spec =

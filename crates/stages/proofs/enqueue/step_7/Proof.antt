@@ -34,14 +34,27 @@ same-length c = search needs
 
 returns : tie.Need-returns
 unfolding step-7
-returns c = rw (← c .before .before .before .before .get-word .ensures, eq-eqb _ _ (c .before .before .if1 .taken), eq-eqb _ _ (c .before .if2 .taken), c .refuse .ensures)
+returns c =
+    rw (
+      ← c .before .before .before .before .get-word .ensures,
+      eq-eqb _ _ (c .before .before .if1 .taken),
+      eq-eqb _ _ (c .before .if2 .taken),
+      c .refuse .ensures,
+    )
 
 same-length-2 : tie.Need-same-length-2
 same-length-2 c = search needs
 
 returns-2 : tie.Need-returns-2
 unfolding step-7
-returns-2 c = rw (← c .before .before .before .before .before .before .before .before .before .get-word .ensures, eq-eqb _ _ (c .before .before .before .before .before .before .before .if1 .taken), ne-eqb _ _ (c .before .before .before .before .before .before .if2 .left), c .answer .ensures, c .before .before .before .put-word .ensures)
+returns-2 c =
+    rw (
+      ← c .before .before .before .before .before .before .before .before .before .get-word .ensures,
+      eq-eqb _ _ (c .before .before .before .before .before .before .before .if1 .taken),
+      ne-eqb _ _ (c .before .before .before .before .before .before .if2 .left),
+      c .answer .ensures,
+      c .before .before .before .put-word .ensures,
+    )
 
 same-length-3 : tie.Need-same-length-3
 same-length-3 c = search needs

@@ -44,13 +44,26 @@ returns-2 : tie.Need-returns-2
 unfolding step-2
 returns-2 c =
     let a = c .before .before .before .before .before .before .before .before .before .before .args in
-    rw (← c .before .before .before .before .before .before .before .get-cell .ensures, ne-eqb _ _ (c .before .before .before .before .before .before .if1 .left), ← (c .before .before .before .is-lower .ensures ∙ lower-keys (itemAt (a .shape) (a .store .now) (a .w .right)) (itemAt (a .shape) (a .store .now) (a .w .own)) _ _ (c .before .before .before .before .before .key-at .ensures) (c .before .before .before .before .key-at2 .ensures)), c .before .before .if2 .taken) (c .settle-right .ensures)
+    rw (
+      ← c .before .before .before .before .before .before .before .get-cell .ensures,
+      ne-eqb _ _ (c .before .before .before .before .before .before .if1 .left),
+      ← (c .before .before .before .is-lower .ensures
+          ∙ lower-keys (itemAt (a .shape) (a .store .now) (a .w .right)) (itemAt (a .shape) (a .store .now) (a .w .own)) _ _
+          (c .before .before .before .before .before .key-at .ensures) (c .before .before .before .before .key-at2 .ensures)),
+      c .before .before .if2 .taken,
+    ) (c .settle-right .ensures)
 
 returns-3 : tie.Need-returns-3
 unfolding step-2
 returns-3 c =
     let a = c .before .before .before .before .before .before .before .before .before .args in
-    rw (← c .before .before .before .before .before .before .get-cell .ensures, ne-eqb _ _ (c .before .before .before .before .before .if1 .left), ← (c .before .before .is-lower .ensures ∙ lower-keys (itemAt (a .shape) (a .store .now) (a .w .right)) (itemAt (a .shape) (a .store .now) (a .w .own)) _ _ (c .before .before .before .before .key-at .ensures) (c .before .before .before .key-at2 .ensures)), c .before .if2 .left) (c .end-search .ensures)
+    rw (
+      ← c .before .before .before .before .before .before .get-cell .ensures,
+      ne-eqb _ _ (c .before .before .before .before .before .if1 .left),
+      ← (c .before .before .is-lower .ensures ∙ lower-keys (itemAt (a .shape) (a .store .now) (a .w .right)) (itemAt (a .shape) (a .store .now) (a .w .own)) _ _
+          (c .before .before .before .before .key-at .ensures) (c .before .before .before .key-at2 .ensures)),
+      c .before .if2 .left,
+    ) (c .end-search .ensures)
 
 pub step-2-spec : {M : Type 1} → statement M
 step-2-spec =

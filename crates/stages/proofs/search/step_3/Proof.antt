@@ -29,7 +29,12 @@ put-field-requires : tie.Need-put-field-requires
 put-field-requires c κs = search needs
 
 settle-right-requires : tie.Need-settle-right-requires
-settle-right-requires c κs = unlinked-holds _ _ _ _ _ _ (c .before .before .before .before .before .before .before .before .before .before .before .before .before .before .before .before .pre .0) (c .before .before .before .before .before .before .before .before .before .before .before .before .before .before .before .before .pre .1) (c .before .before .before .before .before .before .before .before .before .get-word .ensures) (c .before .before .before .before .before .before .before .put-cell .ensures) (c .before .before .before .put-field .ensures)
+settle-right-requires c κs =
+    unlinked-holds _ _ _ _ _ _
+    (c .before .before .before .before .before .before .before .before .before .before .before .before .before .before .before .before .pre .0)
+    (c .before .before .before .before .before .before .before .before .before .before .before .before .before .before .before .before .pre .1)
+    (c .before .before .before .before .before .before .before .before .before .get-word .ensures)
+    (c .before .before .before .before .before .before .before .put-cell .ensures) (c .before .before .before .put-field .ensures)
 
 go-on-requires : tie.Need-go-on-requires
 go-on-requires c κs = search needs
@@ -39,7 +44,13 @@ same-length c = search needs
 
 returns : tie.Need-returns
 returns c = c .settle-right .ensures
-    ∙ unlinked-step _ _ _ _ _ _ (c .before .before .before .before .before .before .before .before .before .before .before .before .before .before .before .before .before .pre .0) (c .before .before .before .before .before .before .before .before .before .before .before .before .before .before .before .before .before .pre .1) (c .before .before .before .before .before .before .before .before .before .before .get-word .ensures) (c .before .before .before .before .before .before .before .before .put-cell .ensures) (c .before .before .before .before .put-field .ensures) (sym (c .before .before .before .before .before .before .before .before .before .before .before .before .before .before .get-cell .ensures) ∙ c .before .before .before .before .before .before .before .before .before .before .before .before .before .if1 .taken)
+    ∙ unlinked-step _ _ _ _ _ _
+    (c .before .before .before .before .before .before .before .before .before .before .before .before .before .before .before .before .before .pre .0)
+    (c .before .before .before .before .before .before .before .before .before .before .before .before .before .before .before .before .before .pre .1)
+    (c .before .before .before .before .before .before .before .before .before .before .get-word .ensures)
+    (c .before .before .before .before .before .before .before .before .put-cell .ensures) (c .before .before .before .before .put-field .ensures)
+    (sym (c .before .before .before .before .before .before .before .before .before .before .before .before .before .before .get-cell .ensures)
+    ∙ c .before .before .before .before .before .before .before .before .before .before .before .before .before .if1 .taken)
 
 same-length-2 : tie.Need-same-length-2
 same-length-2 c = search needs

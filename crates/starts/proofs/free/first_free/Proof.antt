@@ -8,7 +8,8 @@ use Rattle.starts.proofs.free.first_free.Statement.{statement}
 use Rattle.starts.proofs.free.first_free.Tie as tie
 
 abbrev Inv-loop : tie.InvT-loop
-Inv-loop shape low store nodes n₀ left₀ n left = (n < nodes) × (left ≤ nodes) × (nodes ≡ shape .nodes) × (freeOfBelow shape store low left n ≡ firstFreeBelow shape store low)
+Inv-loop shape low store nodes n₀ left₀ n left =
+    (n < nodes) × (left ≤ nodes) × (nodes ≡ shape .nodes) × (freeOfBelow shape store low left n ≡ firstFreeBelow shape store low)
 
 abbrev μ-loop : tie.MeasureT-loop
 μ-loop shape low store nodes n₀ left₀ n left = left
@@ -24,13 +25,23 @@ node-after-requires : tie.Need-node-after-requires Inv-loop μ-loop
 node-after-requires c κs = search needs
 
 get-field-requires : tie.Need-get-field-requires Inv-loop μ-loop
-get-field-requires c κs = omega (arith, c .node-after .ensures, after-below (c .before .before .before .before .before .args .shape) _ (c .before .before .loop .inv .0))
+get-field-requires c κs =
+    omega (arith, c .node-after .ensures, after-below (c .before .before .before .before .before .args .shape) _ (c .before .before .loop .inv .0))
 
 is-free-requires : tie.Need-is-free-requires Inv-loop μ-loop
 is-free-requires c κs = search needs
 
 returns : tie.Need-returns Inv-loop μ-loop
-returns c = (sym (free-here _ _ _ _ _ _ _ _ (c .before .before .before .before .loop-test .taken) (c .before .before .before .node-after .ensures) (c .before .before .get-field .ensures) (c .before .is-free .ensures) (c .if1 .taken)) ∙ c .before .before .before .before .before .loop .inv .3, omega (arith, c .before .before .before .node-after .ensures, after-below (c .before .before .before .before .before .before .before .before .args .shape) _ (c .before .before .before .before .before .loop .inv .0)))
+returns c = (
+  sym (free-here _ _ _ _ _ _ _ _ (c .before .before .before .before .loop-test .taken) (c .before .before .before .node-after .ensures)
+      (c .before .before .get-field .ensures) (c .before .is-free .ensures) (c .if1 .taken))
+      ∙ c .before .before .before .before .before .loop .inv .3,
+  omega (
+    arith,
+    c .before .before .before .node-after .ensures,
+    after-below (c .before .before .before .before .before .before .before .before .args .shape) _ (c .before .before .before .before .before .loop .inv .0),
+  ),
+)
 
 sub-left : tie.Need-sub-left Inv-loop μ-loop
 sub-left c = search needs
@@ -39,12 +50,16 @@ loop-less : tie.Need-loop-less Inv-loop μ-loop
 loop-less c = search needs
 
 loop-again : tie.Need-loop-again Inv-loop μ-loop
-loop-again c = let l = after-below (c .before .before .before .before .before .before .before .before .args .shape) _ (c .before .before .before .before .before .loop .inv .0) in (
-  omega (arith, c .before .before .before .node-after .ensures),
-  omega arith,
-  refl,
-  sym (free-on _ _ _ _ _ _ _ _ (c .before .before .before .before .loop-test .taken) (c .before .before .before .node-after .ensures) (c .before .before .get-field .ensures) (c .before .is-free .ensures) (c .if1 .left)) ∙ c .before .before .before .before .before .loop .inv .3,
-)
+loop-again c =
+    let l = after-below (c .before .before .before .before .before .before .before .before .args .shape) _
+    (c .before .before .before .before .before .loop .inv .0) in (
+      omega (arith, c .before .before .before .node-after .ensures),
+      omega arith,
+      refl,
+      sym (free-on _ _ _ _ _ _ _ _ (c .before .before .before .before .loop-test .taken) (c .before .before .before .node-after .ensures)
+          (c .before .before .get-field .ensures) (c .before .is-free .ensures) (c .if1 .left))
+          ∙ c .before .before .before .before .before .loop .inv .3,
+    )
 
 returns-2 : tie.Need-returns-2 Inv-loop μ-loop
 returns-2 c = let e : c .before .loop .left ≡ 0 = omega arith in (sym (free-none _ _ _ _) ∙ (rw e at (c .before .loop .inv .3)), omega arith)

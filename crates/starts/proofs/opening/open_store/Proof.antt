@@ -40,7 +40,16 @@ loop-less : tie.Need-loop-less Inv-loop μ-loop
 loop-less c = search needs
 
 loop-again : tie.Need-loop-again Inv-loop μ-loop
-loop-again c = (omega arith, simp length-set (c .before .before .loop .inv .1), cc (c .before .before .loop .inv .2, c .open-word .ensures, words-more (openWord (c .before .before .before .before .before .args .shape)) (c .before .before .loop .i) (c .before .before .before .before .before .args .store .now) (omega arith)))
+loop-again c = (
+  omega arith,
+  simp length-set (c .before .before .loop .inv .1),
+  cc (
+    c .before .before .loop .inv .2,
+    c .open-word .ensures,
+    words-more (openWord (c .before .before .before .before .before .args .shape)) (c .before .before .loop .i)
+        (c .before .before .before .before .before .args .store .now) (omega arith),
+  ),
+)
 
 same-length : tie.Need-same-length Inv-loop μ-loop
 same-length c = c .before .loop .inv .1

@@ -23,7 +23,8 @@ same-length c = search needs
 
 returns : tie.Need-returns
 returns c =
-    let d = refused-on _ (c .before .before .before .before .before .args .kind) _ (c .before .before .before .before .before .args .arrival) _ _ _ (c .before .before .before .before .before .args .w) _ (c .before .before .gate-on .ensures) (c .before .if1 .taken) in
+    let d = refused-on _ (c .before .before .before .before .before .args .kind) _ (c .before .before .before .before .before .args .arrival) _ _ _
+    (c .before .before .before .before .before .args .w) _ (c .before .before .gate-on .ensures) (c .before .if1 .taken) in
     (ap (λ (y : Done). y .store) d, ap (λ (y : Done). y .worker) d, c .answer-of .ensures ∙ ap (λ (y : Done). answerOf (y .response)) d)
 
 action-of-requires : tie.Need-action-of-requires
@@ -33,7 +34,10 @@ perform-requires : tie.Need-perform-requires
 perform-requires c κs =
     let p = passed _ _ _ _ _ (sym (c .before .before .before .gate-on .ensures) ∙ c .before .before .if1 .left) in
     let S = c .before .before .before .before .before .before .pre in (
-      record { limits = p .limits; ready = record { laid = p .laid; store = p .store; worker = record-ranges _ _ (S .ranged (p .records) (shape-tests _ (p .limits)) (p .worker)) } },
+      record {
+        limits = p .limits;
+        ready = record { laid = p .laid; store = p .store; worker = record-ranges _ _ (S .ranged (p .records) (shape-tests _ (p .limits)) (p .worker)) };
+      },
       S .low,
     )
 
@@ -46,8 +50,10 @@ same-length-2 c = search needs
 returns-2 : tie.Need-returns-2
 returns-2 c =
     let a = c .before .before .before .before .before .before .before .before .before .before .before .args in
-    let e = c .before .before .before .before .perform .ensures ∙ ap (λ (x : Action). localAct (a .shape) (a .seen .low) (a .store .now) x (a .w)) (c .before .before .before .before .before .before .action-of .ensures) in
-    let d = e ∙ done-on _ (a .kind) _ (a .arrival) _ _ _ (a .w) _ (c .before .before .before .before .before .before .before .before .gate-on .ensures) (c .before .before .before .before .before .before .before .if1 .left) in
+    let e = c .before .before .before .before .perform .ensures ∙ ap (λ (x : Action). localAct (a .shape) (a .seen .low) (a .store .now) x (a .w))
+    (c .before .before .before .before .before .before .action-of .ensures) in
+    let d = e ∙ done-on _ (a .kind) _ (a .arrival) _ _ _ (a .w) _ (c .before .before .before .before .before .before .before .before .gate-on .ensures)
+    (c .before .before .before .before .before .before .before .if1 .left) in
     (ap (λ (y : Done). y .store) d, ap (λ (y : Done). y .worker) d, c .answer-of2 .ensures ∙ ap (λ (y : Done). answerOf (y .response)) d)
 
 pub act-on-record-spec : {M : Type 1} → statement M

@@ -20,7 +20,8 @@ unfolding opensWords
 returns c = (rw (← c .before .before .open-gate .ensures, ne-eqb _ _ (c .before .if1 .taken)) (refl, c .answer-of .ensures, refl), omega arith)
 
 open-store-requires : tie.Need-open-store-requires
-open-store-requires c κs = let p = open-passed _ _ _ (sym (c .before .before .open-gate .ensures) ∙ c .before .if1 .left) in (laid _ _ (p .0) (p .1), p .0 .some-node)
+open-store-requires c κs =
+    let p = open-passed _ _ _ (sym (c .before .before .open-gate .ensures) ∙ c .before .if1 .left) in (laid _ _ (p .0) (p .1), p .0 .some-node)
 
 answer-of-requires-2 : tie.Need-answer-of-requires-2
 answer-of-requires-2 c κs = search needs
@@ -30,7 +31,13 @@ same-length c = search needs
 
 returns-2 : tie.Need-returns-2
 unfolding opensWords
-returns-2 c = let p = open-passed _ _ _ (sym (c .before .before .before .before .before .before .open-gate .ensures) ∙ c .before .before .before .before .before .if1 .left) in (rw (← c .before .before .before .before .before .before .open-gate .ensures, eq-eqb _ _ (c .before .before .before .before .before .if1 .left)) (refl, c .answer-of2 .ensures, c .before .before .before .open-store .ensures), omega (arith, p .2))
+returns-2 c =
+    let p =
+    open-passed _ _ _ (sym (c .before .before .before .before .before .before .open-gate .ensures) ∙ c .before .before .before .before .before .if1 .left) in (
+      rw (← c .before .before .before .before .before .before .open-gate .ensures, eq-eqb _ _ (c .before .before .before .before .before .if1 .left))
+          (refl, c .answer-of2 .ensures, c .before .before .before .open-store .ensures),
+      omega (arith, p .2),
+    )
 
 pub open-words-spec : {M : Type 1} → statement M
 open-words-spec =

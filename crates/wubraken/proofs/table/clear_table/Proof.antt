@@ -1,4 +1,5 @@
--- `wubraken::table::clear_table` meets its contract: a walk of its MIR, by hand, with a loop that stores. The borrow is opened once before the loop, each turn takes record k out of the row and stores the idle record, and the borrow is closed once after the loop.
+-- `wubraken::table::clear_table` meets its contract: a walk of its MIR, by hand, with a loop that stores. The borrow is opened once before the loop, each turn
+-- takes record k out of the row and stores the idle record, and the borrow is closed once after the loop.
 -- The invariant: the row is `clearedOf ys k`. The variant: k with k ≤ n, ordered by what is left.
 -- Assumes nothing.
 use mathlib.Core.Path.{_≡_, refl, sym, ap, subst, _∙_}
@@ -24,9 +25,11 @@ use prog.Wp.{Heap, Out, Env, afterSeq, afterBlock, afterTurn, Calls, Loops, Wp, 
 use ghost.Atoms.{Atoms}
 use contract.Monad.{Fun}
 use contract.Running.{givenOf, tables, tablesOf}
-use types.Kit.{Given, Item, Sq, runs, anyQ, atRet, ‵, _⊛_, ⋆, _$_, _∵_, !, qed, by, move, keep, drop, split, join, rewrite, fsplit, fjoin, feqI, suffices, frame, done}
+use types.Kit.{Given, Item, Sq, runs, anyQ, atRet, ‵, _⊛_, ⋆, _$_, _∵_, !, qed, by, move, keep, drop, split, join, rewrite, fsplit, fjoin, feqI, suffices}
+use types.Kit.{frame, done}
 use types.Part.{whole, sub, look-in, agg}
-use types.Run.{look, store, store-raw, init, forget, stop, hop, fld, from, load, lit, unit-lit, of-opd, and-then, no-more, bin, assigns, assigns-last, first, blocks, stays, leaves-loop, exec, Below, again, loops, returns, enter, alloc1, alloc0, params1, pass1, pass0, free1, free0}
+use types.Run.{look, store, store-raw, init, forget, stop, hop, fld, from, load, lit, unit-lit, of-opd, and-then, no-more, bin, assigns, assigns-last, first}
+use types.Run.{blocks, stays, leaves-loop, exec, Below, again, loops, returns, enter, alloc1, alloc0, params1, pass1, pass0, free1, free0}
 use sound.WpLaws.{WpFn-mono}
 use borrow.Author.Tests.{ltb-true, ltb-false}
 use denote.RattleType.{owns}
@@ -109,7 +112,8 @@ closed : (ys : List Worker) (k : ℕ) → k ≤ length ys → clearedOf ys k ≡
 closed ys zero l = sym (start ys)
 closed ys (suc k) l = sym (more ys k) ∙ ap (λ (us : List Worker). set us k blank) (closed ys k (omega (arith, l))) ∙ next k ys l
 
-module _ {M : Type 1} (𝓤 : URA M) (H : Heap 𝓤) (A : Atoms 𝓤) (W : Given 𝓤 H A) (mem : Memory → SProp 𝓤) (run : Routine → Fun 𝓤) (κ : Lft) (q : Share) (b o : ℕ) (γ : GName) (ys : List Worker) (n : ℕ) (room : Room T.the-row (length ys)) (gn : n < 2 ^ 64) (within : n ≤ length ys) where
+module _ {M : Type 1} (𝓤 : URA M) (H : Heap 𝓤) (A : Atoms 𝓤) (W : Given 𝓤 H A) (mem : Memory → SProp 𝓤) (run : Routine → Fun 𝓤) (κ : Lft) (q : Share) (b o : ℕ)
+    (γ : GName) (ys : List Worker) (n : ℕ) (room : Room T.the-row (length ys)) (gn : n < 2 ^ 64) (within : n ≤ length ys) where
   abbrev s : List Worker → RefT (List Worker)
   s l = record { ptr = (b, o); name = γ; now = l }
 
@@ -127,14 +131,20 @@ module _ {M : Type 1} (𝓤 : URA M) (H : Heap 𝓤) (A : Atoms 𝓤) (W : Given
 
   -- what is had at exit, where the borrow is closed at zs
   abbrev Left : List Worker → List (Item 𝓤)
-  Left zs = ‵ (fobs γ (codedHoleys T.the-row .code (heres T.the-row zs))) ∷ ‵ (fbor κ (Held T.the-row (length zs) b o γ)) ∷ ‵ (flft κ q) ∷ ‵ (fsep (usize .own n (vint w64 n ∷ [])) ftrue) ∷ []
+  Left zs =
+      ‵ (fobs γ (codedHoleys T.the-row .code (heres T.the-row zs))) ∷ ‵ (fbor κ (Held T.the-row (length zs) b o γ)) ∷ ‵ (flft κ q)
+      ∷ ‵ (fsep (usize .own n (vint w64 n ∷ [])) ftrue) ∷ []
 
   exits : (zs : List Worker) → zs ≡ clearedOf ys n → length zs ≡ length ys → ent 𝓤 (⋆ 𝓤 H A (Left zs)) (Post vunit)
   exits zs e long =
       qed W (Left zs) ∵
-      suffices ! _ (ends-at 𝓤 H A f.ended stayed (f.clauses 𝓤 H A mem run) W (((κ, tt), (q, tt), tt, x, at), tt) vunit tt (zs, (tt, tt)) (long, (tt, tt))) $ says ! (e ∙ closed ys n within) $
+      suffices ! _ (ends-at 𝓤 H A f.ended stayed (f.clauses 𝓤 H A mem run) W (((κ, tt), (q, tt), tt, x, at), tt) vunit tt (zs, (tt, tt)) (long, (tt, tt))) $
+      says ! (e ∙ closed ys n within) $
       nothing ! $ move ! (3 ∷ 0 ∷ []) $ join ! $
-      frame ! $ fjoin ! $ pureI ! (at-slice T.the-row (s zs) (at .0)) (tt, (tt, tt)) (ap (λ (m : ℕ). sliceVal (b, o) m ∷ []) (sym long), subst (Room T.the-row) (sym long) room) $ fjoin ! $ fjoin ! $ frame ! $
+      frame ! $ fjoin ! $ pureI ! (at-slice T.the-row (s zs) (at .0)) (tt, (tt, tt)) (
+        ap (λ (m : ℕ). sliceVal (b, o) m ∷ []) (sym long),
+        subst (Room T.the-row) (sym long) room,
+      ) $ fjoin ! $ fjoin ! $ frame ! $
       feqI ! (List Val) (vunit ∷ []) (vunit ∷ []) refl $ done !
 
   blank-typed : Holds (hasTy T′.mir (val blank)) × WT (val blank)
@@ -169,12 +179,17 @@ module _ {M : Type 1} (𝓤 : URA M) (H : Heap 𝓤) (A : Atoms 𝓤) (W : Given
     abbrev En : Env 𝓤 H
     En = (tyUnit, l₀) ∷ (slice, l₁) ∷ (word, l₂) ∷ (T′.mir, l₃) ∷ (word, l₄) ∷ (tyBool, l₅) ∷ (word, l₆) ∷ (tyPtr, l₇) ∷ []
 
-    -- the invariant: the row with k workers cleared; the open borrow, and both halves of the ghost variable at the list on entry; t's fact and n's; _7 to _5, which are room; k, z, n, t; and room for the result
+    -- the invariant: the row with k workers cleared; the open borrow, and both halves of the ghost variable at the list on entry; t's fact and n's; _7 to _5,
+    -- which are room; k, z, n, t; and room for the result
     abbrev At : Upto → List (Item 𝓤)
-    At k = ‵ (row T.the-row fullShare (clearedOf ys (k .0)) b o) ∷ ‵ (fobor κ q (Held T.the-row (length ys) b o γ)) ∷ ‵ (fobs γ (codedHoleys T.the-row .code (heres T.the-row ys))) ∷ ‵ (fauth γ (codedHoleys T.the-row .code (heres T.the-row ys)))
+    At k =
+        ‵ (row T.the-row fullShare (clearedOf ys (k .0)) b o) ∷ ‵ (fobor κ q (Held T.the-row (length ys) b o γ))
+        ∷ ‵ (fobs γ (codedHoleys T.the-row .code (heres T.the-row ys))) ∷ ‵ (fauth γ (codedHoleys T.the-row .code (heres T.the-row ys)))
         ∷ ‵ (at-slice T.the-row (s ys) (sv ∷ [])) ∷ ‵ (fsep (usize .own n (vint w64 n ∷ [])) ftrue)
         ∷ ‵ (froom tyPtr l₇ 0) ∷ ‵ (fdies tyPtr l₇) ∷ ‵ (froom word l₆ 0) ∷ ‵ (fdies word l₆) ∷ ‵ (froom tyBool l₅ 0) ∷ ‵ (fdies tyBool l₅)
-        ∷ ‵ (fat fullShare word l₄ 0 (vint w64 (k .0))) ∷ ‵ (fdies word l₄) ∷ ‵ (fat fullShare T′.mir l₃ 0 (val blank)) ∷ ‵ (fdies T′.mir l₃) ∷ ‵ (fat fullShare word l₂ 0 (vint w64 n)) ∷ ‵ (fdies word l₂) ∷ ‵ (fat fullShare slice l₁ 0 sv) ∷ ‵ (fdies slice l₁) ∷ ‵ (froom tyUnit l₀ 0) ∷ ‵ (fdies tyUnit l₀) ∷ []
+        ∷ ‵ (fat fullShare word l₄ 0 (vint w64 (k .0))) ∷ ‵ (fdies word l₄) ∷ ‵ (fat fullShare T′.mir l₃ 0 (val blank)) ∷ ‵ (fdies T′.mir l₃)
+        ∷ ‵ (fat fullShare word l₂ 0 (vint w64 n)) ∷ ‵ (fdies word l₂) ∷ ‵ (fat fullShare slice l₁ 0 sv) ∷ ‵ (fdies slice l₁) ∷ ‵ (froom tyUnit l₀ 0)
+        ∷ ‵ (fdies tyUnit l₀) ∷ []
 
     abbrev Turned : Upto → Out → SProp 𝓤
     Turned k = afterTurn 𝓤 H (Below 𝓤 H A Nearer At k) (afterBlock 𝓤 H (afterSeq 𝓤 H (Wp 𝓤 H C Λ En mir.t-4 (atReturn 𝓤 H En Post)) (atReturn 𝓤 H En Post)))
@@ -183,17 +198,22 @@ module _ {M : Type 1} (𝓤 : URA M) (H : Heap 𝓤) (A : Atoms 𝓤) (W : Given
     turn-at : (k : Upto) (t : Bool) → ltb (k .0) n ≡ t → Sq W (At k) (runs C Λ En mir.turn-1 (anyQ (Turned k)))
     unfolding afterTurn
     turn-at k true e =
-        assigns ! (bin ! (load ! (from ! (stop !)) (look ! 12 refl)) (load ! (from ! (stop !)) (look ! 16 refl)) tt) (from ! (stop !)) (init ! 10 refl (tt, tt)) $
+        assigns ! (bin ! (load ! (from ! (stop !)) (look ! 12 refl)) (load ! (from ! (stop !)) (look ! 16 refl)) tt) (from ! (stop !))
+        (init ! 10 refl (tt, tt)) $
         rewrite ! 10 (λ (t : Bool). ‵ (fat fullShare tyBool l₅ 0 (vbool t))) e refl $ stays ! (load ! (from ! (stop !)) (look ! 10 refl)) $
-        assigns ! (bin ! (load ! (from ! (stop !)) (look ! 12 refl)) (lit ! tt) (record { fits = place-fits })) (from ! (stop !)) (init ! 8 refl (tt, record { fits = place-fits })) $
-        assigns ! (bin ! (load ! (from ! (fld ! refl (stop !))) (look-in ! 18 (sub ! 0 refl (whole !)))) (load ! (from ! (stop !)) (look ! 8 refl)) tt) (from ! (stop !)) (init ! 6 refl (tt, tt)) $
+        assigns ! (bin ! (load ! (from ! (stop !)) (look ! 12 refl)) (lit ! tt) (record { fits = place-fits })) (from ! (stop !)) (init ! 8 refl
+        (tt, record { fits = place-fits })) $
+        assigns ! (bin ! (load ! (from ! (fld ! refl (stop !))) (look-in ! 18 (sub ! 0 refl (whole !)))) (load ! (from ! (stop !)) (look ! 8 refl)) tt)
+        (from ! (stop !)) (init ! 6 refl (tt, tt)) $
         rewrite ! 6 (λ (p : ℕ). ‵ (fat fullShare tyPtr l₇ 0 (vptr b p))) (sym (place-is 72 o (k .0))) refl $
         elem-out ! T.the-row (Is T.the-row) (shows 𝓤 H A T.the-row) vals (LL.tells T.the-type T′.the-laws) fullShare zs (k .0) blank b o inside′ (λ _.
         -- [t[k]; what it owns; the others; the open borrow; obs; auth; t's fact; n's; _7; …]
         assigns ! (of-opd ! (load ! (from ! (stop !)) (look ! 16 refl))) (from ! (hop ! (look ! 8 refl) (stop !))) (store-raw ! 0 refl blank-typed) $
-        move ! (1 ∷ []) $ drop ! $ owned ! T.the-row (Is T.the-row) (LL.makes T.the-type T′.the-plain 𝓤 H A) blank _ blank-is $ move ! (1 ∷ 0 ∷ []) $ elem-put ! T.the-row fullShare zs (k .0) blank (vals blank) b o inside′ $
+        move ! (1 ∷ []) $ drop ! $ owned ! T.the-row (Is T.the-row) (LL.makes T.the-type T′.the-plain 𝓤 H A) blank _ blank-is $ move ! (1 ∷ 0 ∷ []) $
+        elem-put ! T.the-row fullShare zs (k .0) blank (vals blank) b o inside′ $
         rewrite ! 0 (λ (us : List Worker). ‵ (row T.the-row fullShare us b o)) (one-more ys (k .0)) refl $
-        assigns-last ! (bin ! (load ! (from ! (stop !)) (look ! 12 refl)) (lit ! tt) (record { fits = next-fits })) (from ! (stop !)) (store ! 12 refl (tt, record { fits = next-fits })) $
+        assigns-last ! (bin ! (load ! (from ! (stop !)) (look ! 12 refl)) (lit ! tt) (record { fits = next-fits })) (from ! (stop !)) (store ! 12 refl
+        (tt, record { fits = next-fits })) $
         forget ! 6 refl $ forget ! 8 refl $ forget ! 10 refl $
         again ! Nearer At k (k .0 + 1, add-one-le less) (add-one-dec n (k .0) less))
       where
@@ -215,21 +235,28 @@ module _ {M : Type 1} (𝓤 : URA M) (H : Heap 𝓤) (A : Atoms 𝓤) (W : Given
         next-fits : k .0 + 1 < 2 ^ 64
         next-fits = omega (arith, less, gn)
     turn-at k false e =
-        assigns ! (bin ! (load ! (from ! (stop !)) (look ! 12 refl)) (load ! (from ! (stop !)) (look ! 16 refl)) tt) (from ! (stop !)) (init ! 10 refl (tt, tt)) $
-        rewrite ! 10 (λ (t : Bool). ‵ (fat fullShare tyBool l₅ 0 (vbool t))) e refl $ leaves-loop ! (load ! (from ! (stop !)) (look ! 10 refl)) $ exec ! C Λ En mir.t-4 (atRet En Post) $
+        assigns ! (bin ! (load ! (from ! (stop !)) (look ! 12 refl)) (load ! (from ! (stop !)) (look ! 16 refl)) tt) (from ! (stop !))
+        (init ! 10 refl (tt, tt)) $
+        rewrite ! 10 (λ (t : Bool). ‵ (fat fullShare tyBool l₅ 0 (vbool t))) e refl $ leaves-loop ! (load ! (from ! (stop !)) (look ! 10 refl)) $
+        exec ! C Λ En mir.t-4 (atRet En Post) $
         closes-slice ! tt T.the-row ys (clearedOf ys (k .0)) (as-long ys (k .0)) b o $
         -- [obs; the borrow; the token; t's fact; n's; _7; …]
         assigns ! (of-opd ! (unit-lit !)) (from ! (stop !)) (init ! 19 refl (tt, tt)) $
         returns ! (look ! 19 refl) $ forget ! 9 refl $ forget ! 11 refl $ forget ! 13 refl $ forget ! 15 refl $ forget ! 17 refl $ forget ! 19 refl $
-        move ! (19 ∷ 20 ∷ []) $ free1 ! $ move ! (17 ∷ 18 ∷ []) $ free1 ! $ move ! (15 ∷ 16 ∷ []) $ free1 ! $ move ! (13 ∷ 14 ∷ []) $ free1 ! $ move ! (11 ∷ 12 ∷ []) $ free1 ! $ move ! (9 ∷ 10 ∷ []) $ free1 ! $ move ! (7 ∷ 8 ∷ []) $ free1 ! $ move ! (5 ∷ 6 ∷ []) $ free1 ! $ free0 ! $
+        move ! (19 ∷ 20 ∷ []) $ free1 ! $ move ! (17 ∷ 18 ∷ []) $ free1 ! $ move ! (15 ∷ 16 ∷ []) $ free1 ! $ move ! (13 ∷ 14 ∷ []) $ free1 ! $
+        move ! (11 ∷ 12 ∷ []) $ free1 ! $ move ! (9 ∷ 10 ∷ []) $ free1 ! $ move ! (7 ∷ 8 ∷ []) $ free1 ! $ move ! (5 ∷ 6 ∷ []) $ free1 ! $ free0 ! $
         keep ! (0 ∷ 1 ∷ 2 ∷ 4 ∷ []) $ by ! (exits (clearedOf ys (k .0)) (ap (clearedOf ys) (le-antisymm (k .1) (ltb-false (k .0) n e))) (as-long ys (k .0)))
 
   walk : (𝓣 : Tables 𝓤 H) → ent 𝓤 (onEntry 𝓤 H A f.signature (κ, tt) (q, tt) x at) (WpFn 𝓤 H (𝓣 .C) (𝓣 .Λ) code.function (sv ∷ vint w64 n ∷ []) Post)
   walk 𝓣 =
-      qed W ((‵ (flft κ q) ⊛ ‵ ftrue) ∷ ‵ (owns (MutSlice (named 0) κ T.the-row ∷ usize ∷ []) x at) ∷ []) ∵ enter ! (𝓣 .C) (𝓣 .Λ) code.function (sv ∷ vint w64 n ∷ []) _ $
+      qed W ((‵ (flft κ q) ⊛ ‵ ftrue) ∷ ‵ (owns (MutSlice (named 0) κ T.the-row ∷ usize ∷ []) x at) ∷ []) ∵
+      enter ! (𝓣 .C) (𝓣 .Λ) code.function (sv ∷ vint w64 n ∷ []) _ $
       alloc1 ! (λ l₀. alloc1 ! (λ l₁. alloc1 ! (λ l₂. alloc1 ! (λ l₃. alloc1 ! (λ l₄. alloc1 ! (λ l₅. alloc1 ! (λ l₆. alloc1 ! (λ l₇. alloc0 ! $ params1 ! $
       pass1 ! (init ! 12 refl (tt, (tt, (record { fits = room .0 }, tt)))) $ pass1 ! (init ! 10 refl (tt, record { fits = gn })) $ pass0 ! $
-      assigns ! (agg ! (and-then ! (lit ! tt) (and-then ! (lit ! tt) (and-then ! (lit ! tt) (and-then ! (lit ! tt) (and-then ! (lit ! tt) (and-then ! (lit ! tt) (and-then ! (lit ! tt) (and-then ! (lit ! tt) (and-then ! (lit ! tt) (no-more !))))))))))) (from ! (stop !)) (init ! 8 refl zeros-typed) $
+      assigns ! (agg ! (and-then ! (lit ! tt)
+      (and-then ! (lit ! tt) (and-then ! (lit ! tt)
+      (and-then ! (lit ! tt) (and-then ! (lit ! tt) (and-then ! (lit ! tt)
+      (and-then ! (lit ! tt) (and-then ! (lit ! tt) (and-then ! (lit ! tt) (no-more !))))))))))) (from ! (stop !)) (init ! 8 refl zeros-typed) $
       rewrite ! 8 (λ (v : Val). ‵ (fat fullShare T′.mir l₃ 0 v)) zeros-blank refl $
       assigns ! (of-opd ! (lit ! tt)) (from ! (stop !)) (init ! 6 refl (tt, record { fits = lit< tt })) $
       move ! (17 ∷ []) $ fsplit ! $ fsplit ! $ move ! (1 ∷ []) $ fsplit ! $ move ! (20 ∷ []) $ split ! $ move ! (2 ∷ 3 ∷ 0 ∷ []) $
@@ -240,14 +267,17 @@ module _ {M : Type 1} (𝓤 : URA M) (H : Heap 𝓤) (A : Atoms 𝓤) (W : Given
 
 module _ {M : Type 1} (𝓤 : URA M) (H : Heap 𝓤) (A : Atoms 𝓤) (W : Given 𝓤 H A) (mem : Memory → SProp 𝓤) (run : Routine → Fun 𝓤) where
   walks : (𝓣 : Tables 𝓤 H) → Walks 𝓤 H A f.ended stayed (WpFn 𝓤 H (𝓣 .C) (𝓣 .Λ) code.function) (f.clauses 𝓤 H A mem run)
-  walks 𝓣 = walked 𝓤 H A f.ended stayed (f.clauses 𝓤 H A mem run) (WpFn 𝓤 H (𝓣 .C) (𝓣 .Λ) code.function) (λ κs. (slice-vals, (uint-vals w64, tt))) (λ κs. (mut-slice-tells (named 0) (κs .0) T.the-row, (uint-tells w64, tt)))
+  walks 𝓣 =
+      walked 𝓤 H A f.ended stayed (f.clauses 𝓤 H A mem run) (WpFn 𝓤 H (𝓣 .C) (𝓣 .Λ) code.function) (λ κs. (slice-vals, (uint-vals w64, tt)))
+      (λ κs. (mut-slice-tells (named 0) (κs .0) T.the-row, (uint-tells w64, tt)))
       (λ κs qs bounds a g are. needs 𝓤 (a .1 .0 ≤ length (a .0 .now)) _ (λ within.
       walk 𝓤 H A W mem run (κs .0) (qs .0) (a .0 .ptr .0) (a .0 .ptr .1) (a .0 .name) (a .0 .now) (a .1 .0) (are .0 .0 .1) (are .1 .0 .1) within 𝓣))
 
 meets : {M : Type 1} (𝓤 : URA M) (H : Heap 𝓤) (A : Atoms 𝓤) → Given 𝓤 H A → (mem : Memory → SProp 𝓤) (run : Routine → Fun 𝓤) (𝓣 : Tables 𝓤 H)
     → Meets 𝓤 H A f.signature (WpFn 𝓤 H (𝓣 .C) (𝓣 .Λ) code.function) (f.spec 𝓤 H A mem run)
 meets 𝓤 H A W mem run 𝓣 =
-    walk-meets 𝓤 H A f.ended stayed W (goes-slice 𝓤 H A W 1 0 tt (plain (λ _. T.the-row)), (goes-none 𝓤 H A W 1 (λ _. usize) yes (λ κs x f. refl), tt)) (f.clauses 𝓤 H A mem run)
+    walk-meets 𝓤 H A f.ended stayed W (goes-slice 𝓤 H A W 1 0 tt (plain (λ _. T.the-row)), (goes-none 𝓤 H A W 1 (λ _. usize) yes (λ κs x f. refl), tt))
+    (f.clauses 𝓤 H A mem run)
     (WpFn 𝓤 H (𝓣 .C) (𝓣 .Λ) code.function) (WpFn-mono 𝓤 H (W .laws) 𝓣 code.function) (walks 𝓤 H A W mem run 𝓣)
 
 pub clear-table-spec : {M : Type 1} → stated.statement M

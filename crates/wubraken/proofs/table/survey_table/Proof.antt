@@ -1,4 +1,5 @@
--- `wubraken::table::survey_table` meets its contract: a walk of its MIR, by hand, with a loop. In each turn the slice is looked into for record k, which is copied and put back, and `look` is called with the copy.
+-- `wubraken::table::survey_table` meets its contract: a walk of its MIR, by hand, with a loop. In each turn the slice is looked into for record k, which is
+-- copied and put back, and `look` is called with the copy.
 -- The invariant: what was found so far is the survey of the first k records. The variant: k with k ≤ n, ordered by what is left.
 -- Assumes nothing.
 use mathlib.Core.Path.{_≡_, refl, sym, ap, subst, _∙_}
@@ -24,10 +25,12 @@ use prog.Wp.{Heap, Out, Env, afterSeq, afterBlock, afterTurn, Calls, Loops, Wp, 
 use ghost.Atoms.{Atoms, sem}
 use contract.Monad.{Fun, fact}
 use contract.Running.{givenOf, tables, tablesOf}
-use types.Kit.{Given, Item, Sq, runs, anyQ, atRet, ‵, raw, _⊛_, ⋆, some, later, _$_, _∵_, !, qed, by, move, keep, drop, use0, use1, split, join, pick, rewrite, fsplit, fjoin, suffices, frame, await, done}
+use types.Kit.{Given, Item, Sq, runs, anyQ, atRet, ‵, raw, _⊛_, ⋆, some, later, _$_, _∵_, !, qed, by, move, keep, drop, use0, use1, split, join, pick, rewrite}
+use types.Kit.{fsplit, fjoin, suffices, frame, await, done}
 use types.Share.{arr-parts}
 use types.Part.{whole, sub, look-in, agg}
-use types.Run.{look, look-raw, store, init, forget, stop, hop, fld, from, load, lit, true-lit, of-opd, and-then, no-more, bin, assigns, assigns-last, land, first, blocks, stays, leaves-loop, exec, Below, again, loops, returns, enter, alloc1, alloc0, params1, pass1, pass0, free1, free0}
+use types.Run.{look, look-raw, store, init, forget, stop, hop, fld, from, load, lit, true-lit, of-opd, and-then, no-more, bin, assigns, assigns-last, land}
+use types.Run.{first, blocks, stays, leaves-loop, exec, Below, again, loops, returns, enter, alloc1, alloc0, params1, pass1, pass0, free1, free0}
 use sound.WpLaws.{fmOf, WpFn-mono}
 use borrow.Author.Tests.{ltb-true, ltb-false}
 use denote.RattleType.{owns}
@@ -144,13 +147,15 @@ module _ {M : Type 1} (𝓤 : URA M) (H : Heap 𝓤) (A : Atoms 𝓤) (mem : Mem
   abbrev Count : Contract 𝓤
   Count = tripleOf 𝓤 H A count.signature (count.spec 𝓤 H A mem run)
 
-  look-of : (sh : Shape) (m : Survey) (w : Worker) (r : Survey) → ent 𝓤 (ensured 𝓤 H A look-fn.ended (look-fn.clauses 𝓤 H A mem run) tt (sh, (m, (w, tt))) tt r) (fact 𝓤 (r ≡ seen sh m w))
+  look-of : (sh : Shape) (m : Survey) (w : Worker) (r : Survey)
+      → ent 𝓤 (ensured 𝓤 H A look-fn.ended (look-fn.clauses 𝓤 H A mem run) tt (sh, (m, (w, tt))) tt r) (fact 𝓤 (r ≡ seen sh m w))
   look-of sh m w r = exE 𝓤 _ (λ ws. snd∗ 𝓤 (sem 𝓤 H A (lasts look-fn.ended tt (sh, (m, (w, tt))) ws)) (fact 𝓤 (r ≡ seen sh m w)))
 
   count-of : (sh : Shape) (n r : ℕ) → ent 𝓤 (ensured 𝓤 H A count.ended (count.clauses 𝓤 H A mem run) tt (sh, (n, tt)) tt r) (fact 𝓤 (r ≡ surveyed sh n))
   count-of sh n r = exE 𝓤 _ (λ ws. snd∗ 𝓤 (sem 𝓤 H A (lasts count.ended tt (sh, (n, tt)) ws)) (fact 𝓤 (r ≡ surveyed sh n)))
 
-module _ {M : Type 1} (𝓤 : URA M) (H : Heap 𝓤) (A : Atoms 𝓤) (W : Given 𝓤 H A) (mem : Memory → SProp 𝓤) (run : Routine → Fun 𝓤) (κ : Lft) (q : Share) (sh : Shape) (b o : ℕ) (γ : GName) (ys : List Worker) (sh-is : Is Sh.the-row sh (vals-sh sh)) (room : Room T.the-row (length ys)) where
+module _ {M : Type 1} (𝓤 : URA M) (H : Heap 𝓤) (A : Atoms 𝓤) (W : Given 𝓤 H A) (mem : Memory → SProp 𝓤) (run : Routine → Fun 𝓤) (κ : Lft) (q : Share)
+    (sh : Shape) (b o : ℕ) (γ : GName) (ys : List Worker) (sh-is : Is Sh.the-row sh (vals-sh sh)) (room : Room T.the-row (length ys)) where
   abbrev s : RefT (List Worker)
   s = record { ptr = (b, o); name = γ; now = ys }
 
@@ -175,14 +180,19 @@ module _ {M : Type 1} (𝓤 : URA M) (H : Heap 𝓤) (A : Atoms 𝓤) (W : Given
 
   -- what is had of the table throughout: the token, and the parts of what it owns
   abbrev Had : List (Item 𝓤) → List (Item 𝓤)
-  Had Γ = ‵ (flft κ q) ∷ ‵ (fshr-bor κ (λ r. arr-parts (shares T.the-row) (length ys) .part r ys b o)) ∷ ‵ (fres γ (codedHoleys T.the-row .code (heres T.the-row ys))) ∷ ‵ (at-slice T.the-row s (sv ∷ [])) ∷ Γ
+  Had Γ =
+      ‵ (flft κ q) ∷ ‵ (fshr-bor κ (λ r. arr-parts (shares T.the-row) (length ys) .part r ys b o))
+      ∷ ‵ (fres γ (codedHoleys T.the-row .code (heres T.the-row ys))) ∷ ‵ (at-slice T.the-row s (sv ∷ [])) ∷ Γ
 
   exits : (r : Survey) → r ≡ surveyOf sh ys n n → Fits r → ent 𝓤 (⋆ 𝓤 H A (Had [])) (Post (val-s r))
   exits r e fits =
       qed W (Had []) ∵
-      suffices ! _ (ends-at 𝓤 H A f.ended stayed (f.clauses 𝓤 H A mem run) W (((κ, tt), (q, tt), tt, x, at), tt) (val-s r) r (tt, (tt, tt)) (tt, (tt, tt))) $ says ! e $
-      nothing ! $ move ! (1 ∷ 0 ∷ []) $ join ! $ frame ! $ move ! (1 ∷ 0 ∷ []) $ fjoin ! $ move ! (1 ∷ 0 ∷ []) $ fjoin ! $ nothing ! $ move ! (1 ∷ 0 ∷ []) $ fjoin ! $
-      owned ! Sh.the-row (Is Sh.the-row) (LL.makes Sh.the-type Sh′.the-plain 𝓤 H A) sh _ sh-is $ fjoin ! $ frame ! $ owned ! S.the-row (Is S.the-row) (LL.makes S.the-type S′.the-plain 𝓤 H A) r _ fits $ done !
+      suffices ! _ (ends-at 𝓤 H A f.ended stayed (f.clauses 𝓤 H A mem run) W (((κ, tt), (q, tt), tt, x, at), tt) (val-s r) r (tt, (tt, tt)) (tt, (tt, tt))) $
+      says ! e $
+      nothing ! $ move ! (1 ∷ 0 ∷ []) $ join ! $ frame ! $ move ! (1 ∷ 0 ∷ []) $ fjoin ! $ move ! (1 ∷ 0 ∷ []) $ fjoin ! $ nothing ! $ move ! (1 ∷ 0 ∷ []) $
+      fjoin ! $
+      owned ! Sh.the-row (Is Sh.the-row) (LL.makes Sh.the-type Sh′.the-plain 𝓤 H A) sh _ sh-is $ fjoin ! $ frame ! $
+      owned ! S.the-row (Is S.the-row) (LL.makes S.the-type S′.the-plain 𝓤 H A) r _ fits $ done !
 
   -- what the callees' triples bind outside, and that the walk has what they ask
   abbrev to-count : Count 𝓤 H A mem run .Ghost
@@ -190,14 +200,16 @@ module _ {M : Type 1} (𝓤 : URA M) (H : Heap 𝓤) (A : Atoms 𝓤) (W : Given
 
   goes-count : ent 𝓤 (emp 𝓤) (Count 𝓤 H A mem run .pre to-count)
   goes-count =
-      qed W [] ∵ nothing ! $ owned ! usize (Is usize) (uint-makes 𝓤 H A W w64) (length ys) _ (refl, room .0) $ fjoin ! $ owned ! Sh.the-row (Is Sh.the-row) (LL.makes Sh.the-type Sh′.the-plain 𝓤 H A) sh _ sh-is $ fjoin ! $ nothing ! $ join ! $ frame ! $ done !
+      qed W [] ∵ nothing ! $ owned ! usize (Is usize) (uint-makes 𝓤 H A W w64) (length ys) _ (refl, room .0) $ fjoin ! $
+      owned ! Sh.the-row (Is Sh.the-row) (LL.makes Sh.the-type Sh′.the-plain 𝓤 H A) sh _ sh-is $ fjoin ! $ nothing ! $ join ! $ frame ! $ done !
 
   abbrev to-look : Survey → Worker → Look 𝓤 H A mem run .Ghost
   to-look m w = ((tt, tt, tt, (sh, (m, (w, tt))), (vals-sh sh, (vals-s m, (vals w, tt)))), tt)
 
   goes-look : (m : Survey) (w : Worker) → shapeInRange sh ≡ true → Fits m → Is T.the-row w (vals w) → ent 𝓤 (emp 𝓤) (Look 𝓤 H A mem run .pre (to-look m w))
   goes-look m w inside fits g =
-      qed W [] ∵ says ! inside $ nothing ! $ frame ! $ nothing ! $ owned ! T.the-row (Is T.the-row) (LL.makes T.the-type T′.the-plain 𝓤 H A) w _ g $ fjoin ! $ owned ! S.the-row (Is S.the-row) (LL.makes S.the-type S′.the-plain 𝓤 H A) m _ fits $ fjoin ! $
+      qed W [] ∵ says ! inside $ nothing ! $ frame ! $ nothing ! $ owned ! T.the-row (Is T.the-row) (LL.makes T.the-type T′.the-plain 𝓤 H A) w _ g $ fjoin ! $
+      owned ! S.the-row (Is S.the-row) (LL.makes S.the-type S′.the-plain 𝓤 H A) m _ fits $ fjoin ! $
       owned ! Sh.the-row (Is Sh.the-row) (LL.makes Sh.the-type Sh′.the-plain 𝓤 H A) sh _ sh-is $ fjoin ! $ done !
 
   typed : (w : Worker) → Is T.the-row w (vals w) → Holds (hasTy T′.mir (val w)) × WT (val w)
@@ -236,15 +248,20 @@ module _ {M : Type 1} (𝓤 : URA M) (H : Heap 𝓤) (A : Atoms 𝓤) (W : Given
     word = tyInt w64
 
     abbrev En : Env 𝓤 H
-    En = (ty-s, l₀) ∷ (ty-sh, l₁) ∷ (ty-t, l₂) ∷ (word, l₃) ∷ (ty-s, l₄) ∷ (word, l₅) ∷ (ty-w, l₆) ∷ (word, l₇) ∷ (tyBool, l₈) ∷ (word, l₉) ∷ (tyPtr, l₁₀) ∷ (ty-w, l₁₁) ∷ []
+    En =
+        (ty-s, l₀) ∷ (ty-sh, l₁) ∷ (ty-t, l₂) ∷ (word, l₃) ∷ (ty-s, l₄) ∷ (word, l₅) ∷ (ty-w, l₆) ∷ (word, l₇) ∷ (tyBool, l₈) ∷ (word, l₉) ∷ (tyPtr, l₁₀)
+        ∷ (ty-w, l₁₁) ∷ []
 
-    -- the invariant: what is had of the table; _11 to _8 and _6, which are room; the table's length; k, what was found, n, the table, the shape; and room for the result
+    -- the invariant: what is had of the table; _11 to _8 and _6, which are room; the table's length; k, what was found, n, the table, the shape; and room for
+    -- the result
     abbrev At : Upto → List (Item 𝓤)
     At k = Had (
-        ‵ (froom ty-w l₁₁ 0) ∷ ‵ (fdies ty-w l₁₁) ∷ ‵ (froom tyPtr l₁₀ 0) ∷ ‵ (fdies tyPtr l₁₀) ∷ ‵ (froom word l₉ 0) ∷ ‵ (fdies word l₉) ∷ ‵ (froom tyBool l₈ 0) ∷ ‵ (fdies tyBool l₈)
+        ‵ (froom ty-w l₁₁ 0) ∷ ‵ (fdies ty-w l₁₁) ∷ ‵ (froom tyPtr l₁₀ 0) ∷ ‵ (fdies tyPtr l₁₀) ∷ ‵ (froom word l₉ 0) ∷ ‵ (fdies word l₉)
+        ∷ ‵ (froom tyBool l₈ 0) ∷ ‵ (fdies tyBool l₈)
         ∷ ‵ (fat fullShare word l₇ 0 (vint w64 (length ys))) ∷ ‵ (fdies word l₇) ∷ ‵ (froom ty-w l₆ 0) ∷ ‵ (fdies ty-w l₆)
         ∷ ‵ (fat fullShare word l₅ 0 (vint w64 (k .0))) ∷ ‵ (fdies word l₅) ∷ ‵ (fat fullShare ty-s l₄ 0 (val-s (surveyOf sh ys n (k .0)))) ∷ ‵ (fdies ty-s l₄)
-        ∷ ‵ (fat fullShare word l₃ 0 (vint w64 n)) ∷ ‵ (fdies word l₃) ∷ ‵ (fat fullShare ty-t l₂ 0 sv) ∷ ‵ (fdies ty-t l₂) ∷ ‵ (fat fullShare ty-sh l₁ 0 (val-sh sh)) ∷ ‵ (fdies ty-sh l₁) ∷ ‵ (froom ty-s l₀ 0) ∷ ‵ (fdies ty-s l₀) ∷ [])
+        ∷ ‵ (fat fullShare word l₃ 0 (vint w64 n)) ∷ ‵ (fdies word l₃) ∷ ‵ (fat fullShare ty-t l₂ 0 sv) ∷ ‵ (fdies ty-t l₂)
+        ∷ ‵ (fat fullShare ty-sh l₁ 0 (val-sh sh)) ∷ ‵ (fdies ty-sh l₁) ∷ ‵ (froom ty-s l₀ 0) ∷ ‵ (fdies ty-s l₀) ∷ [])
 
     abbrev Turned : Upto → Out → SProp 𝓤
     Turned k = afterTurn 𝓤 H (Below 𝓤 H A Nearer At k) (afterBlock 𝓤 H (afterSeq 𝓤 H (Wp 𝓤 H C Λ En mir.t-6 (atReturn 𝓤 H En Post)) (atReturn 𝓤 H En Post)))
@@ -253,27 +270,41 @@ module _ {M : Type 1} (𝓤 : URA M) (H : Heap 𝓤) (A : Atoms 𝓤) (W : Given
     turn-at : (k : Upto) (t : Bool) → ltb (k .0) n ≡ t → Sq W (At k) (runs C Λ En mir.turn-1 (anyQ (Turned k)))
     unfolding afterTurn
     turn-at k true e =
-        assigns ! (bin ! (load ! (from ! (stop !)) (look ! 16 refl)) (load ! (from ! (stop !)) (look ! 20 refl)) tt) (from ! (stop !)) (init ! 10 refl (tt, tt)) $
+        assigns ! (bin ! (load ! (from ! (stop !)) (look ! 16 refl)) (load ! (from ! (stop !)) (look ! 20 refl)) tt) (from ! (stop !))
+        (init ! 10 refl (tt, tt)) $
         rewrite ! 10 (λ (t : Bool). ‵ (fat fullShare tyBool l₈ 0 (vbool t))) e refl $ stays ! (load ! (from ! (stop !)) (look ! 10 refl)) $
-        assigns ! (bin ! (load ! (from ! (stop !)) (look ! 16 refl)) (lit ! tt) (record { fits = place-fits })) (from ! (stop !)) (init ! 8 refl (tt, record { fits = place-fits })) $
-        assigns ! (bin ! (load ! (from ! (fld ! refl (stop !))) (look-in ! 22 (sub ! 0 refl (whole !)))) (load ! (from ! (stop !)) (look ! 8 refl)) tt) (from ! (stop !)) (init ! 6 refl (tt, tt)) $
+        assigns ! (bin ! (load ! (from ! (stop !)) (look ! 16 refl)) (lit ! tt) (record { fits = place-fits })) (from ! (stop !)) (init ! 8 refl
+        (tt, record { fits = place-fits })) $
+        assigns ! (bin ! (load ! (from ! (fld ! refl (stop !))) (look-in ! 22 (sub ! 0 refl (whole !)))) (load ! (from ! (stop !)) (look ! 8 refl)) tt)
+        (from ! (stop !)) (init ! 6 refl (tt, tt)) $
         rewrite ! 6 (λ (p : ℕ). ‵ (fat fullShare tyPtr l₁₀ 0 (vptr b p))) (sym (place-is 72 o (k .0))) refl $
         -- record k is taken out, copied, and put back
-        move ! (1 ∷ 0 ∷ []) $ looks-slice ! tt T.the-row (Is T.the-row) (shows 𝓤 H A T.the-row) vals (LL.tells T.the-type T′.the-laws) (LL.copy T.the-type T′.the-copy 𝓤 H A W) ys b o (λ q′.
+        move ! (1 ∷ 0 ∷ []) $ looks-slice ! tt T.the-row (Is T.the-row) (shows 𝓤 H A T.the-row) vals (LL.tells T.the-type T′.the-laws)
+        (LL.copy T.the-type T′.the-copy 𝓤 H A W) ys b o (λ q′.
         elem-out ! T.the-row (Is T.the-row) (shows 𝓤 H A T.the-row) vals (LL.tells T.the-type T′.the-laws) q′ ys (k .0) blank b o inside (λ g.
         assigns ! (of-opd ! (load ! (from ! (hop ! (look ! 9 refl) (stop !))) (look-raw ! 0 refl))) (from ! (stop !)) (init ! 7 refl (typed elem g)) $
         assigns ! (of-opd ! (load ! (from ! (stop !)) (look ! 7 refl))) (from ! (stop !)) (init ! 17 refl (typed elem g)) $
         elem-back ! T.the-row q′ ys (k .0) blank (vals elem) b o inside $ shuts-slice ! tt T.the-row q′ ys b o $
         -- `look`
-        use0 W (raw (Look 𝓤 H A mem run .pre (to-look (surveyOf sh ys n (k .0)) elem))) (goes-look (surveyOf sh ys n (k .0)) elem (surveyed-shape sh (length ys) (k .0) less) (k .1 .1) g) $
-        calls-at ! (fmOf 𝓤 H (W .laws) 𝓣) (Look 𝓤 H A mem run) known (to-look (surveyOf sh ys n (k .0)) elem) (and-then ! (load ! (from ! (stop !)) (look ! 25 refl)) (and-then ! (load ! (from ! (stop !)) (look ! 19 refl)) (and-then ! (load ! (from ! (stop !)) (look ! 15 refl)) (no-more !)))) (λ v.
-        use1 W (later (some (λ (r : Survey). (‵ ftrue ⊛ ‵ (S.the-row .own r (v ∷ []))) ⊛ raw (ensured 𝓤 H A look-fn.ended (look-fn.clauses 𝓤 H A mem run) tt (sh, (surveyOf sh ys n (k .0), (elem, tt))) tt r)))) (id⊢ 𝓤 _) $ await ! tt $ pick ! (λ r.
-        split ! $ move ! (1 ∷ []) $ use1 W (raw (fact 𝓤 (r ≡ seen sh (surveyOf sh ys n (k .0)) elem))) (look-of 𝓤 H A mem run sh (surveyOf sh ys n (k .0)) elem r) $ heard ! (r ≡ seen sh (surveyOf sh ys n (k .0)) elem) (λ e′. split ! $ drop ! $
+        use0 W (raw (Look 𝓤 H A mem run .pre (to-look (surveyOf sh ys n (k .0)) elem))) (goes-look (surveyOf sh ys n (k .0)) elem
+        (surveyed-shape sh (length ys) (k .0) less) (k .1 .1) g) $
+        calls-at ! (fmOf 𝓤 H (W .laws) 𝓣) (Look 𝓤 H A mem run) known (to-look (surveyOf sh ys n (k .0)) elem)
+        (and-then ! (load ! (from ! (stop !)) (look ! 25 refl))
+        (and-then ! (load ! (from ! (stop !)) (look ! 19 refl)) (and-then ! (load ! (from ! (stop !)) (look ! 15 refl)) (no-more !)))) (λ v.
+        use1 W (later (some (λ (r : Survey). (‵ ftrue ⊛ ‵ (S.the-row .own r (v ∷ []))) ⊛ raw (ensured 𝓤 H A look-fn.ended (look-fn.clauses 𝓤 H A mem run) tt
+        (sh, (surveyOf sh ys n (k .0), (elem, tt))) tt r)))) (id⊢ 𝓤 _) $ await ! tt $ pick ! (λ r.
+        split ! $ move ! (1 ∷ []) $ use1 W (raw (fact 𝓤 (r ≡ seen sh (surveyOf sh ys n (k .0)) elem)))
+        (look-of 𝓤 H A mem run sh (surveyOf sh ys n (k .0)) elem r) $ heard ! (r ≡ seen sh (surveyOf sh ys n (k .0)) elem) (λ e′. split ! $ drop ! $
         peeks ! S.the-row (Is S.the-row) (shows 𝓤 H A S.the-row) r (v ∷ []) (λ is. land ! (from ! (stop !)) (store ! 19 refl (typed-s r v is)) $
-        rewrite ! 19 (λ (u : Val). ‵ (fat fullShare ty-s l₄ 0 u)) (ap only (LL.tells S.the-type S′.the-laws r (v ∷ []) is) ∙ ap val-s (e′ ∙ survey-more sh ys n (k .0))) refl $
-        assigns-last ! (bin ! (load ! (from ! (stop !)) (look ! 17 refl)) (lit ! tt) (record { fits = next-fits })) (from ! (stop !)) (store ! 17 refl (tt, record { fits = next-fits })) $
+        rewrite ! 19 (λ (u : Val). ‵ (fat fullShare ty-s l₄ 0 u)) (ap only (LL.tells S.the-type S′.the-laws r (v ∷ []) is)
+        ∙ ap val-s (e′ ∙ survey-more sh ys n (k .0))) refl $
+        assigns-last ! (bin ! (load ! (from ! (stop !)) (look ! 17 refl)) (lit ! tt) (record { fits = next-fits })) (from ! (stop !)) (store ! 17 refl
+        (tt, record { fits = next-fits })) $
         drop ! $ forget ! 4 refl $ forget ! 6 refl $ forget ! 8 refl $ forget ! 10 refl $ forget ! 14 refl $
-        again ! Nearer At k (k .0 + 1, (add-one-le less, subst Fits (e′ ∙ survey-more sh ys n (k .0)) (subst (Is S.the-row r) (LL.tells S.the-type S′.the-laws r (v ∷ []) is) is))) (add-one-dec n (k .0) less)))))))
+        again ! Nearer At k (
+          k .0 + 1,
+          (add-one-le less, subst Fits (e′ ∙ survey-more sh ys n (k .0)) (subst (Is S.the-row r) (LL.tells S.the-type S′.the-laws r (v ∷ []) is) is)),
+        ) (add-one-dec n (k .0) less)))))))
       where
         elem : Worker
         elem = getD ys (k .0) blank
@@ -290,43 +321,66 @@ module _ {M : Type 1} (𝓤 : URA M) (H : Heap 𝓤) (A : Atoms 𝓤) (W : Given
         next-fits : k .0 + 1 < 2 ^ 64
         next-fits = omega (arith, inside, room .0)
     turn-at k false e =
-        assigns ! (bin ! (load ! (from ! (stop !)) (look ! 16 refl)) (load ! (from ! (stop !)) (look ! 20 refl)) tt) (from ! (stop !)) (init ! 10 refl (tt, tt)) $
-        rewrite ! 10 (λ (t : Bool). ‵ (fat fullShare tyBool l₈ 0 (vbool t))) e refl $ leaves-loop ! (load ! (from ! (stop !)) (look ! 10 refl)) $ exec ! C Λ En mir.t-6 (atRet En Post) $
-        assigns ! (of-opd ! (load ! (from ! (stop !)) (look ! 18 refl))) (from ! (stop !)) (init ! 26 refl (typed-s (surveyOf sh ys n (k .0)) (val-s (surveyOf sh ys n (k .0))) (k .1 .1))) $
-        returns ! (look ! 26 refl) $ forget ! 10 refl $ forget ! 12 refl $ forget ! 16 refl $ forget ! 18 refl $ forget ! 20 refl $ forget ! 22 refl $ forget ! 24 refl $ forget ! 26 refl $
-        move ! (26 ∷ 27 ∷ []) $ free1 ! $ move ! (24 ∷ 25 ∷ []) $ free1 ! $ move ! (22 ∷ 23 ∷ []) $ free1 ! $ move ! (20 ∷ 21 ∷ []) $ free1 ! $ move ! (18 ∷ 19 ∷ []) $ free1 ! $ move ! (16 ∷ 17 ∷ []) $ free1 ! $ move ! (14 ∷ 15 ∷ []) $ free1 ! $ move ! (12 ∷ 13 ∷ []) $ free1 ! $ move ! (10 ∷ 11 ∷ []) $ free1 ! $ move ! (8 ∷ 9 ∷ []) $ free1 ! $ move ! (6 ∷ 7 ∷ []) $ free1 ! $ move ! (4 ∷ 5 ∷ []) $ free1 ! $ free0 ! $
+        assigns ! (bin ! (load ! (from ! (stop !)) (look ! 16 refl)) (load ! (from ! (stop !)) (look ! 20 refl)) tt) (from ! (stop !))
+        (init ! 10 refl (tt, tt)) $
+        rewrite ! 10 (λ (t : Bool). ‵ (fat fullShare tyBool l₈ 0 (vbool t))) e refl $ leaves-loop ! (load ! (from ! (stop !)) (look ! 10 refl)) $
+        exec ! C Λ En mir.t-6 (atRet En Post) $
+        assigns ! (of-opd ! (load ! (from ! (stop !)) (look ! 18 refl))) (from ! (stop !)) (init ! 26 refl (typed-s (surveyOf sh ys n (k .0))
+        (val-s (surveyOf sh ys n (k .0))) (k .1 .1))) $
+        returns ! (look ! 26 refl) $ forget ! 10 refl $ forget ! 12 refl $ forget ! 16 refl $ forget ! 18 refl $ forget ! 20 refl $ forget ! 22 refl $
+        forget ! 24 refl $ forget ! 26 refl $
+        move ! (26 ∷ 27 ∷ []) $ free1 ! $ move ! (24 ∷ 25 ∷ []) $ free1 ! $ move ! (22 ∷ 23 ∷ []) $ free1 ! $ move ! (20 ∷ 21 ∷ []) $ free1 ! $
+        move ! (18 ∷ 19 ∷ []) $ free1 ! $ move ! (16 ∷ 17 ∷ []) $ free1 ! $ move ! (14 ∷ 15 ∷ []) $ free1 ! $ move ! (12 ∷ 13 ∷ []) $ free1 ! $
+        move ! (10 ∷ 11 ∷ []) $ free1 ! $ move ! (8 ∷ 9 ∷ []) $ free1 ! $ move ! (6 ∷ 7 ∷ []) $ free1 ! $ move ! (4 ∷ 5 ∷ []) $ free1 ! $ free0 ! $
         by ! (exits (surveyOf sh ys n (k .0)) (ap (surveyOf sh ys n) (le-antisymm (k .1 .0) (ltb-false (k .0) n e))) (k .1 .1))
 
-  walk : (𝓣 : Tables 𝓤 H) → Triple 𝓤 (𝓣 .C #count) (Count 𝓤 H A mem run) → Triple 𝓤 (𝓣 .C #look) (Look 𝓤 H A mem run) → ent 𝓤 (onEntry 𝓤 H A f.signature (κ, tt) (q, tt) x at) (WpFn 𝓤 H (𝓣 .C) (𝓣 .Λ) code.function (val-sh sh ∷ sv ∷ []) Post)
+  walk : (𝓣 : Tables 𝓤 H) → Triple 𝓤 (𝓣 .C #count) (Count 𝓤 H A mem run) → Triple 𝓤 (𝓣 .C #look) (Look 𝓤 H A mem run)
+      → ent 𝓤 (onEntry 𝓤 H A f.signature (κ, tt) (q, tt) x at) (WpFn 𝓤 H (𝓣 .C) (𝓣 .Λ) code.function (val-sh sh ∷ sv ∷ []) Post)
   walk 𝓣 known-count known =
-      qed W ((‵ (flft κ q) ⊛ ‵ ftrue) ∷ ‵ (owns (Sh.the-row ∷ ShrSlice (named 0) κ T.the-row ∷ []) x at) ∷ []) ∵ enter ! (𝓣 .C) (𝓣 .Λ) code.function (val-sh sh ∷ sv ∷ []) _ $
-      alloc1 ! (λ l₀. alloc1 ! (λ l₁. alloc1 ! (λ l₂. alloc1 ! (λ l₃. alloc1 ! (λ l₄. alloc1 ! (λ l₅. alloc1 ! (λ l₆. alloc1 ! (λ l₇. alloc1 ! (λ l₈. alloc1 ! (λ l₉. alloc1 ! (λ l₁₀. alloc1 ! (λ l₁₁. alloc0 ! $ params1 ! $
+      qed W ((‵ (flft κ q) ⊛ ‵ ftrue) ∷ ‵ (owns (Sh.the-row ∷ ShrSlice (named 0) κ T.the-row ∷ []) x at) ∷ []) ∵
+      enter ! (𝓣 .C) (𝓣 .Λ) code.function (val-sh sh ∷ sv ∷ []) _ $
+      alloc1 ! (λ l₀. alloc1 ! (λ l₁. alloc1 ! (λ l₂. alloc1 ! (λ l₃. alloc1 ! (λ l₄. alloc1 ! (λ l₅. alloc1 ! (λ l₆. alloc1 ! (λ l₇. alloc1 ! (λ l₈.
+      alloc1 ! (λ l₉. alloc1 ! (λ l₁₀. alloc1 ! (λ l₁₁. alloc0 ! $ params1 ! $
       pass1 ! (init ! 20 refl typed-sh) $ pass1 ! (init ! 18 refl (tt, (tt, (record { fits = room .0 }, tt)))) $ pass0 ! $
-      assigns ! (of-opd ! (load ! (from ! (fld ! refl (stop !))) (look-in ! 18 (sub ! 1 refl (whole !))))) (from ! (stop !)) (init ! 8 refl (tt, record { fits = room .0 })) $
+      assigns ! (of-opd ! (load ! (from ! (fld ! refl (stop !))) (look-in ! 18 (sub ! 1 refl (whole !))))) (from ! (stop !))
+      (init ! 8 refl (tt, record { fits = room .0 })) $
       -- how many records are looked at
       use0 W (raw (Count 𝓤 H A mem run .pre to-count)) goes-count $
-      calls-at ! (fmOf 𝓤 H (W .laws) 𝓣) (Count 𝓤 H A mem run) known-count to-count (and-then ! (load ! (from ! (stop !)) (look ! 21 refl)) (and-then ! (load ! (from ! (stop !)) (look ! 9 refl)) (no-more !))) (λ v₀.
-      use1 W (later (some (λ (r : ℕ). (‵ ftrue ⊛ ‵ (usize .own r (v₀ ∷ []))) ⊛ raw (ensured 𝓤 H A count.ended (count.clauses 𝓤 H A mem run) tt (sh, (length ys, tt)) tt r)))) (id⊢ 𝓤 _) $ await ! tt $ pick ! (λ m.
+      calls-at ! (fmOf 𝓤 H (W .laws) 𝓣) (Count 𝓤 H A mem run) known-count to-count
+      (and-then ! (load ! (from ! (stop !)) (look ! 21 refl)) (and-then ! (load ! (from ! (stop !)) (look ! 9 refl)) (no-more !))) (λ v₀.
+      use1 W (later (some (λ (r : ℕ). (‵ ftrue ⊛ ‵ (usize .own r (v₀ ∷ [])))
+      ⊛ raw (ensured 𝓤 H A count.ended (count.clauses 𝓤 H A mem run) tt (sh, (length ys, tt)) tt r)))) (id⊢ 𝓤 _) $ await ! tt $ pick ! (λ m.
       split ! $ move ! (1 ∷ []) $ use1 W (raw (fact 𝓤 (m ≡ n))) (count-of 𝓤 H A mem run sh (length ys) m) $ heard ! (m ≡ n) (λ e₀. split ! $ drop ! $
       peeks ! usize (Is usize) (shows 𝓤 H A usize) m (v₀ ∷ []) (λ is₀. land ! (from ! (stop !)) (init ! 17 refl (uint-lawful 𝓤 H A W w64 .typed m _ is₀ .0)) $
       rewrite ! 17 (λ (u : Val). ‵ (fat fullShare (tyInt w64) l₃ 0 u)) (ap only (is₀ .0) ∙ ap (vint w64) e₀) refl $ drop ! $
-      assigns ! (agg ! (and-then ! (true-lit !) (and-then ! (big-lit ! (record { fits = lit< tt })) (and-then ! (load ! (from ! (stop !)) (look ! 16 refl)) (no-more !))))) (from ! (stop !)) (init ! 14 refl made-typed) $ rewrite ! 14 (λ (v : Val). ‵ (fat fullShare ty-s l₄ 0 v)) (made-start sh ys n) refl $
+      assigns ! (agg ! (and-then ! (true-lit !)
+      (and-then ! (big-lit ! (record { fits = lit< tt })) (and-then ! (load ! (from ! (stop !)) (look ! 16 refl)) (no-more !))))) (from ! (stop !))
+      (init ! 14 refl made-typed) $ rewrite ! 14 (λ (v : Val). ‵ (fat fullShare ty-s l₄ 0 v)) (made-start sh ys n) refl $
       assigns ! (of-opd ! (lit ! tt)) (from ! (stop !)) (init ! 12 refl (tt, record { fits = lit< tt })) $
       move ! (25 ∷ []) $ fsplit ! $ drop ! $ fsplit ! $ fsplit ! $ move ! (1 ∷ []) $ fsplit ! $ move ! (28 ∷ []) $ split ! $
       keep ! (0 ∷ 3 ∷ 2 ∷ 4 ∷ 6 ∷ 7 ∷ 8 ∷ 9 ∷ 10 ∷ 11 ∷ 12 ∷ 13 ∷ 14 ∷ 15 ∷ 16 ∷ 17 ∷ 18 ∷ 19 ∷ 20 ∷ 21 ∷ 22 ∷ 23 ∷ 24 ∷ 25 ∷ 26 ∷ 27 ∷ 28 ∷ 29 ∷ []) $
-      first ! $ blocks ! $ loops ! 𝓣 Nearer Nearer-wf (At 𝓣 known l₀ l₁ l₂ l₃ l₄ l₅ l₆ l₇ l₈ l₉ l₁₀ l₁₁) (λ k. turn-at 𝓣 known l₀ l₁ l₂ l₃ l₄ l₅ l₆ l₇ l₈ l₉ l₁₀ l₁₁ k (ltb (k .0) n) refl)
+      first ! $ blocks ! $ loops ! 𝓣 Nearer Nearer-wf (At 𝓣 known l₀ l₁ l₂ l₃ l₄ l₅ l₆ l₇ l₈ l₉ l₁₀ l₁₁) (λ k.
+      turn-at 𝓣 known l₀ l₁ l₂ l₃ l₄ l₅ l₆ l₇ l₈ l₉ l₁₀ l₁₁ k (ltb (k .0) n) refl)
       (0, (zero-le, begins sh ys n n-fits))))))))))))))))))
 
 module _ {M : Type 1} (𝓤 : URA M) (H : Heap 𝓤) (A : Atoms 𝓤) (W : Given 𝓤 H A) (mem : Memory → SProp 𝓤) (run : Routine → Fun 𝓤) where
-  walks : (𝓣 : Tables 𝓤 H) → Triple 𝓤 (𝓣 .C #count) (Count 𝓤 H A mem run) → Triple 𝓤 (𝓣 .C #look) (Look 𝓤 H A mem run) → Walks 𝓤 H A f.ended stayed (WpFn 𝓤 H (𝓣 .C) (𝓣 .Λ) code.function) (f.clauses 𝓤 H A mem run)
-  walks 𝓣 known-count known = walked 𝓤 H A f.ended stayed (f.clauses 𝓤 H A mem run) (WpFn 𝓤 H (𝓣 .C) (𝓣 .Λ) code.function) (λ κs. (vals-sh, (slice-vals, tt))) (λ κs. (LL.tells Sh.the-type Sh′.the-laws, (shr-slice-tells (named 0) (κs .0) T.the-row, tt)))
+  walks : (𝓣 : Tables 𝓤 H) → Triple 𝓤 (𝓣 .C #count) (Count 𝓤 H A mem run) → Triple 𝓤 (𝓣 .C #look) (Look 𝓤 H A mem run)
+      → Walks 𝓤 H A f.ended stayed (WpFn 𝓤 H (𝓣 .C) (𝓣 .Λ) code.function) (f.clauses 𝓤 H A mem run)
+  walks 𝓣 known-count known =
+      walked 𝓤 H A f.ended stayed (f.clauses 𝓤 H A mem run) (WpFn 𝓤 H (𝓣 .C) (𝓣 .Λ) code.function) (λ κs. (vals-sh, (slice-vals, tt)))
+      (λ κs. (LL.tells Sh.the-type Sh′.the-laws, (shr-slice-tells (named 0) (κs .0) T.the-row, tt)))
       (λ κs qs bounds a g are. via 𝓤 _ (fst∗ 𝓤 _ (emp 𝓤))
-      (walk 𝓤 H A W mem run (κs .0) (qs .0) (a .0) (a .1 .0 .ptr .0) (a .1 .0 .ptr .1) (a .1 .0 .name) (a .1 .0 .now) (are .0) (are .1 .0 .0 .1) 𝓣 known-count known))
+      (walk 𝓤 H A W mem run (κs .0) (qs .0) (a .0) (a .1 .0 .ptr .0) (a .1 .0 .ptr .1) (a .1 .0 .name) (a .1 .0 .now) (are .0)
+      (are .1 .0 .0 .1) 𝓣 known-count known))
 
-meets : {M : Type 1} (𝓤 : URA M) (H : Heap 𝓤) (A : Atoms 𝓤) → Given 𝓤 H A → (mem : Memory → SProp 𝓤) (run : Routine → Fun 𝓤) (𝓣 : Tables 𝓤 H) → Triple 𝓤 (𝓣 .C #count) (Count 𝓤 H A mem run) → Triple 𝓤 (𝓣 .C #look) (Look 𝓤 H A mem run)
+meets : {M : Type 1} (𝓤 : URA M) (H : Heap 𝓤) (A : Atoms 𝓤) → Given 𝓤 H A → (mem : Memory → SProp 𝓤) (run : Routine → Fun 𝓤) (𝓣 : Tables 𝓤 H)
+    → Triple 𝓤 (𝓣 .C #count) (Count 𝓤 H A mem run) → Triple 𝓤 (𝓣 .C #look) (Look 𝓤 H A mem run)
     → Meets 𝓤 H A f.signature (WpFn 𝓤 H (𝓣 .C) (𝓣 .Λ) code.function) (f.spec 𝓤 H A mem run)
 meets 𝓤 H A W mem run 𝓣 known-count known =
-    walk-meets 𝓤 H A f.ended stayed W (goes-none 𝓤 H A W 1 (λ _. Sh.the-row) yes (λ κs x f. refl), (goes-none-slice 𝓤 H A W 1 (0 ∷ []) tt (plain (λ _. T.the-row)) yes, tt)) (f.clauses 𝓤 H A mem run)
+    walk-meets 𝓤 H A f.ended stayed W (
+      goes-none 𝓤 H A W 1 (λ _. Sh.the-row) yes (λ κs x f. refl),
+      (goes-none-slice 𝓤 H A W 1 (0 ∷ []) tt (plain (λ _. T.the-row)) yes, tt),
+    ) (f.clauses 𝓤 H A mem run)
     (WpFn 𝓤 H (𝓣 .C) (𝓣 .Λ) code.function) (WpFn-mono 𝓤 H (W .laws) 𝓣 code.function) (walks 𝓤 H A W mem run 𝓣 known-count known)
 
 pub survey-table-spec : {M : Type 1} → stated.statement M

@@ -40,8 +40,11 @@ loop-again : tie.Need-loop-again Inv-loop μ-loop
 unfolding blank
 loop-again c =
     let a = c .before .before .before .before .args in
-    let here = c .before .before .before .loop in
-    (omega arith, rw (c .record-in-range .ensures) (ap (λ b. b && recordInRange (a .shape) (worker (a .t3) (here .k))) (here .inv .1) ∙ sym (every-step (λ i. recordInRange (a .shape) (worker (a .t3) i)) (here .k))))
+    let here = c .before .before .before .loop in (
+      omega arith,
+      rw (c .record-in-range .ensures) (ap (λ b. b && recordInRange (a .shape) (worker (a .t3) (here .k))) (here .inv .1)
+          ∙ sym (every-step (λ i. recordInRange (a .shape) (worker (a .t3) i)) (here .k))),
+    )
 
 returns : tie.Need-returns Inv-loop μ-loop
 unfolding heldInRange

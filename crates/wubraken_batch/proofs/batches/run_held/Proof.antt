@@ -40,7 +40,8 @@ run-batch-requires c κs =
     let same = sound ∙ ap (soundOf (a .shape) (a .store .now) (a .n)) (ranged ∙ ap (λ (m : ℕ). heldInRange (a .shape) m (a .table)) held) in (
       long,
       start .pre,
-      subst⁻¹ (λ (b : Bool). Watched (a .shape) (record { store = a .store .now; table = take (a .n) (a .table) }) b) same (held-watched (a .shape) (a .store .now) (a .n) (a .table) (omega (arith, long, start .pre))),
+      subst⁻¹ (λ (b : Bool). Watched (a .shape) (record { store = a .store .now; table = take (a .n) (a .table) }) b) same
+          (held-watched (a .shape) (a .store .now) (a .n) (a .table) (omega (arith, long, start .pre))),
       λ up. sound-opens (a .shape) (a .store .now) (a .n) _ (sym sound ∙ up),
     )
 
@@ -57,13 +58,24 @@ returns : tie.Need-returns
 unfolding batchOn heldOn
 returns c =
     let ending = c .before .before .before .before .before .before .before .before .run-batch in
-    let start = c .before .before .before .before .before .before .before .before .before .before .before .before .before .before .before .before .before .before in
+    let start =
+    c .before .before .before .before .before .before .before .before .before .before .before .before .before .before .before .before .before .before in
     let a = start .args in
     let r = ending .result in
     let long : length (a .table) ≡ 64 = search needs in
-    let lends : ℕ → ℕ → Account = λ (m k : ℕ). record { shape = r .pool .shape; memory = lent (ending .last .1 .1 .1 .1 .1 .0) (take m (r .pool .table)); lines = ending .last .1 .1 .1 .0; read = r .at; written = r .to; stop = k } in
-    let first = c .before .before .before .before .before .before .before .before .before .before .before .before .before .before .records-surveyed .ensures ∙ ap (surveyed (a .shape)) (sym (length-take-le (a .n) (a .table) (omega (arith, long, start .pre)))) in
-    (ap (lends (a .n)) (c .stop-number .ensures) ∙ ap (λ m. lends m (stopNumber (r .stop))) (sym (ending .ensures .2)) ∙ ap accountOf (ending .ensures .0), ending .ensures .3 ∙ ap (λ k. heldAll (a .input .now) k (at-work (a .shape) (a .store .now) (take (a .n) (a .table)) 0 (a .out .now) 0)) first)
+    let lends : ℕ → ℕ → Account = λ (m k : ℕ). record {
+      shape = r .pool .shape;
+      memory = lent (ending .last .1 .1 .1 .1 .1 .0) (take m (r .pool .table));
+      lines = ending .last .1 .1 .1 .0;
+      read = r .at;
+      written = r .to;
+      stop = k;
+    } in
+    let first = c .before .before .before .before .before .before .before .before .before .before .before .before .before .before .records-surveyed .ensures
+    ∙ ap (surveyed (a .shape)) (sym (length-take-le (a .n) (a .table) (omega (arith, long, start .pre)))) in (
+      ap (lends (a .n)) (c .stop-number .ensures) ∙ ap (λ m. lends m (stopNumber (r .stop))) (sym (ending .ensures .2)) ∙ ap accountOf (ending .ensures .0),
+      ending .ensures .3 ∙ ap (λ k. heldAll (a .input .now) k (at-work (a .shape) (a .store .now) (take (a .n) (a .table)) 0 (a .out .now) 0)) first,
+    )
 
 pub run-held-spec : {M : Type 1} → statement M
 run-held-spec =

@@ -1,4 +1,6 @@
--- `wubraken::copies::copy_out` meets its contract: a walk of its MIR, by hand, with a loop. Before the loop the array is taken apart into a row of records. In each turn the slice is looked into for record k, which is copied and put back, and the copy is stored into the row; after the loop the row is the array again.
+-- `wubraken::copies::copy_out` meets its contract: a walk of its MIR, by hand, with a loop. Before the loop the array is taken apart into a row of records. In
+-- each turn the slice is looked into for record k, which is copied and put back, and the copy is stored into the row; after the loop the row is the array
+-- again.
 -- The invariant: the row is the first k records over idle ones. The variant: k with k ≤ n, ordered by what is left.
 -- Assumes nothing.
 use mathlib.Core.Path.{_≡_, refl, sym, ap, subst, _∙_}
@@ -24,10 +26,12 @@ use prog.Wp.{Heap, Out, Env, afterSeq, afterBlock, afterTurn, Calls, Loops, Wp, 
 use ghost.Atoms.{Atoms, sem}
 use contract.Monad.{Fun, fact}
 use contract.Running.{givenOf, tables, tablesOf}
-use types.Kit.{Given, Item, Sq, runs, anyQ, atRet, ‵, raw, _⊛_, ⋆, some, later, _$_, _∵_, !, qed, by, move, keep, drop, use0, use1, use2, split, join, pick, rewrite, fsplit, fjoin, suffices, frame, await, done}
+use types.Kit.{Given, Item, Sq, runs, anyQ, atRet, ‵, raw, _⊛_, ⋆, some, later, _$_, _∵_, !, qed, by, move, keep, drop, use0, use1, use2, split, join, pick}
+use types.Kit.{rewrite, fsplit, fjoin, suffices, frame, await, done}
 use types.Share.{arr-parts}
 use types.Part.{whole, sub, look-in}
-use types.Run.{look, look-raw, store, store-raw, init, forget, stop, hop, fld, from, load, lit, addr, of-opd, no-more, bin, assigns, assigns-last, land, first, blocks, stays, leaves-loop, exec, Below, again, loops, returns, enter, alloc1, alloc0, params1, pass1, pass0, free1, free0}
+use types.Run.{look, look-raw, store, store-raw, init, forget, stop, hop, fld, from, load, lit, addr, of-opd, no-more, bin, assigns, assigns-last, land, first}
+use types.Run.{blocks, stays, leaves-loop, exec, Below, again, loops, returns, enter, alloc1, alloc0, params1, pass1, pass0, free1, free0}
 use sound.WpLaws.{fmOf, WpFn-mono}
 use borrow.Author.Tests.{ltb-true, ltb-false}
 use denote.RattleType.{RattleType, owns}
@@ -101,7 +105,8 @@ module _ {M : Type 1} (𝓤 : URA M) (H : Heap 𝓤) (A : Atoms 𝓤) (mem : Mem
   idle-of : (r : List Worker) → ent 𝓤 (ensured 𝓤 H A idle.ended (idle.clauses 𝓤 H A mem run) tt tt tt r) (fact 𝓤 (r ≡ replicate 64 blank))
   idle-of r = exE 𝓤 _ (λ ws. snd∗ 𝓤 (sem 𝓤 H A (lasts idle.ended tt tt ws)) (fact 𝓤 (r ≡ replicate 64 blank)))
 
-module _ {M : Type 1} (𝓤 : URA M) (H : Heap 𝓤) (A : Atoms 𝓤) (W : Given 𝓤 H A) (mem : Memory → SProp 𝓤) (run : Routine → Fun 𝓤) (κ : Lft) (q : Share) (b o : ℕ) (γ : GName) (ys : List Worker) (n : ℕ) (room : Room T.the-row (length ys)) (gn : n < 2 ^ 64) (within : n ≤ length ys) (few : n ≤ 64) where
+module _ {M : Type 1} (𝓤 : URA M) (H : Heap 𝓤) (A : Atoms 𝓤) (W : Given 𝓤 H A) (mem : Memory → SProp 𝓤) (run : Routine → Fun 𝓤) (κ : Lft) (q : Share) (b o : ℕ)
+    (γ : GName) (ys : List Worker) (n : ℕ) (room : Room T.the-row (length ys)) (gn : n < 2 ^ 64) (within : n ≤ length ys) (few : n ≤ 64) where
   abbrev s : RefT (List Worker)
   s = record { ptr = (b, o); name = γ; now = ys }
 
@@ -119,7 +124,9 @@ module _ {M : Type 1} (𝓤 : URA M) (H : Heap 𝓤) (A : Atoms 𝓤) (W : Given
 
   -- what is had of the parameters throughout: the token, and the parts of what t and n own
   abbrev Had : List (Item 𝓤) → List (Item 𝓤)
-  Had Γ = ‵ (flft κ q) ∷ ‵ (fshr-bor κ (λ r. arr-parts (shares T.the-row) (length ys) .part r ys b o)) ∷ ‵ (fres γ (codedHoleys T.the-row .code (heres T.the-row ys))) ∷ ‵ (at-slice T.the-row s (sv ∷ [])) ∷ ‵ (fsep (usize .own n (vint w64 n ∷ [])) ftrue) ∷ Γ
+  Had Γ =
+      ‵ (flft κ q) ∷ ‵ (fshr-bor κ (λ r. arr-parts (shares T.the-row) (length ys) .part r ys b o))
+      ∷ ‵ (fres γ (codedHoleys T.the-row .code (heres T.the-row ys))) ∷ ‵ (at-slice T.the-row s (sv ∷ [])) ∷ ‵ (fsep (usize .own n (vint w64 n ∷ [])) ftrue) ∷ Γ
 
   array-long : (k : ℕ) → length (copiedOf ys k) ≡ 64
   array-long k = stored.as-long ys (replicate 64 blank) k ∙ length-replicate 64 blank
@@ -130,8 +137,10 @@ module _ {M : Type 1} (𝓤 : URA M) (H : Heap 𝓤) (A : Atoms 𝓤) (W : Given
   exits : (r : List Worker) → r ≡ copiedOf ys n → Is Ws r (avals r) → ent 𝓤 (⋆ 𝓤 H A (Had [])) (Post (only (avals r)))
   exits r e g =
       qed W (Had []) ∵
-      suffices ! _ (ends-at 𝓤 H A f.ended stayed (f.clauses 𝓤 H A mem run) W (((κ, tt), (q, tt), tt, x, at), tt) (only (avals r)) r (tt, (tt, tt)) (tt, (tt, tt))) $ says ! (e ∙ filled) $
-      nothing ! $ move ! (1 ∷ 0 ∷ []) $ join ! $ frame ! $ move ! (1 ∷ 0 ∷ []) $ fjoin ! $ move ! (1 ∷ 0 ∷ []) $ fjoin ! $ fjoin ! $ frame ! $ owned ! Ws (Is Ws) (array-makes 𝓤 H A W T.the-row (LL.makes T.the-type T′.the-plain 𝓤 H A) 64) r _ g $ done !
+      suffices ! _ (ends-at 𝓤 H A f.ended stayed (f.clauses 𝓤 H A mem run) W (((κ, tt), (q, tt), tt, x, at), tt) (only (avals r)) r (tt, (tt, tt))
+      (tt, (tt, tt))) $ says ! (e ∙ filled) $
+      nothing ! $ move ! (1 ∷ 0 ∷ []) $ join ! $ frame ! $ move ! (1 ∷ 0 ∷ []) $ fjoin ! $ move ! (1 ∷ 0 ∷ []) $ fjoin ! $ fjoin ! $ frame ! $
+      owned ! Ws (Is Ws) (array-makes 𝓤 H A W T.the-row (LL.makes T.the-type T′.the-plain 𝓤 H A) 64) r _ g $ done !
 
   -- what the callee's triple binds outside, and that it asks nothing that is owned
   abbrev to-idle : Idle 𝓤 H A mem run .Ghost
@@ -176,14 +185,20 @@ module _ {M : Type 1} (𝓤 : URA M) (H : Heap 𝓤) (A : Atoms 𝓤) (W : Given
     slice = sliceTy (tyRef (named 0) imm (pointee (T.the-row .written)))
 
     abbrev En : Env 𝓤 H
-    En = (array, l₀) ∷ (slice, l₁) ∷ (word, l₂) ∷ (array, l₃) ∷ (word, l₄) ∷ (T′.mir, l₅) ∷ (array, l₆) ∷ (tyBool, l₇) ∷ (word, l₈) ∷ (tyPtr, l₉) ∷ (T′.mir, l₁₀) ∷ (tyPtr, l₁₁) ∷ (tyPtr, l₁₂) ∷ []
+    En =
+        (array, l₀) ∷ (slice, l₁) ∷ (word, l₂) ∷ (array, l₃) ∷ (word, l₄) ∷ (T′.mir, l₅) ∷ (array, l₆) ∷ (tyBool, l₇) ∷ (word, l₈) ∷ (tyPtr, l₉) ∷ (T′.mir, l₁₀)
+        ∷ (tyPtr, l₁₁) ∷ (tyPtr, l₁₂) ∷ []
 
-    -- the invariant: the array's row; the token and what the parameters own; _12 to _5, which are room; k, the array's place, n, the table; and room for the result
+    -- the invariant: the array's row; the token and what the parameters own; _12 to _5, which are room; k, the array's place, n, the table; and room for the
+    -- result
     abbrev At : Upto → List (Item 𝓤)
     At k = ‵ (row T.the-row fullShare (copiedOf ys (k .0)) l₃ 0) ∷ Had (
-        ‵ (froom tyPtr l₁₂ 0) ∷ ‵ (fdies tyPtr l₁₂) ∷ ‵ (froom tyPtr l₁₁ 0) ∷ ‵ (fdies tyPtr l₁₁) ∷ ‵ (froom T′.mir l₁₀ 0) ∷ ‵ (fdies T′.mir l₁₀) ∷ ‵ (froom tyPtr l₉ 0) ∷ ‵ (fdies tyPtr l₉)
-        ∷ ‵ (froom word l₈ 0) ∷ ‵ (fdies word l₈) ∷ ‵ (froom tyBool l₇ 0) ∷ ‵ (fdies tyBool l₇) ∷ ‵ (froom array l₆ 0) ∷ ‵ (fdies array l₆) ∷ ‵ (froom T′.mir l₅ 0) ∷ ‵ (fdies T′.mir l₅)
-        ∷ ‵ (fat fullShare word l₄ 0 (vint w64 (k .0))) ∷ ‵ (fdies word l₄) ∷ ‵ (fdies array l₃) ∷ ‵ (fat fullShare word l₂ 0 (vint w64 n)) ∷ ‵ (fdies word l₂) ∷ ‵ (fat fullShare slice l₁ 0 sv) ∷ ‵ (fdies slice l₁) ∷ ‵ (froom array l₀ 0) ∷ ‵ (fdies array l₀) ∷ [])
+        ‵ (froom tyPtr l₁₂ 0) ∷ ‵ (fdies tyPtr l₁₂) ∷ ‵ (froom tyPtr l₁₁ 0) ∷ ‵ (fdies tyPtr l₁₁) ∷ ‵ (froom T′.mir l₁₀ 0) ∷ ‵ (fdies T′.mir l₁₀)
+        ∷ ‵ (froom tyPtr l₉ 0) ∷ ‵ (fdies tyPtr l₉)
+        ∷ ‵ (froom word l₈ 0) ∷ ‵ (fdies word l₈) ∷ ‵ (froom tyBool l₇ 0) ∷ ‵ (fdies tyBool l₇) ∷ ‵ (froom array l₆ 0) ∷ ‵ (fdies array l₆)
+        ∷ ‵ (froom T′.mir l₅ 0) ∷ ‵ (fdies T′.mir l₅)
+        ∷ ‵ (fat fullShare word l₄ 0 (vint w64 (k .0))) ∷ ‵ (fdies word l₄) ∷ ‵ (fdies array l₃) ∷ ‵ (fat fullShare word l₂ 0 (vint w64 n)) ∷ ‵ (fdies word l₂)
+        ∷ ‵ (fat fullShare slice l₁ 0 sv) ∷ ‵ (fdies slice l₁) ∷ ‵ (froom array l₀ 0) ∷ ‵ (fdies array l₀) ∷ [])
 
     abbrev Turned : Upto → Out → SProp 𝓤
     Turned k = afterTurn 𝓤 H (Below 𝓤 H A Nearer At k) (afterBlock 𝓤 H (afterSeq 𝓤 H (Wp 𝓤 H C Λ En mir.t-5 (atReturn 𝓤 H En Post)) (atReturn 𝓤 H En Post)))
@@ -192,28 +207,35 @@ module _ {M : Type 1} (𝓤 : URA M) (H : Heap 𝓤) (A : Atoms 𝓤) (W : Given
     turn-at : (k : Upto) (t : Bool) → ltb (k .0) n ≡ t → Sq W (At k) (runs C Λ En mir.turn-1 (anyQ (Turned k)))
     unfolding afterTurn
     turn-at k true e =
-        assigns ! (bin ! (load ! (from ! (stop !)) (look ! 22 refl)) (load ! (from ! (stop !)) (look ! 25 refl)) tt) (from ! (stop !)) (init ! 16 refl (tt, tt)) $
+        assigns ! (bin ! (load ! (from ! (stop !)) (look ! 22 refl)) (load ! (from ! (stop !)) (look ! 25 refl)) tt) (from ! (stop !))
+        (init ! 16 refl (tt, tt)) $
         rewrite ! 16 (λ (t : Bool). ‵ (fat fullShare tyBool l₇ 0 (vbool t))) e refl $ stays ! (load ! (from ! (stop !)) (look ! 16 refl)) $
-        assigns ! (bin ! (load ! (from ! (stop !)) (look ! 22 refl)) (lit ! tt) (record { fits = place-fits })) (from ! (stop !)) (init ! 14 refl (tt, record { fits = place-fits })) $
-        assigns ! (bin ! (load ! (from ! (fld ! refl (stop !))) (look-in ! 27 (sub ! 0 refl (whole !)))) (load ! (from ! (stop !)) (look ! 14 refl)) tt) (from ! (stop !)) (init ! 12 refl (tt, tt)) $
+        assigns ! (bin ! (load ! (from ! (stop !)) (look ! 22 refl)) (lit ! tt) (record { fits = place-fits })) (from ! (stop !)) (init ! 14 refl
+        (tt, record { fits = place-fits })) $
+        assigns ! (bin ! (load ! (from ! (fld ! refl (stop !))) (look-in ! 27 (sub ! 0 refl (whole !)))) (load ! (from ! (stop !)) (look ! 14 refl)) tt)
+        (from ! (stop !)) (init ! 12 refl (tt, tt)) $
         rewrite ! 12 (λ (p : ℕ). ‵ (fat fullShare tyPtr l₉ 0 (vptr b p))) (sym (place-is 72 o (k .0))) refl $
         -- record k of the table is taken out, copied, and put back
-        move ! (2 ∷ 1 ∷ []) $ looks-slice ! tt T.the-row (Is T.the-row) (shows 𝓤 H A T.the-row) vals (LL.tells T.the-type T′.the-laws) (LL.copy T.the-type T′.the-copy 𝓤 H A W) ys b o (λ q′.
+        move ! (2 ∷ 1 ∷ []) $ looks-slice ! tt T.the-row (Is T.the-row) (shows 𝓤 H A T.the-row) vals (LL.tells T.the-type T′.the-laws)
+        (LL.copy T.the-type T′.the-copy 𝓤 H A W) ys b o (λ q′.
         elem-out ! T.the-row (Is T.the-row) (shows 𝓤 H A T.the-row) vals (LL.tells T.the-type T′.the-laws) q′ ys (k .0) blank b o inside (λ g.
         assigns ! (of-opd ! (load ! (from ! (hop ! (look ! 15 refl) (stop !))) (look-raw ! 0 refl))) (from ! (stop !)) (init ! 13 refl (typed elem g)) $
         assigns ! (of-opd ! (load ! (from ! (stop !)) (look ! 13 refl))) (from ! (stop !)) (init ! 23 refl (typed elem g)) $
         elem-back ! T.the-row q′ ys (k .0) blank (vals elem) b o inside $ shuts-slice ! tt T.the-row q′ ys b o $ move ! (2 ∷ []) $
         -- the copy is stored into the row
-        assigns ! (bin ! (load ! (from ! (stop !)) (look ! 22 refl)) (lit ! tt) (record { fits = place-fits })) (from ! (stop !)) (store ! 14 refl (tt, record { fits = place-fits })) $
+        assigns ! (bin ! (load ! (from ! (stop !)) (look ! 22 refl)) (lit ! tt) (record { fits = place-fits })) (from ! (stop !)) (store ! 14 refl
+        (tt, record { fits = place-fits })) $
         assigns ! (addr ! (from ! (stop !))) (from ! (stop !)) (init ! 8 refl (tt, tt)) $
         assigns ! (bin ! (load ! (from ! (stop !)) (look ! 8 refl)) (load ! (from ! (stop !)) (look ! 14 refl)) tt) (from ! (stop !)) (init ! 6 refl (tt, tt)) $
         rewrite ! 6 (λ (p : ℕ). ‵ (fat fullShare tyPtr l₁₂ 0 (vptr l₃ p))) (sym (place-is 72 0 (k .0))) refl $
-        elem-out ! T.the-row (Is T.the-row) (shows 𝓤 H A T.the-row) vals (LL.tells T.the-type T′.the-laws) fullShare (copiedOf ys (k .0)) (k .0) blank l₃ 0 in-array (λ _.
+        elem-out ! T.the-row (Is T.the-row) (shows 𝓤 H A T.the-row) vals (LL.tells T.the-type T′.the-laws) fullShare (copiedOf ys (k .0))
+        (k .0) blank l₃ 0 in-array (λ _.
         assigns ! (of-opd ! (load ! (from ! (stop !)) (look ! 22 refl))) (from ! (hop ! (look ! 8 refl) (stop !))) (store-raw ! 0 refl (typed elem g)) $
         move ! (1 ∷ []) $ drop ! $ owned ! T.the-row (Is T.the-row) (LL.makes T.the-type T′.the-plain 𝓤 H A) elem _ g $ move ! (1 ∷ 0 ∷ []) $
         elem-put ! T.the-row fullShare (copiedOf ys (k .0)) (k .0) elem (vals elem) l₃ 0 in-array $
         rewrite ! 0 (λ (us : List Worker). ‵ (row T.the-row fullShare us l₃ 0)) (one-more ys (k .0)) refl $
-        assigns-last ! (bin ! (load ! (from ! (stop !)) (look ! 22 refl)) (lit ! tt) (record { fits = next-fits })) (from ! (stop !)) (store ! 22 refl (tt, record { fits = next-fits })) $
+        assigns-last ! (bin ! (load ! (from ! (stop !)) (look ! 22 refl)) (lit ! tt) (record { fits = next-fits })) (from ! (stop !)) (store ! 22 refl
+        (tt, record { fits = next-fits })) $
         forget ! 6 refl $ forget ! 8 refl $ forget ! 10 refl $ forget ! 12 refl $ forget ! 14 refl $ forget ! 16 refl $ forget ! 20 refl $
         again ! Nearer At k (k .0 + 1, add-one-le less) (add-one-dec n (k .0) less))))
       where
@@ -235,13 +257,20 @@ module _ {M : Type 1} (𝓤 : URA M) (H : Heap 𝓤) (A : Atoms 𝓤) (W : Given
         next-fits : k .0 + 1 < 2 ^ 64
         next-fits = omega (arith, less, gn)
     turn-at k false e =
-        assigns ! (bin ! (load ! (from ! (stop !)) (look ! 22 refl)) (load ! (from ! (stop !)) (look ! 25 refl)) tt) (from ! (stop !)) (init ! 16 refl (tt, tt)) $
-        rewrite ! 16 (λ (t : Bool). ‵ (fat fullShare tyBool l₇ 0 (vbool t))) e refl $ leaves-loop ! (load ! (from ! (stop !)) (look ! 16 refl)) $ exec ! C Λ En mir.t-5 (atRet En Post) $
-        use1 W (some (λ (v : Val). ‵ (fat fullShare array l₃ 0 v) ⊛ ‵ (Ws .own all (v ∷ [])))) (joined 𝓤 H A W T.the-row 64 all l₃ (array-long (k .0))) $ pick ! (λ v. split ! $ move ! (1 ∷ []) $
-        peeks ! Ws (Is Ws) (shows 𝓤 H A Ws) all (v ∷ []) (λ is. drop ! $ rewrite ! 0 (λ (u : Val). ‵ (fat fullShare array l₃ 0 u)) (ap only (told all v is)) refl $
+        assigns ! (bin ! (load ! (from ! (stop !)) (look ! 22 refl)) (load ! (from ! (stop !)) (look ! 25 refl)) tt) (from ! (stop !))
+        (init ! 16 refl (tt, tt)) $
+        rewrite ! 16 (λ (t : Bool). ‵ (fat fullShare tyBool l₇ 0 (vbool t))) e refl $ leaves-loop ! (load ! (from ! (stop !)) (look ! 16 refl)) $
+        exec ! C Λ En mir.t-5 (atRet En Post) $
+        use1 W (some (λ (v : Val). ‵ (fat fullShare array l₃ 0 v) ⊛ ‵ (Ws .own all (v ∷ [])))) (joined 𝓤 H A W T.the-row 64 all l₃ (array-long (k .0))) $
+        pick ! (λ v. split ! $ move ! (1 ∷ []) $
+        peeks ! Ws (Is Ws) (shows 𝓤 H A Ws) all (v ∷ []) (λ is. drop ! $
+        rewrite ! 0 (λ (u : Val). ‵ (fat fullShare array l₃ 0 u)) (ap only (told all v is)) refl $
         assigns ! (of-opd ! (load ! (from ! (stop !)) (look ! 0 refl))) (from ! (stop !)) (init ! 29 refl (atyped all _ (all-is v is))) $
         returns ! (look ! 29 refl) $ forget ! 0 refl $ forget ! 16 refl $ forget ! 22 refl $ forget ! 25 refl $ forget ! 27 refl $ forget ! 29 refl $
-        move ! (29 ∷ 30 ∷ []) $ free1 ! $ move ! (27 ∷ 28 ∷ []) $ free1 ! $ move ! (25 ∷ 26 ∷ []) $ free1 ! $ move ! (0 ∷ 24 ∷ []) $ free1 ! $ move ! (21 ∷ 22 ∷ []) $ free1 ! $ move ! (19 ∷ 20 ∷ []) $ free1 ! $ move ! (17 ∷ 18 ∷ []) $ free1 ! $ move ! (15 ∷ 16 ∷ []) $ free1 ! $ move ! (13 ∷ 14 ∷ []) $ free1 ! $ move ! (11 ∷ 12 ∷ []) $ free1 ! $ move ! (9 ∷ 10 ∷ []) $ free1 ! $ move ! (7 ∷ 8 ∷ []) $ free1 ! $ move ! (5 ∷ 6 ∷ []) $ free1 ! $ free0 ! $
+        move ! (29 ∷ 30 ∷ []) $ free1 ! $ move ! (27 ∷ 28 ∷ []) $ free1 ! $ move ! (25 ∷ 26 ∷ []) $ free1 ! $ move ! (0 ∷ 24 ∷ []) $ free1 ! $
+        move ! (21 ∷ 22 ∷ []) $ free1 ! $ move ! (19 ∷ 20 ∷ []) $ free1 ! $ move ! (17 ∷ 18 ∷ []) $ free1 ! $ move ! (15 ∷ 16 ∷ []) $ free1 ! $
+        move ! (13 ∷ 14 ∷ []) $ free1 ! $ move ! (11 ∷ 12 ∷ []) $ free1 ! $ move ! (9 ∷ 10 ∷ []) $ free1 ! $ move ! (7 ∷ 8 ∷ []) $ free1 ! $
+        move ! (5 ∷ 6 ∷ []) $ free1 ! $ free0 ! $
         by ! (exits all (ap (copiedOf ys) (le-antisymm (k .1) (ltb-false (k .0) n e))) (all-is v is))))
       where
         all : List Worker
@@ -250,33 +279,49 @@ module _ {M : Type 1} (𝓤 : URA M) (H : Heap 𝓤) (A : Atoms 𝓤) (W : Given
         all-is : (v : Val) → Is Ws all (v ∷ []) → Is Ws all (avals all)
         all-is v is = subst (Is Ws all) (told all v is) is
 
-  walk : (𝓣 : Tables 𝓤 H) → Triple 𝓤 (𝓣 .C #idle) (Idle 𝓤 H A mem run) → ent 𝓤 (onEntry 𝓤 H A f.signature (κ, tt) (q, tt) x at) (WpFn 𝓤 H (𝓣 .C) (𝓣 .Λ) code.function (sv ∷ vint w64 n ∷ []) Post)
+  walk : (𝓣 : Tables 𝓤 H) → Triple 𝓤 (𝓣 .C #idle) (Idle 𝓤 H A mem run)
+      → ent 𝓤 (onEntry 𝓤 H A f.signature (κ, tt) (q, tt) x at) (WpFn 𝓤 H (𝓣 .C) (𝓣 .Λ) code.function (sv ∷ vint w64 n ∷ []) Post)
   walk 𝓣 known =
-      qed W ((‵ (flft κ q) ⊛ ‵ ftrue) ∷ ‵ (owns (ShrSlice (named 0) κ T.the-row ∷ usize ∷ []) x at) ∷ []) ∵ enter ! (𝓣 .C) (𝓣 .Λ) code.function (sv ∷ vint w64 n ∷ []) _ $
-      alloc1 ! (λ l₀. alloc1 ! (λ l₁. alloc1 ! (λ l₂. alloc1 ! (λ l₃. alloc1 ! (λ l₄. alloc1 ! (λ l₅. alloc1 ! (λ l₆. alloc1 ! (λ l₇. alloc1 ! (λ l₈. alloc1 ! (λ l₉. alloc1 ! (λ l₁₀. alloc1 ! (λ l₁₁. alloc1 ! (λ l₁₂. alloc0 ! $ params1 ! $
+      qed W ((‵ (flft κ q) ⊛ ‵ ftrue) ∷ ‵ (owns (ShrSlice (named 0) κ T.the-row ∷ usize ∷ []) x at) ∷ []) ∵
+      enter ! (𝓣 .C) (𝓣 .Λ) code.function (sv ∷ vint w64 n ∷ []) _ $
+      alloc1 ! (λ l₀. alloc1 ! (λ l₁. alloc1 ! (λ l₂. alloc1 ! (λ l₃. alloc1 ! (λ l₄. alloc1 ! (λ l₅. alloc1 ! (λ l₆. alloc1 ! (λ l₇. alloc1 ! (λ l₈.
+      alloc1 ! (λ l₉. alloc1 ! (λ l₁₀. alloc1 ! (λ l₁₁. alloc1 ! (λ l₁₂. alloc0 ! $ params1 ! $
       pass1 ! (init ! 22 refl (tt, (tt, (record { fits = room .0 }, tt)))) $ pass1 ! (init ! 20 refl (tt, record { fits = gn })) $ pass0 ! $
       use0 W (raw (Idle 𝓤 H A mem run .pre to-idle)) goes-idle $ calls-at ! (fmOf 𝓤 H (W .laws) 𝓣) (Idle 𝓤 H A mem run) known to-idle (no-more !) (λ v.
-      use1 W (later (some (λ (r : List Worker). (‵ ftrue ⊛ ‵ (Ws .own r (v ∷ []))) ⊛ raw (ensured 𝓤 H A idle.ended (idle.clauses 𝓤 H A mem run) tt tt tt r)))) (id⊢ 𝓤 _) $ await ! tt $ pick ! (λ r.
-      split ! $ move ! (1 ∷ []) $ use1 W (raw (fact 𝓤 (r ≡ replicate 64 blank))) (idle-of 𝓤 H A mem run r) $ heard ! (r ≡ replicate 64 blank) (λ e. split ! $ drop ! $
+      use1 W (later (some (λ (r : List Worker). (‵ ftrue ⊛ ‵ (Ws .own r (v ∷ []))) ⊛ raw (ensured 𝓤 H A idle.ended (idle.clauses 𝓤 H A mem run) tt tt tt r))))
+      (id⊢ 𝓤 _) $ await ! tt $ pick ! (λ r.
+      split ! $ move ! (1 ∷ []) $ use1 W (raw (fact 𝓤 (r ≡ replicate 64 blank))) (idle-of 𝓤 H A mem run r) $
+      heard ! (r ≡ replicate 64 blank) (λ e. split ! $ drop ! $
       peeks ! Ws (Is Ws) (shows 𝓤 H A Ws) r (v ∷ []) (λ is. land ! (from ! (stop !)) (init ! 13 refl (atyped r v is)) $
       assigns ! (of-opd ! (load ! (from ! (stop !)) (look ! 13 refl))) (from ! (stop !)) (init ! 19 refl (atyped r v is)) $ forget ! 13 refl $
       assigns ! (of-opd ! (lit ! tt)) (from ! (stop !)) (init ! 17 refl (tt, record { fits = lit< tt })) $
       -- the array is taken apart
-      move ! (19 ∷ 0 ∷ []) $ use2 W (‵ (row T.the-row fullShare r l₃ 0)) (apart 𝓤 H A W T.the-row 64 r l₃ tt v) $ rewrite ! 0 (λ (us : List Worker). ‵ (row T.the-row fullShare us l₃ 0)) (e ∙ start ys) refl $
+      move ! (19 ∷ 0 ∷ []) $ use2 W (‵ (row T.the-row fullShare r l₃ 0)) (apart 𝓤 H A W T.the-row 64 r l₃ tt v) $
+      rewrite ! 0 (λ (us : List Worker). ‵ (row T.the-row fullShare us l₃ 0)) (e ∙ start ys) refl $
       move ! (27 ∷ []) $ fsplit ! $ fsplit ! $ move ! (1 ∷ []) $ fsplit ! $ move ! (30 ∷ []) $ split ! $
-      keep ! (6 ∷ 0 ∷ 3 ∷ 2 ∷ 4 ∷ 5 ∷ 7 ∷ 8 ∷ 9 ∷ 10 ∷ 11 ∷ 12 ∷ 13 ∷ 14 ∷ 15 ∷ 16 ∷ 17 ∷ 18 ∷ 19 ∷ 20 ∷ 21 ∷ 22 ∷ 23 ∷ 24 ∷ 25 ∷ 26 ∷ 27 ∷ 28 ∷ 29 ∷ 30 ∷ 31 ∷ []) $
-      first ! $ blocks ! $ loops ! 𝓣 Nearer Nearer-wf (At 𝓣 l₀ l₁ l₂ l₃ l₄ l₅ l₆ l₇ l₈ l₉ l₁₀ l₁₁ l₁₂) (λ k. turn-at 𝓣 l₀ l₁ l₂ l₃ l₄ l₅ l₆ l₇ l₈ l₉ l₁₀ l₁₁ l₁₂ k (ltb (k .0) n) refl) (0, zero-le))))))))))))))))))
+      keep ! (6 ∷ 0 ∷ 3 ∷ 2 ∷ 4 ∷ 5 ∷ 7 ∷ 8 ∷ 9 ∷ 10 ∷ 11 ∷ 12 ∷ 13 ∷ 14 ∷ 15 ∷ 16 ∷ 17 ∷ 18 ∷ 19 ∷ 20 ∷ 21 ∷ 22 ∷ 23 ∷ 24 ∷ 25 ∷ 26 ∷ 27 ∷ 28 ∷ 29 ∷ 30 ∷ 31
+      ∷ []) $
+      first ! $ blocks ! $ loops ! 𝓣 Nearer Nearer-wf (At 𝓣 l₀ l₁ l₂ l₃ l₄ l₅ l₆ l₇ l₈ l₉ l₁₀ l₁₁ l₁₂)
+      (λ k. turn-at 𝓣 l₀ l₁ l₂ l₃ l₄ l₅ l₆ l₇ l₈ l₉ l₁₀ l₁₁ l₁₂ k (ltb (k .0) n) refl) (0, zero-le))))))))))))))))))
 
 module _ {M : Type 1} (𝓤 : URA M) (H : Heap 𝓤) (A : Atoms 𝓤) (W : Given 𝓤 H A) (mem : Memory → SProp 𝓤) (run : Routine → Fun 𝓤) where
-  walks : (𝓣 : Tables 𝓤 H) → Triple 𝓤 (𝓣 .C #idle) (Idle 𝓤 H A mem run) → Walks 𝓤 H A f.ended stayed (WpFn 𝓤 H (𝓣 .C) (𝓣 .Λ) code.function) (f.clauses 𝓤 H A mem run)
-  walks 𝓣 known = walked 𝓤 H A f.ended stayed (f.clauses 𝓤 H A mem run) (WpFn 𝓤 H (𝓣 .C) (𝓣 .Λ) code.function) (λ κs. (slice-vals, (uint-vals w64, tt))) (λ κs. (shr-slice-tells (named 0) (κs .0) T.the-row, (uint-tells w64, tt)))
+  walks : (𝓣 : Tables 𝓤 H) → Triple 𝓤 (𝓣 .C #idle) (Idle 𝓤 H A mem run)
+      → Walks 𝓤 H A f.ended stayed (WpFn 𝓤 H (𝓣 .C) (𝓣 .Λ) code.function) (f.clauses 𝓤 H A mem run)
+  walks 𝓣 known =
+      walked 𝓤 H A f.ended stayed (f.clauses 𝓤 H A mem run) (WpFn 𝓤 H (𝓣 .C) (𝓣 .Λ) code.function) (λ κs. (slice-vals, (uint-vals w64, tt)))
+      (λ κs. (shr-slice-tells (named 0) (κs .0) T.the-row, (uint-tells w64, tt)))
       (λ κs qs bounds a g are. needs 𝓤 ((a .1 .0 ≤ 64) × (a .1 .0 ≤ length (a .0 .now))) _ (λ within.
-      walk 𝓤 H A W mem run (κs .0) (qs .0) (a .0 .ptr .0) (a .0 .ptr .1) (a .0 .name) (a .0 .now) (a .1 .0) (are .0 .0 .1) (are .1 .0 .1) (within .1) (within .0) 𝓣 known))
+      walk 𝓤 H A W mem run (κs .0) (qs .0) (a .0 .ptr .0) (a .0 .ptr .1) (a .0 .name) (a .0 .now) (a .1 .0) (are .0 .0 .1) (are .1 .0 .1) (within .1)
+      (within .0) 𝓣 known))
 
-meets : {M : Type 1} (𝓤 : URA M) (H : Heap 𝓤) (A : Atoms 𝓤) → Given 𝓤 H A → (mem : Memory → SProp 𝓤) (run : Routine → Fun 𝓤) (𝓣 : Tables 𝓤 H) → Triple 𝓤 (𝓣 .C #idle) (Idle 𝓤 H A mem run)
+meets : {M : Type 1} (𝓤 : URA M) (H : Heap 𝓤) (A : Atoms 𝓤) → Given 𝓤 H A → (mem : Memory → SProp 𝓤) (run : Routine → Fun 𝓤) (𝓣 : Tables 𝓤 H)
+    → Triple 𝓤 (𝓣 .C #idle) (Idle 𝓤 H A mem run)
     → Meets 𝓤 H A f.signature (WpFn 𝓤 H (𝓣 .C) (𝓣 .Λ) code.function) (f.spec 𝓤 H A mem run)
 meets 𝓤 H A W mem run 𝓣 known =
-    walk-meets 𝓤 H A f.ended stayed W (goes-none-slice 𝓤 H A W 1 (0 ∷ []) tt (plain (λ _. T.the-row)) yes, (goes-none 𝓤 H A W 1 (λ _. usize) yes (λ κs x f. refl), tt)) (f.clauses 𝓤 H A mem run)
+    walk-meets 𝓤 H A f.ended stayed W (
+      goes-none-slice 𝓤 H A W 1 (0 ∷ []) tt (plain (λ _. T.the-row)) yes,
+      (goes-none 𝓤 H A W 1 (λ _. usize) yes (λ κs x f. refl), tt),
+    ) (f.clauses 𝓤 H A mem run)
     (WpFn 𝓤 H (𝓣 .C) (𝓣 .Λ) code.function) (WpFn-mono 𝓤 H (W .laws) 𝓣 code.function) (walks 𝓤 H A W mem run 𝓣 known)
 
 pub copy-out-spec : {M : Type 1} → stated.statement M
