@@ -1,4 +1,4 @@
-// Document 01's ranges as tests: of the shape, of the lent store, of one worker's record.
+// The ranges as tests: of the shape, of the lent store, of one worker's record.
 ghost use mathlib.Core.Path.{_≡_};
 ghost use Prim.Native.Nat.{_+_, _<_, _≤_};
 ghost use Rattle.laws.specs.Counting.{every};

@@ -1,4 +1,4 @@
--- A response in document 01's terms. Assumes nothing.
+-- A response by its number and values. Assumes nothing.
 use mathlib.Core.List.{List, [], _∷_}
 use Prim.Native.Nat.{ℕ}
 use Rattle.arrival.specs.declared.Response.{Response}

@@ -24,7 +24,7 @@ pub struct Arrival {
 }
 
 // A worker's record. `left` is a cell (heads first, then node links), `right` a node or the end, `seen` the link word
-// seen, `current` the current word seen, `ticket` document 01's stamp.
+// seen, `current` the current word seen, `ticket` the call's place among all calls.
 #[repr(C)]
 pub struct Worker {
     pub stage: u64,
@@ -73,7 +73,7 @@ pub enum Action {
     Step(u64),
 }
 
-// What the pool answers. `Begun` and `Stored` carry the ticket, `Refused` document 01's number.
+// What the pool answers. `Begun` and `Stored` carry the ticket, `Refused` the refusal's number.
 pub enum Response {
     Opened,
     Begun(u64),

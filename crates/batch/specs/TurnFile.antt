@@ -1,4 +1,4 @@
--- A whole turn file: the lines that it prints and the memory and shape that it leaves. Document 01, "Turn file". Assumes nothing.
+-- A whole turn file: the lines that it prints and the memory and shape that it leaves. Assumes nothing.
 use mathlib.Core.List.{List, [], _++_}
 use Prim.Native.Nat.{ℕ, zero, suc}
 use lib.ListN.{length, drop}

@@ -1,4 +1,4 @@
--- Document 01's example of a turn file, whole: its lines, computed, and those of two files that end by 8 and 7. Assumes nothing.
+-- The worked example of a turn file, whole: its lines, computed, and those of two files that end by 8 and 7. Assumes nothing.
 use mathlib.Core.Path.{_≡_, refl}
 use mathlib.Core.List.{List, [], _∷_, _++_}
 use Prim.Native.Nat.{ℕ}

@@ -1,4 +1,4 @@
--- What a reader must believe: definitions only, in the order of document 01. What is proved of them stands in facts.
+-- What a reader must believe: definitions only, in the order of docs/RULES.md. What is proved of them stands in facts.
 pub mod Layout
 pub mod Ranges
 pub mod Opening

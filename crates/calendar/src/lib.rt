@@ -1,1 +1,1 @@
-// Document 01 as definitions over lent words and records, and theorems about them: specs/. No code.
+// The rules (docs/RULES.md) as definitions over lent words and records, specs/rules, and theorems about them, specs/facts. No code.

@@ -1,4 +1,4 @@
--- The sum of document 01 holds after every history from an opening.
+-- The sum of stored and taken holds after every history from an opening.
 --     Balanced, Summed     the sum in the words of the invariant; with what is reached
 --     summed               after every history
 --     sum-balances         in the words of the statement

@@ -1,4 +1,4 @@
--- The sum of document 01 over every history: stored and puts at 6 and 7, arrivals answered, takes at 1 to 3, unmarked nodes.
+-- The sum of stored and taken over every history: stored and puts at 6 and 7, arrivals answered, takes at 1 to 3, unmarked nodes.
 -- One match over the changes.
 --     linkedBit, markedBit                                              a record's share of the sum
 --     linked-low, linked-high, marked-put, marked-high, marked-idle     where it is none

@@ -1,4 +1,4 @@
--- Document 01's example of a turn file, its records and its lines; the refusals of the reader.
+-- The worked example of a turn file, its records and its lines; the refusals of the reader.
 -- Assumes nothing.
 use mathlib.Core.Path.{_≡_, refl}
 use mathlib.Core.List.{List, [], _∷_, _++_}

@@ -1,4 +1,4 @@
--- The line that a response prints: document 01, "Turn file".
+-- The line that a response prints.
 -- Assumes nothing.
 use mathlib.Core.Path.{_≡_}
 use mathlib.Core.List.{List, [], _∷_, _++_}

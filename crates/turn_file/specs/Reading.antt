@@ -1,4 +1,4 @@
--- What stands at a position of a turn file: document 01, "Turn file", in its order.
+-- What stands at a position of a turn file, in the order of docs/RULES.md.
 -- Assumes nothing.
 use mathlib.Core.List.{List}
 use mathlib.Core.Bool.{cond}

@@ -16,7 +16,7 @@ use Rattle.batch.specs.TurnFile.{Ran, behind, zeros}
 use Rattle.turns.specs.declared.Next.{Next}
 use Rattle.turns.specs.declared.Next.the-variants.{More, Read, End, Last}
 
--- what is lent: document 01, "Turn file"
+-- what is lent
 unfoldable pub lent : Memory
 lent = record { store = replicate 4355 0; table = replicate 64 blank }
 

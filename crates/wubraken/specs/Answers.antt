@@ -37,7 +37,7 @@ answer-tells (Took time path order distance energy) = refl
 answer-tells Empty = refl
 answer-tells (Refused number) = refl
 
--- the number and the values of document 01
+-- the number and the values
 abbrev pub saidBy : Answer → Said
 saidBy a = record {
   number = a .number;

@@ -1,4 +1,4 @@
-//! Seeded random schedules: what document 01 says of every history, and that the
+//! Seeded random schedules: what the rules say of every history, and that the
 //! schedules are worth running.
 
 mod observer;

@@ -1,4 +1,4 @@
--- Document 01's "Ranges": of the shape, of every layout word of the store, of one worker's record. Assumes nothing.
+-- The ranges: of the shape, of every layout word of the store, of one worker's record. Assumes nothing.
 use mathlib.Core.List.{List}
 use mathlib.Core.Bool.{Bool, _&&_, _||_, not}
 use Prim.Native.Nat.{ℕ, _+_, _-_, _%_}

@@ -1,4 +1,4 @@
--- Which nodes may be handed out again: free, retired (document 01's "resting") and in use; and the first free one. Assumes nothing.
+-- Which nodes may be handed out again: free, retired (resting) and in use; and the first free one. Assumes nothing.
 use mathlib.Core.List.{List}
 use mathlib.Core.Bool.{Bool, cond, not, _&&_, _||_}
 use Prim.Native.Nat.{ℕ, zero, suc, _+_, _-_}

@@ -46,7 +46,7 @@ unfoldable pub unmarkedTo : Shape → List ℕ → (ℕ → List ℕ) → ℕ �
 unmarkedTo sh s lists zero = 0
 unmarkedTo sh s lists (suc b) = unmarkedIn sh s (lists b) + unmarkedTo sh s lists b
 
--- Document 01's "stands on", of a node n: as own node at 1 to 7, as left at 2 to 5, as right at 2 to 5, 10 and 11.
+-- A call stands on node n: as own node at 1 to 7, as left at 2 to 5, as right at 2 to 5, 10 and 11.
 abbrev pub holds : Shape → Worker → ℕ → Bool
 holds sh w n =
     (between 1 7 (w .stage) && eqb (w .own) n)

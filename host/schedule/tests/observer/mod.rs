@@ -1,5 +1,5 @@
 //! Watches a pool from one opening on, and checks after every record what
-//! document 01 says of it.
+//! the rules say of it.
 
 use std::collections::{BTreeMap, BTreeSet};
 
