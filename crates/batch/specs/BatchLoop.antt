@@ -18,13 +18,15 @@ use Rattle.calendar.specs.rules.Ranges.{worker}
 use Rattle.calendar.specs.facts.RangesKept.{leaks}
 use Rattle.calendar.specs.facts.Accepted.{Usable, enqueue-accepted, dequeue-accepted, step-accepted}
 use Rattle.calendar.specs.rules.Operations.{Memory, actor, refusal, perform, outcome, act}
-use Rattle.turn_file.specs.declared.Read.the-variants.{End, Refused}
+use Rattle.turn_file.specs.declared.Read.{Read}
+use Rattle.turn_file.specs.declared.Read.the-variants.{Open, Act, End, Refused}
 use Rattle.turn_file.specs.Records.{Record, opens, acts}
 use Rattle.turn_file.specs.Reading.{recordAt, whole}
 use Rattle.turn_file.specs.OneReading.{read-on}
 use Rattle.batch.specs.declared.Stop.the-variants.{Drained, Full, Halted}
 use Rattle.batch.specs.Held.{pastOpening, held, heldAll}
-use Rattle.batch.specs.Batch.{Pool, Answered, opening, acting, Progress, Stopped, hasRoom, wrote, worked, workedAll}
+use Rattle.batch.specs.Held.{onward as held-onward}
+use Rattle.batch.specs.Batch.{Pool, Answered, opening, acting, Progress, Stopped, hasRoom, wrote, onward, worked, workedAll}
 use Rattle.admission.specs.Watched.{inRange, Watched, enqueue-sound, dequeue-sound, step-sound}
 use Rattle.admission.specs.Gate.{gateOf, gate-passed, usable, turn-at-3}
 
@@ -75,23 +77,7 @@ act-watched sh m sound w (Step i) z l =
     (λ e. step-sound sh m i (step-accepted sh (m .store) (m .table) i e)) (idle-tight sh m sound w i z)
 
 -- ── rounds ──
--- h and h₀ of the lent records are held
-pub record Going (bytes : List ℕ) (p₀ : Progress) (h₀ : ℕ) (p : Progress) (h : ℕ) (sound : Bool) : Type 0 where
-  pub left : ℕ
-  pub enough : length bytes - p .at ≤ left
-  pub same : worked (suc left) bytes p ≡ workedAll bytes p₀
-  pub holds : held (suc left) bytes h p ≡ heldAll bytes h₀ p₀
-  pub watched : Watched (p .pool .shape) (p .pool .memory) sound
-
-pub going : (bytes : List ℕ) (p : Progress) (h : ℕ) (sound : Bool) → Watched (p .pool .shape) (p .pool .memory) sound → Going bytes p h p h sound
-going bytes p h sound w = record {
-  left = length bytes;
-  enough = omega arith;
-  same = ap (λ (n : ℕ). worked n bytes p) (omega arith);
-  holds = ap (λ (n : ℕ). held n bytes h p) (omega arith);
-  watched = w;
-}
-
+-- more rounds than there are bytes left change nothing
 abbrev answer : Record → Pool → Answered
 answer (opens sh) x = opening sh x
 answer (acts a) x = acting a x
@@ -99,6 +85,60 @@ answer (acts a) x = acting a x
 abbrev pub holding : Record → Pool → ℕ → ℕ
 holding (opens sh) x h = pastOpening sh x h
 holding (acts a) x h = h
+
+module _ (bytes : List ℕ) where
+  pub worked-enough : (n m : ℕ) (p : Progress) → length bytes - p .at < n → length bytes - p .at < m → worked n bytes p ≡ worked m bytes p
+  unfolding worked
+  worked-enough zero m p h k = absurd (omega arith)
+  worked-enough (suc n) zero p h k = absurd (omega arith)
+  worked-enough (suc n) (suc m) p h k = go (λ q l r. worked-enough n m q l r) (recordAt bytes (p .at)) refl
+    where
+      go : ((q : Progress) → length bytes - q .at < n → length bytes - q .at < m → worked n bytes q ≡ worked m bytes q) → (r : Read)
+          → recordAt bytes (p .at) ≡ r
+          → cond (hasRoom (p .lines) (p .to)) (onward (worked n bytes) p r) (record { progress = p; stop = Full })
+          ≡ cond (hasRoom (p .lines) (p .to)) (onward (worked m bytes) p r) (record { progress = p; stop = Full })
+      go rest (Open sh next) e =
+          let (on, end) = read-on bytes (p .at) (opens sh) next e in
+          ap (λ (q : Stopped). cond (hasRoom (p .lines) (p .to)) q (record { progress = p; stop = Full }))
+          (rest (wrote p next (opening sh (p .pool))) (omega arith) (omega arith))
+      go rest (Act a next) e =
+          let (on, end) = read-on bytes (p .at) (acts a) next e in
+          ap (λ (q : Stopped). cond (hasRoom (p .lines) (p .to)) q (record { progress = p; stop = Full }))
+          (rest (wrote p next (acting a (p .pool))) (omega arith) (omega arith))
+      go rest End e = refl
+      go rest (Refused k) e = refl
+
+  pub held-enough : (n m h : ℕ) (p : Progress) → length bytes - p .at < n → length bytes - p .at < m → held n bytes h p ≡ held m bytes h p
+  unfolding held
+  held-enough zero m h p l k = absurd (omega arith)
+  held-enough (suc n) zero h p l k = absurd (omega arith)
+  held-enough (suc n) (suc m) h p l k = go (λ i q a b. held-enough n m i q a b) (recordAt bytes (p .at)) refl
+    where
+      go : ((i : ℕ) (q : Progress) → length bytes - q .at < n → length bytes - q .at < m → held n bytes i q ≡ held m bytes i q) → (r : Read)
+          → recordAt bytes (p .at) ≡ r
+          → cond (hasRoom (p .lines) (p .to)) (held-onward (held n bytes) h p r) h ≡ cond (hasRoom (p .lines) (p .to)) (held-onward (held m bytes) h p r) h
+      go rest (Open sh next) e =
+          let (on, end) = read-on bytes (p .at) (opens sh) next e in
+          ap (λ (i : ℕ). cond (hasRoom (p .lines) (p .to)) i h) (rest (pastOpening sh (p .pool) h) (wrote p next (opening sh (p .pool))) (omega arith)
+          (omega arith))
+      go rest (Act a next) e =
+          let (on, end) = read-on bytes (p .at) (acts a) next e in
+          ap (λ (i : ℕ). cond (hasRoom (p .lines) (p .to)) i h) (rest h (wrote p next (acting a (p .pool))) (omega arith) (omega arith))
+      go rest End e = refl
+      go rest (Refused k) e = refl
+
+-- From p the same is left to be worked through as from p₀; h and h₀ of the lent records are held.
+pub record Going (bytes : List ℕ) (p₀ : Progress) (h₀ : ℕ) (p : Progress) (h : ℕ) (sound : Bool) : Type 0 where
+  pub same : workedAll bytes p ≡ workedAll bytes p₀
+  pub holds : heldAll bytes h p ≡ heldAll bytes h₀ p₀
+  pub watched : Watched (p .pool .shape) (p .pool .memory) sound
+
+pub going : (bytes : List ℕ) (p : Progress) (h : ℕ) (sound : Bool) → Watched (p .pool .shape) (p .pool .memory) sound → Going bytes p h p h sound
+going bytes p h sound w = record { same = refl; holds = refl; watched = w }
+
+pub going-on : {bytes : List ℕ} {p₀ p₁ p₂ : Progress} {h₀ h₁ h₂ : ℕ} {a b : Bool} → Going bytes p₀ h₀ p₁ h₁ a → Going bytes p₁ h₁ p₂ h₂ b
+    → Going bytes p₀ h₀ p₂ h₂ b
+going-on G K = record { same = K .same ∙ G .same; holds = K .holds ∙ G .holds; watched = K .watched }
 
 module _ (bytes : List ℕ) (p₀ : Progress) (h₀ : ℕ) (p : Progress) (h : ℕ) (sound : Bool) (G : Going bytes p₀ h₀ p h sound) where
   worked-on : (n : ℕ) → hasRoom (p .lines) (p .to) ≡ true → (r : Record) (next : ℕ) → whole r next ≡ recordAt bytes (p .at)
@@ -114,35 +154,33 @@ module _ (bytes : List ℕ) (p₀ : Progress) (h₀ : ℕ) (p : Progress) (h : �
   held-on n room (acts a) next e = rw (room, ← e)
 
   -- one record more
-  pub go-on : hasRoom (p .lines) (p .to) ≡ true → (r : Record) (next : ℕ) → whole r next ≡ recordAt bytes (p .at) → (p′ : Progress)
-      → p′ ≡ wrote p next (answer r (p .pool))
-      → (h′ : ℕ) → h′ ≡ holding r (p .pool) h → (sound′ : Bool) → Watched (p′ .pool .shape) (p′ .pool .memory) sound′ → Going bytes p₀ h₀ p′ h′ sound′
-  go-on room r next e p′ is h′ holds sound′ w = go (G .left) (G .enough) (G .same) (G .holds)
+  pub go-on : hasRoom (p .lines) (p .to) ≡ true → (r : Record) (next : ℕ) → whole r next ≡ recordAt bytes (p .at)
+      → (p′ : Progress) → p′ ≡ wrote p next (answer r (p .pool)) → (h′ : ℕ) → h′ ≡ holding r (p .pool) h
+      → (sound′ : Bool) → Watched (p′ .pool .shape) (p′ .pool .memory) sound′ → Going bytes p₀ h₀ p′ h′ sound′
+  go-on room r next e p′ is h′ holds sound′ w = record {
+    same = ap (workedAll bytes) is ∙ worked-enough bytes (length bytes + 1) (length bytes) q (omega (arith, on .0, on .1)) (omega (arith, on .0, on .1))
+        ∙ sym (worked-on (length bytes) room r next e) ∙ ap (λ (n : ℕ). worked n bytes p) one ∙ G .same;
+    holds = ap (heldAll bytes h′) is ∙ ap (λ (i : ℕ). heldAll bytes i q) holds
+        ∙ held-enough bytes (length bytes + 1) (length bytes) (holding r (p .pool) h) q (omega (arith, on .0, on .1)) (omega (arith, on .0, on .1))
+        ∙ sym (held-on (length bytes) room r next e) ∙ ap (λ (n : ℕ). held n bytes h p) one ∙ G .holds;
+    watched = w;
+  }
     where
+      q : Progress
+      q = wrote p next (answer r (p .pool))
+
       on : (p .at < next) × (next ≤ length bytes)
       on = read-on bytes (p .at) r next (sym e)
 
-      there : p′ .at ≡ next
-      there = ap (λ (q : Progress). q .at) is
-
-      go : (left : ℕ) → length bytes - p .at ≤ left → worked (suc left) bytes p ≡ workedAll bytes p₀ → held (suc left) bytes h p ≡ heldAll bytes h₀ p₀
-          → Going bytes p₀ h₀ p′ h′ sound′
-      go zero b s k = absurd (omega (arith, on .0, on .1))
-      go (suc left) b s k = record {
-        left = left;
-        enough = omega (arith, on .0, on .1, there);
-        same = ap (worked (suc left) bytes) is ∙ sym (worked-on (suc left) room r next e) ∙ s;
-        holds = ap (held (suc left) bytes h′) is
-            ∙ ap (λ (i : ℕ). held (suc left) bytes i (wrote p next (answer r (p .pool)))) holds
-            ∙ sym (held-on (suc left) room r next e)
-            ∙ k;
-        watched = w;
-      }
+      one : suc (length bytes) ≡ length bytes + 1
+      one = omega arith
 
   -- the ends
   from : (stopped : Stopped) → ((n : ℕ) → stopped ≡ worked (suc n) bytes p) → ((n : ℕ) → h ≡ held (suc n) bytes h p)
       → (stopped ≡ workedAll bytes p₀) × (h ≡ heldAll bytes h₀ p₀)
-  from stopped f g = (f (G .left) ∙ G .same, g (G .left) ∙ G .holds)
+  from stopped f g =
+      let one : suc (length bytes) ≡ length bytes + 1 = omega arith in
+      (f (length bytes) ∙ ap (λ (n : ℕ). worked n bytes p) one ∙ G .same, g (length bytes) ∙ ap (λ (n : ℕ). held n bytes h p) one ∙ G .holds)
 
   pub drained : hasRoom (p .lines) (p .to) ≡ true → End ≡ recordAt bytes (p .at)
       → (record { progress = p; stop = Drained } ≡ workedAll bytes p₀) × (h ≡ heldAll bytes h₀ p₀)

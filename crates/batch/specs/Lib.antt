@@ -8,6 +8,7 @@ pub mod LentPart
 pub mod BatchLoop
 pub mod RoundArms
 pub mod CodeView
+pub mod Openings
 pub mod TurnFile
 pub mod LinesFit
 pub mod PartOfFile

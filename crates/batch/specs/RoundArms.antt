@@ -246,6 +246,11 @@ module _ {bytes : List ℕ} {p₀ : Progress} {h₀ words records space : ℕ} {
   pub kept : (length t ≡ 64) × (records ≤ 64) × Watched sh (record { store = s; table = take records t }) sound × Tight sh (length s) records sound
   kept = (R .array, R .lent, W, λ up. sym (ap (λ n. openGate sh n records) (R .store)) ∙ R .tight up)
 
+  pub at-limit : leb (to + 89) space ≡ false → hasRoom lines to ≡ true → ⊥
+  at-limit over room =
+      let e : true ≡ false = sym room ∙ ap (leb (to + 89)) (sym (R .buffer)) ∙ over in
+      absurd (let z : _≡_ {A = ℕ} 0 1 = cc in omega arith)
+
   pub at-drained : leb (to + 89) space ≡ true → End ≡ recordAt bytes at
       → (record { progress = at-work sh s (take records t) at lines to; stop = Drained } ≡ workedAll bytes p₀) × (h ≡ heldAll bytes h₀ p₀)
   at-drained fits e = drained bytes p₀ h₀ (at-work sh s (take records t) at lines to) h sound (R .going) (ap (leb (to + 89)) (sym (R .buffer)) ∙ fits) e
@@ -259,6 +264,18 @@ module _ {bytes : List ℕ} {p₀ : Progress} {h₀ words records space : ℕ} {
   at-full over stop still =
       let end = full bytes p₀ h₀ (at-work sh s (take records t) at lines to) h sound (R .going) (ap (leb (to + 89)) (sym (R .buffer)) ∙ over) in
       (ap (λ (z : Stop). record { progress = at-work sh s (take records t) at lines to; stop = z }) still ∙ end .0, end .1)
+
+-- ── an opening, refused or not ──
+abbrev pub openingResponse : ℕ → Response
+openingResponse k = cond (eqb k 0) Opened (Refused k)
+
+-- a record of what the loop keeps, from what the pool is known for
+pub round-of : {bytes : List ℕ} {p₀ : Progress} {h₀ : ℕ} (sh : Shape) (s : List ℕ) (records : ℕ) (t : List Worker) (at : ℕ) (lines : List ℕ) (to : ℕ)
+    (sound : Bool) (h : ℕ)
+    → Going bytes p₀ h₀ (at-work sh s (take records t) at lines to) h sound → length t ≡ 64 → records ≤ 64 → Tight sh (length s) records sound
+    → Round bytes p₀ h₀ (length s) records (length lines) sh s t at lines to sound h
+round-of sh s records t at lines to sound h going array lent tight =
+    record { going = going; store = refl; array = array; lent = lent; buffer = refl; tight = tight }
 
 -- ── what was read ──
 module _ (bytes : List ℕ) (at : ℕ) (r : Read) (read : r ≡ recordAt bytes at) where
