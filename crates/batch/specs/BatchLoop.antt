@@ -9,7 +9,6 @@ use lib.Dec.{eqb, leb}
 use lib.ListN.{length}
 use borrow.Author.Tests.{eqb-true, eqb-false, leb-true, leb-false, le-leb, lt-leb}
 use Rattle.arrival.specs.declared.Shape.{Shape}
-use Rattle.arrival.specs.declared.Arrival.{Arrival}
 use Rattle.arrival.specs.declared.Worker.{Worker}
 use Rattle.arrival.specs.declared.Action.{Action}
 use Rattle.arrival.specs.declared.Action.the-variants.{Enqueue, Dequeue, Step}
@@ -135,10 +134,6 @@ pub record Going (bytes : List ℕ) (p₀ : Progress) (h₀ : ℕ) (p : Progress
 
 pub going : (bytes : List ℕ) (p : Progress) (h : ℕ) (sound : Bool) → Watched (p .pool .shape) (p .pool .memory) sound → Going bytes p h p h sound
 going bytes p h sound w = record { same = refl; holds = refl; watched = w }
-
-pub going-on : {bytes : List ℕ} {p₀ p₁ p₂ : Progress} {h₀ h₁ h₂ : ℕ} {a b : Bool} → Going bytes p₀ h₀ p₁ h₁ a → Going bytes p₁ h₁ p₂ h₂ b
-    → Going bytes p₀ h₀ p₂ h₂ b
-going-on G K = record { same = K .same ∙ G .same; holds = K .holds ∙ G .holds; watched = K .watched }
 
 module _ (bytes : List ℕ) (p₀ : Progress) (h₀ : ℕ) (p : Progress) (h : ℕ) (sound : Bool) (G : Going bytes p₀ h₀ p h sound) where
   worked-on : (n : ℕ) → hasRoom (p .lines) (p .to) ≡ true → (r : Record) (next : ℕ) → whole r next ≡ recordAt bytes (p .at)

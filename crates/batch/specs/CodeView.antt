@@ -1,24 +1,19 @@
 -- A batch as the code has it: the pool and the lent slices, before and after. Assumes nothing.
 use mathlib.Core.Path.{_≡_}
-use mathlib.Core.Bool.{true}
-use mathlib.Core.List.{List, _++_}
-use Prim.Native.Nat.{ℕ, _-_, _≤_}
-use lib.ListN.{length, take, drop, replicate}
+use mathlib.Core.Bool.{Bool}
+use mathlib.Core.List.{List}
+use Prim.Native.Nat.{ℕ, _≤_}
+use lib.ListN.{length, take}
 use Rattle.arrival.specs.declared.Shape.{Shape}
 use Rattle.arrival.specs.declared.Worker.{Worker}
 use Rattle.calendar.specs.rules.Operations.{Memory}
-use Rattle.calendar.specs.rules.Ranges.{blank}
-use Rattle.turn_file.specs.declared.Read.{Read}
-use Rattle.turn_file.specs.declared.Read.the-variants.{Open, Act, End, Refused}
-use Rattle.turn_file.specs.Reading.{recordAt}
 use Rattle.batch.specs.declared.HeldPool.{HeldPool}
-use Rattle.batch.specs.declared.Acted.{Acted}
-use Rattle.batch.specs.Held.{greater}
 use Rattle.batch.specs.declared.Progress as declared
-use Rattle.batch.specs.Batch.{Progress, Stopped, hasRoom}
+use Rattle.batch.specs.declared.Stop.{Stop}
+use Rattle.batch.specs.Batch.{Progress, Stopped}
 use Rattle.admission.specs.Watched.{Watched}
 use Rattle.admission.specs.Gate.{Tight}
-use Rattle.batch.specs.BatchLoop.{at-work, Going}
+use Rattle.batch.specs.BatchLoop.{at-work}
 
 -- the array's records that stand for the lent ones
 abbrev pub lentRecords : HeldPool → List Worker
@@ -37,29 +32,10 @@ begins d s at lines to = at-work (d .shape) s (lentRecords d) at lines to
 abbrev pub ends : List ℕ → List ℕ → declared.Progress → Stopped
 ends s lines r = record { progress = begins (r .pool) s (r .at) lines (r .to); stop = r .stop }
 
--- the pool past an opening that is not refused
-abbrev pub openedPool : Shape → HeldPool → HeldPool
-openedPool sh d = record {
-  shape = sh;
-  sound = true;
-  records = d .records;
-  held = greater (d .held) (sh .workers);
-  table = replicate (sh .workers) blank ++ drop (sh .workers) (d .table);
-}
+-- the pool of these
+abbrev pub heldOf : Shape → Bool → ℕ → ℕ → List Worker → HeldPool
+heldOf sh sound records held t = record { shape = sh; sound = sound; records = records; held = held; table = t }
 
-abbrev pub NoAction : Read → Type 0
-NoAction (Open sh next) = Unit {0}
-NoAction (Act a next) = ⊥
-NoAction End = Unit {0}
-NoAction (Refused k) = Unit {0}
-
--- What starts and turns leave: the same is left to be worked through, and with room for a line what follows is no start or turn.
-abbrev pub Ran : List ℕ → HeldPool → List ℕ → ℕ → List ℕ → ℕ → List ℕ → List ℕ → Acted → Type 0
-Ran bytes d s at lines to s′ lines′ r =
-    Going bytes (begins d s at lines to) (d .held) (begins (r .pool) s′ (r .at) lines′ (r .to)) (r .pool .held) (r .pool .sound)
-    × Sound (r .pool) s′
-    × (r .pool .records ≡ d .records)
-    × (length s′ ≡ length s)
-    × (length lines′ ≡ length lines)
-    × (length bytes - r .at ≤ length bytes - at)
-    × (hasRoom lines′ (r .to) ≡ true → NoAction (recordAt bytes (r .at)))
+-- where a batch is left with these
+abbrev pub stoppedOf : Shape → Bool → ℕ → ℕ → List Worker → ℕ → ℕ → Stop → declared.Progress
+stoppedOf sh sound records held t at to stop = record { pool = heldOf sh sound records held t; at = at; to = to; stop = stop }

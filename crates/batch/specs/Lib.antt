@@ -9,6 +9,8 @@ pub mod BatchLoop
 pub mod RoundArms
 pub mod CodeView
 pub mod Openings
+pub mod ActHeld
+pub mod Stopping
 pub mod TurnFile
 pub mod LinesFit
 pub mod PartOfFile

@@ -8,7 +8,7 @@ use native.Mathlib.Omega.{arith}
 use lib.Dec.{eqb, leb}
 use lib.ListN.{length, take, set, drop, replicate, length-set}
 use lib.Seq.{length-take-le, getD-take, take-set-lt}
-use borrow.Author.Tests.{le-leb, lt-leb, eq-eqb, ne-eqb}
+use borrow.Author.Tests.{eq-eqb, ne-eqb}
 use Rattle.arrival.specs.declared.Shape.{Shape}
 use Rattle.arrival.specs.declared.Worker.{Worker}
 use Rattle.arrival.specs.declared.Action.{Action}
@@ -21,7 +21,6 @@ use Rattle.calendar.specs.rules.Opening.{openStore, openTable}
 use Rattle.calendar.specs.facts.Accepted.{Lent, Usable, open-accepted}
 use Rattle.calendar.specs.rules.Operations.{Memory, Result, actor, act, open-pool}
 use Rattle.calendar.specs.facts.Untouched.{act-same-size, open-same-size}
-use Rattle.words.specs.Laid.{Laid, laid}
 use Rattle.words.specs.Done.{Done}
 use Rattle.operation.specs.LocalAct.{Admitted, admitted, localAct, LowFor, back, act-is}
 use Rattle.turn_file.specs.declared.Read.{Read}
@@ -92,9 +91,6 @@ module _ {bytes : List ℕ} {p₀ : Progress} {h₀ words records space : ℕ} {
     own : worker (take records t) i ≡ worker t i
     own = getD-take records t i blank is-lent
 
-    pub laid-out : Laid sh s
-    laid-out = laid sh s (in-use .lent .limits) (in-use .lent .store)
-
     pub let-in : Admitted sh s (worker t i)
     let-in = subst (λ (w : Worker). Admitted sh s w) own (admitted sh s (take records t) i in-use)
 
@@ -106,10 +102,7 @@ module _ {bytes : List ℕ} {p₀ : Progress} {h₀ words records space : ℕ} {
     pub lent-to : Lent sh′ s (take records t)
     lent-to = open-accepted sh′ s (take records t) no-refusal
 
-    pub laid-for : Laid sh′ s
-    laid-for = laid sh′ s (lent-to .limits) (lent-to .store)
-
-    pub array-cleared : (t′ : List Worker) → t′ ≡ replicate (sh′ .workers) blank ++ drop (sh′ .workers) t → length t′ ≡ 64
+    array-cleared : (t′ : List Worker) → t′ ≡ replicate (sh′ .workers) blank ++ drop (sh′ .workers) t → length t′ ≡ 64
     array-cleared t′ table = ap length table ∙ over-length blank t (sh′ .workers) (omega (arith, lent-to .limits .workers, R .array)) ∙ R .array
 
   -- the least ticket of the array's workers is that of the lent ones
@@ -185,16 +178,6 @@ module _ {bytes : List ℕ} {p₀ : Progress} {h₀ words records space : ℕ} {
           (subst⁻¹ (λ b. Watched sh (act sh m a .memory) (not b)) (is-leak ∙ ap (actionLeaks sh s a) o) (act-watched sh m sound W a g))
           (λ _. gate-opens sh words records i sound (sym is ∙ z))
 
-    -- the same, where the code has read the worker's number
-    pub performed-at : (a : Action) (i : ℕ) → i ≡ actor a → Act a next ≡ recordAt bytes at → (k : ℕ) → k ≡ gateOf sh words records i sound → k ≡ 0
-        → (s′ : List ℕ) (w′ : Worker) (low : ℕ) → LowFor sh t a low → (leak : Bool) → leak ≡ actionLeaks sh s a (worker t i)
-        → record { store = s′; worker = w′; response = l } ≡ localAct sh low s a (worker t i)
-        → Round bytes p₀ h₀ words records space sh s′ (set t i w′) next lines′ to′ (not leak) h
-    performed-at a i named e k is z s′ w′ low least leak is-leak d =
-        subst⁻¹ (λ (j : ℕ). Round bytes p₀ h₀ words records space sh s′ (set t j w′) next lines′ to′ (not leak) h) named
-        (performed a e k (is ∙ ap (λ (j : ℕ). gateOf sh words records j sound) named) z s′ w′ low least leak
-        (is-leak ∙ ap (λ (j : ℕ). actionLeaks sh s a (worker t j)) named) (d ∙ ap (λ (j : ℕ). localAct sh low s a (worker t j)) named))
-
     -- an opening with what it leaves
     opened-with : (sh′ : Shape) → Open sh′ next ≡ recordAt bytes at → (sh″ : Shape) (s′ : List ℕ) (t′ : List Worker) → length t′ ≡ 64
         → sh″ ≡ cond (eqb (openRefusal sh′ s (take records t)) 0) sh′ sh
@@ -246,11 +229,6 @@ module _ {bytes : List ℕ} {p₀ : Progress} {h₀ words records space : ℕ} {
   pub kept : (length t ≡ 64) × (records ≤ 64) × Watched sh (record { store = s; table = take records t }) sound × Tight sh (length s) records sound
   kept = (R .array, R .lent, W, λ up. sym (ap (λ n. openGate sh n records) (R .store)) ∙ R .tight up)
 
-  pub at-limit : leb (to + 89) space ≡ false → hasRoom lines to ≡ true → ⊥
-  at-limit over room =
-      let e : true ≡ false = sym room ∙ ap (leb (to + 89)) (sym (R .buffer)) ∙ over in
-      absurd (let z : _≡_ {A = ℕ} 0 1 = cc in omega arith)
-
   pub at-drained : leb (to + 89) space ≡ true → End ≡ recordAt bytes at
       → (record { progress = at-work sh s (take records t) at lines to; stop = Drained } ≡ workedAll bytes p₀) × (h ≡ heldAll bytes h₀ p₀)
   at-drained fits e = drained bytes p₀ h₀ (at-work sh s (take records t) at lines to) h sound (R .going) (ap (leb (to + 89)) (sym (R .buffer)) ∙ fits) e
@@ -265,10 +243,6 @@ module _ {bytes : List ℕ} {p₀ : Progress} {h₀ words records space : ℕ} {
       let end = full bytes p₀ h₀ (at-work sh s (take records t) at lines to) h sound (R .going) (ap (leb (to + 89)) (sym (R .buffer)) ∙ over) in
       (ap (λ (z : Stop). record { progress = at-work sh s (take records t) at lines to; stop = z }) still ∙ end .0, end .1)
 
--- ── an opening, refused or not ──
-abbrev pub openingResponse : ℕ → Response
-openingResponse k = cond (eqb k 0) Opened (Refused k)
-
 -- a record of what the loop keeps, from what the pool is known for
 pub round-of : {bytes : List ℕ} {p₀ : Progress} {h₀ : ℕ} (sh : Shape) (s : List ℕ) (records : ℕ) (t : List Worker) (at : ℕ) (lines : List ℕ) (to : ℕ)
     (sound : Bool) (h : ℕ)
@@ -276,6 +250,12 @@ pub round-of : {bytes : List ℕ} {p₀ : Progress} {h₀ : ℕ} (sh : Shape) (s
     → Round bytes p₀ h₀ (length s) records (length lines) sh s t at lines to sound h
 round-of sh s records t at lines to sound h going array lent tight =
     record { going = going; store = refl; array = array; lent = lent; buffer = refl; tight = tight }
+
+-- the same, of the lengths as they are now
+pub settled : {bytes : List ℕ} {p₀ : Progress} {h₀ words records space : ℕ} {sh : Shape} {s : List ℕ} {t : List Worker} {at : ℕ} {lines : List ℕ} {to : ℕ}
+    {sound : Bool} {h : ℕ} → Round bytes p₀ h₀ words records space sh s t at lines to sound h
+    → Round bytes p₀ h₀ (length s) records (length lines) sh s t at lines to sound h
+settled R = round-of _ _ _ _ _ _ _ _ _ (R .going) (R .array) (R .lent) (kept R .3)
 
 -- ── what was read ──
 module _ (bytes : List ℕ) (at : ℕ) (r : Read) (read : r ≡ recordAt bytes at) where

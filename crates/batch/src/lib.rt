@@ -1,18 +1,21 @@
 // A batch of a turn file against a pool: whole records in, lines out.
 ghost use mathlib.Core.Path.{_≡_};
 ghost use mathlib.Core.Bool.{cond};
-ghost use Prim.Native.Nat.{_+_, _≤_};
+ghost use Prim.Native.Nat.{_+_, _<_};
 ghost use lib.Dec.{eqb, leb};
 ghost use lib.ListN.{length};
-ghost use Rattle.admission.specs.Gate.{openGate};
+ghost use Rattle.admission.specs.Gate.{gateOf, openGate, Tight};
 ghost use Rattle.calendar.specs.rules.Opening.{openStore};
 ghost use Rattle.calendar.specs.facts.RangesKept.{leaks};
 ghost use Rattle.stages.specs.Ready.{Ready};
 ghost use Rattle.batch.specs.Batch.{workedAll};
 ghost use Rattle.batch.specs.BatchLoop.{actionLeaks};
 ghost use Rattle.batch.specs.Held.{heldAll};
-ghost use Rattle.batch.specs.CodeView.{begins, ends, Sound, Ran, openedPool};
-ghost use Rattle.batch.specs.RoundArms.{Line, openingResponse};
+ghost use Rattle.batch.specs.CodeView.{begins, ends, Sound, heldOf, stoppedOf};
+ghost use Rattle.batch.specs.Tickets.{ticketsOf};
+ghost use Rattle.batch.specs.ActHeld.{Did, placeOf};
+ghost use Rattle.calendar.specs.rules.Operations.{actor as actorOf};
+ghost use Rattle.operation.specs.LocalAct.{Admitted};
 use admission::gate;
 use admission::open_gate;
 use arrival::Action;
@@ -113,85 +116,73 @@ fn open_lent(shape: Shape, records: usize, store: &mut [u64]) -> u64
     0
 }
 
-// The pool past an opening that was refused by k, or by none.
-fn opened_pool(pool: HeldPool, shape: Shape, k: u64) -> HeldPool
-    requires { ⌜ (k ≡ 0 → shape .workers ≤ 64) ⌝ }
-    ensures { λ r. ⌜ r ≡ cond (eqb k 0) (openedPool shape pool) pool ⌝ }
-{
-    if k != 0 {
-        return pool;
-    }
-    let n = shape.workers as usize;
-    let records = pool.table;
-    let table = cleared(records, n);
-    HeldPool {
-        shape,
-        sound: true,
-        records: pool.records,
-        held: greater(pool.held, n),
-        table,
-    }
-}
-
-// The line of such an opening.
-fn write_opening(k: u64, out: &mut [u8], to: usize) -> usize
-    ensures { λ r. ⌜ Line (now (out .entry)) to (openingResponse k) (now (out .exit)) r ⌝ }
-{
-    if k != 0 {
-        return write_refusal(k, out, to);
-    }
-    write_opened(out, to)
-}
-
-// How far starts and turns were worked through.
+// What a start or turn leaves: the worker's record, whether all is in range, the place of the next line.
 struct Acted {
-    pool: HeldPool,
-    at: usize,
+    worker: Worker,
+    sound: bool,
     to: usize,
 }
 
-// Works through starts and turns, up to what is none or a line that may not fit.
-fn run_actions(
-    pool: HeldPool,
-    input: &[u8],
-    mut at: usize,
+// A start or turn of the record w, and its line.
+fn act_held(
+    shape: Shape,
+    records: usize,
+    sound: bool,
+    action: Action,
+    w: Worker,
+    tickets: &[u64; 64],
     out: &mut [u8],
-    mut to: usize,
+    to: usize,
     store: &mut [u64],
 ) -> Acted
-    requires { ⌜ Sound pool (now store) ⌝ }
-    ensures { λ r. ⌜ Ran (now (input .entry)) pool (now (store .entry)) at (now (out .entry)) to (now (store .exit)) (now (out .exit)) r ⌝ }
+    requires { ⌜ Tight shape (length (now store)) records sound ⌝ }
+    requires { ⌜ (gateOf shape (length (now store)) records (actorOf action) sound ≡ 0 → Admitted shape (now store) w) ⌝ }
+    ensures { λ r. ⌜ Did shape records sound action w (now (tickets .entry)) (now (out .entry)) to (now (store .entry)) (now (store .exit))
+        (now (out .exit)) r ⌝ }
 {
-    let shape = pool.shape;
-    let mut sound = pool.sound;
-    let records = pool.records;
-    let mut table = pool.table;
-    let mut tickets = tickets_of(table);
-    let words = store.len();
-    let room = out.len();
-    while has_room(room, to) {
-        let record = read_record(input, at);
-        let Read::Act(action, next) = record else {
-            break;
+    let k = gate(shape, store.len(), records, actor(action), sound);
+    if k != 0 {
+        let next = write_refusal(k, out, to);
+        return Acted {
+            worker: w,
+            sound,
+            to: next,
         };
-        let i = actor(action);
-        let k = gate(shape, words, records, i, sound);
-        if k != 0 {
-            to = write_refusal(k, out, to);
-        } else {
-            let w = table[i as usize];
-            let low = low_for(action, &tickets, shape.workers as usize);
-            sound = !action_leaks(shape, action, w, store);
-            let reply = perform(shape, low, action, w, store);
-            let worker = reply.worker;
-            let response = reply.response;
-            table[i as usize] = worker;
-            tickets[i as usize] = lower_ticket(word::COUNTS, worker);
-            to = write_line(response, out, to);
-        }
-        at = next;
     }
-    let held = pool.held;
+    let low = low_for(action, tickets, shape.workers as usize);
+    let leaks = action_leaks(shape, action, w, store);
+    let reply = perform(shape, low, action, w, store);
+    let worker = reply.worker;
+    let response = reply.response;
+    let next = write_line(response, out, to);
+    Acted {
+        worker,
+        sound: !leaks,
+        to: next,
+    }
+}
+
+// Where the record of an action's worker stands; the last place, if there is none.
+fn place_of(action: Action) -> usize
+    ensures { λ r. ⌜ (r ≡ placeOf action) × (r < 64) ⌝ }
+{
+    let i = actor(action);
+    if i < 64 { i as usize } else { 63 }
+}
+
+// How far the batch was worked through, of these.
+fn stopped_at(
+    shape: Shape,
+    sound: bool,
+    records: usize,
+    held: usize,
+    table: [Worker; 64],
+    at: usize,
+    to: usize,
+    stop: Stop,
+) -> Progress
+    ensures { λ r. ⌜ r ≡ stoppedOf shape sound records held table at to stop ⌝ }
+{
     let pool = HeldPool {
         shape,
         sound,
@@ -199,45 +190,57 @@ fn run_actions(
         held,
         table,
     };
-    Acted { pool, at, to }
+    Progress { pool, at, to, stop }
 }
 
-// Works through the records from `at` on and writes their lines from `to` on, while the longest line fits.
-pub fn run_batch(
-    mut pool: HeldPool,
+// The loop over the records, while the longest line fits.
+fn work(
+    mut shape: Shape,
+    mut sound: bool,
+    records: usize,
+    mut held: usize,
+    mut table: [Worker; 64],
+    mut tickets: [u64; 64],
     input: &[u8],
     mut at: usize,
     out: &mut [u8],
     mut to: usize,
     store: &mut [u64],
 ) -> Progress
-    requires { ⌜ Sound pool (now store) ⌝ }
-    ensures { λ r. ⌜ (ends (now (store .exit)) (now (out .exit)) r ≡ workedAll (now (input .entry)) (begins pool (now (store .entry)) at (now (out .entry)) to))
-        × Sound (r .pool) (now (store .exit)) × (r .pool .records ≡ pool .records)
-        × (r .pool .held ≡ heldAll (now (input .entry)) (pool .held) (begins pool (now (store .entry)) at (now (out .entry)) to)) ⌝ }
+    requires { ⌜ Sound (heldOf shape sound records held table) (now store) × (tickets ≡ ticketsOf table) ⌝ }
+    ensures { λ r. ⌜ (ends (now (store .exit)) (now (out .exit)) r
+        ≡ workedAll (now (input .entry)) (begins (heldOf shape sound records held table) (now (store .entry)) at (now (out .entry)) to))
+        × Sound (r .pool) (now (store .exit)) × (r .pool .records ≡ records)
+        × (r .pool .held ≡ heldAll (now (input .entry)) held (begins (heldOf shape sound records held table) (now (store .entry)) at (now (out .entry)) to)) ⌝ }
 {
-    let room = out.len();
     let mut stop = Stop::Full;
-    loop {
-        let acted = run_actions(pool, input, at, out, to, store);
-        let after = acted.pool;
-        pool = after;
-        at = acted.at;
-        to = acted.to;
-        if !has_room(room, to) {
-            break;
-        }
+    while has_room(out.len(), to) {
         let record = read_record(input, at);
         match record {
-            Read::Open(shape, next) => {
-                let k = open_lent(shape, pool.records, store);
-                let opened = opened_pool(pool, shape, k);
-                pool = opened;
-                to = write_opening(k, out, to);
+            Read::Open(opened, next) => {
+                let k = open_lent(opened, records, store);
+                if k != 0 {
+                    to = write_refusal(k, out, to);
+                } else {
+                    table = cleared(table, opened.workers as usize);
+                    tickets = tickets_of(table);
+                    held = greater(held, opened.workers as usize);
+                    shape = opened;
+                    sound = true;
+                    to = write_opened(out, to);
+                }
                 at = next;
             }
-            Read::Act(_, _) => {
-                break;
+            Read::Act(action, next) => {
+                let j = place_of(action);
+                let w = table[j];
+                let acted = act_held(shape, records, sound, action, w, &tickets, out, to, store);
+                let worker = acted.worker;
+                table[j] = worker;
+                tickets[j] = lower_ticket(word::COUNTS, worker);
+                sound = acted.sound;
+                to = acted.to;
+                at = next;
             }
             Read::End => {
                 stop = Stop::Drained;
@@ -249,5 +252,37 @@ pub fn run_batch(
             }
         }
     }
-    Progress { pool, at, to, stop }
+    stopped_at(shape, sound, records, held, table, at, to, stop)
+}
+
+// Works through the records from `at` on and writes their lines from `to` on, while the longest line fits.
+pub fn run_batch(
+    pool: HeldPool,
+    input: &[u8],
+    at: usize,
+    out: &mut [u8],
+    to: usize,
+    store: &mut [u64],
+) -> Progress
+    requires { ⌜ Sound pool (now store) ⌝ }
+    ensures { λ r. ⌜ (ends (now (store .exit)) (now (out .exit)) r ≡ workedAll (now (input .entry)) (begins pool (now (store .entry)) at (now (out .entry)) to))
+        × Sound (r .pool) (now (store .exit)) × (r .pool .records ≡ pool .records)
+        × (r .pool .held ≡ heldAll (now (input .entry)) (pool .held) (begins pool (now (store .entry)) at (now (out .entry)) to)) ⌝ }
+{
+    let shape = pool.shape;
+    let table = pool.table;
+    let tickets = tickets_of(table);
+    work(
+        shape,
+        pool.sound,
+        pool.records,
+        pool.held,
+        table,
+        tickets,
+        input,
+        at,
+        out,
+        to,
+        store,
+    )
 }

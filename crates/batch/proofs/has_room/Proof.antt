@@ -4,7 +4,6 @@ use Prim.Native.Nat.{_+_}
 use native.Mathlib.Omega.{arith}
 use borrow.Author.Tests.{lt-leb}
 use Rattle.batch.specs.BatchLoop.{room-from}
-use borrow.Author.Needs.{needs}
 use Rattle.batch.proofs.has_room.Statement.{statement}
 use Rattle.batch.proofs.has_room.Tie as tie
 

@@ -1,8 +1,8 @@
 -- The least of the tickets so far. Assumes nothing.
-use mathlib.Core.Path.{_≡_, refl, sym, ap, _∙_}
-use Prim.Native.Nat.{ℕ, _≤_, _-_}
+use mathlib.Core.Path.{_≡_, sym, ap, _∙_}
+use Prim.Native.Nat.{_≤_, _-_}
 use native.Mathlib.Omega.{arith}
-use Rattle.batch.specs.Tickets.{leastOf, least, least-of-none, least-of-more, least-at-most}
+use Rattle.batch.specs.Tickets.{leastOf, least-of-none, least-of-more, least-at-most}
 use borrow.Author.Needs.{needs}
 use Rattle.batch.proofs.tickets.least_of.Statement.{statement}
 use Rattle.batch.proofs.tickets.least_of.Tie as tie
