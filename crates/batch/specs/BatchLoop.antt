@@ -1,4 +1,10 @@
--- The loop over a batch, round by round: what is still to be worked is what was to be worked at first. Assumes nothing.
+-- The loop over a batch, round by round: what is still to be worked is what was to be worked at first.
+--     at-work, actionLeaks, act-watched     the loop's words; the flag past a start or turn
+--     worked-enough, held-enough            as many rounds as there are bytes are enough
+--     Going, going, go-on                   what a round keeps; at first; past one record
+--     drained, halted, full                 what is left at the three ends
+--     room-from                             the test for room, as the code has it
+-- Assumes nothing.
 use mathlib.Core.Path.{_≡_, refl, sym, ap, _∙_}
 use mathlib.Core.List.{List}
 use mathlib.Core.Bool.{Bool, true, false, cond, not}

@@ -1,4 +1,12 @@
--- One round of the loop, arm by arm: from what the code has at its end to what is still to be worked. Assumes nothing.
+-- One round of the loop, arm by arm: from what the code has at its end to what is still to be worked.
+--     Round                              what the loop keeps
+--     in-use, below-64, let-in           what a gate that refuses nothing tells
+--     lent-to                            what an opening that is not refused tells
+--     turned-away, performed             a start or turn is a round
+--     not-opened, opened                 an opening is a round
+--     at-drained, at-halted, at-full     the three ends
+--     first-round                        before the loop
+-- Assumes nothing.
 use mathlib.Core.Path.{_≡_, refl, sym, ap, _∙_, subst, subst⁻¹}
 use mathlib.Core.List.{List, _++_}
 use mathlib.Core.Bool.{Bool, true, false, cond, not}

@@ -1,4 +1,4 @@
-//! The arrival pool, written from the request alone: a calendar queue whose calls advance by
+//! The arrival pool, written from its rules alone: a calendar queue whose calls advance by
 //! single steps, over memory that the caller lends.
 //!
 //! The four entry points are [`open`], [`enqueue_start`], [`dequeue_start`] and

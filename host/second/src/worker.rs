@@ -17,7 +17,7 @@ pub struct Worker {
     pub link_seen: u64,
     /// The current word seen.
     pub current_seen: u64,
-    /// The stamp of the call.
+    /// The ticket of the call.
     pub ticket: u64,
 }
 

@@ -1,4 +1,4 @@
-//! Every case of the section of arrivals to check by hand.
+//! Every case by hand of docs/RULES.md.
 
 mod common;
 

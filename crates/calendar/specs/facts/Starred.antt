@@ -1,4 +1,4 @@
--- The starred cases of "Arrivals to check by hand", as one table under one theorem: computed, entry by entry.
+-- The starred cases (docs/RULES.md, cases by hand), as one table under one theorem: computed, entry by entry.
 --     Case                                             a history after an opening, its responses, and current at its end
 --     two-workers, arrival, turns, put, take, lent     what the cases are made of
 --     table                                            the thirteen cases
