@@ -1,4 +1,15 @@
--- Refusals 1 to 4 by the flag, before the worker's record is looked at: an action is refused by one of them, or by the first of its own. Assumes nothing.
+-- Refusals 1 to 4 by the flag, before the worker's record is looked at: an action is refused by one of them, or by the first of its own.
+--     gateOf, gate-passed            the first of 1 to 4; where there is none the flag is up and the worker exists
+--     ownOf                          an action's own refusals
+--     usable                         what an action that the gate lets pass may count on
+--     refusal-is, refused-is         the gate's refusal, or the first of its own, is the action's; what the gate refuses does nothing
+--     turn-at-3                      nothing else refuses a turn at stage 3
+--     openGate, open-gate-is         the first of 1 and 2: an opening's refusal
+--     open-passed                    where there is none: the limits of the shape, and enough words and records
+--     Tight, gate-opens, passes      a flag down where 1 or 2 applies; an opening's refusals among the gate's; who passes
+--     soundOf, shape-tests           the flag by a look at every field; a shape within its limits passes its test
+--     sound-opens, sound-watched     where that flag is up 1 and 2 do not apply; it is a flag as `Watched` wants it
+-- Assumes nothing.
 use mathlib.Core.Path.{_≡_, refl, sym, ap, _∙_}
 use mathlib.Core.List.{List, [], _∷_, _++_}
 use mathlib.Core.Bool.{Bool, true, false, cond, not, _||_, _&&_}

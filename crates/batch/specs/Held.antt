@@ -1,4 +1,5 @@
--- How many records a batch holds: those held at first, and all that an opening in it clears. Others it neither reads nor changes (`Beyond`). Assumes nothing.
+-- How many records a batch holds: those held at first, and all that an opening in it clears. Others it neither reads nor changes (RecordsNotHeld).
+-- Assumes nothing.
 use mathlib.Core.Bool.{cond}
 use mathlib.Core.List.{List}
 use Prim.Native.Nat.{ℕ, zero, suc, _+_}

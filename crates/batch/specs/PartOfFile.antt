@@ -1,4 +1,10 @@
--- A batch is a part of its turn file: its text, and then what the file says from where the batch stopped, whatever bytes follow. Assumes nothing.
+-- A batch is a part of its turn file: its text, and then what the file says from where the batch stopped, whatever bytes follow.
+--     same-records, behind-behind     more records than bytes make no difference; lines behind lines
+--     fileFrom                        what the file says from a position on
+--     text, line-behind               the lines that a buffer holds; a line that fits is what it holds more
+--     Reason, PartOf                  why a batch stopped; what a part of the file is: its lines, where it stopped, and that it got on
+--     part-of-file                    a batch is a part of its file
+-- Assumes nothing.
 use mathlib.Core.Path.{_≡_, refl, sym, ap, _∙_}
 use mathlib.Core.Bool.{Bool, true, false, cond}
 use mathlib.Core.List.{List, [], _++_, append-assoc, append-nil}

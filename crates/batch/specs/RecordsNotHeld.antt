@@ -1,4 +1,9 @@
 -- Records behind those that a batch holds are neither read nor changed: on any other table with the same held records it does the same, and keeps the rest.
+--     Alike, Covers                  tables that are alike in the first k records and in how many count; k records are enough for the workers
+--     over, onTable, keepingFrom     the first k records of one table and the rest of another; a batch on it, and what it left with it
+--     all-within                     no more records are held than count
+--     all-alike                      on two tables that are alike a batch does the same, and each keeps what is behind the held records
+--     more, all-beyond               records past the 64th do not matter, and stay
 -- Assumes nothing.
 use mathlib.Core.Path.{_≡_, refl, sym, ap, _∙_, subst}
 use mathlib.Core.Bool.{Bool, true, false, cond}

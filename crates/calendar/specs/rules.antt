@@ -1,4 +1,5 @@
--- What a reader must believe: definitions only, in the order of docs/RULES.md. What is proved of them stands in facts.
+-- What a reader must believe: definitions only, in the order of docs/RULES.md, but that the refusals come behind the turns: they use what is defined
+-- there. What is proved of all this stands in facts.
 pub mod Layout
 pub mod Ranges
 pub mod Opening

@@ -2,7 +2,6 @@
 --     Chains, setChain, set-cases, home                          the chains by bucket, one changed; the bucket of a node
 --     Member, Safe, Follows                                      a node of a chain; safe for a call; what follows a safe node
 --     Lists                                                      the invariant of the lists
---     current-keeps, epoch-keeps                                 writing current or an epoch keeps it
 --     safe-next                                                  what is safe is followed by the end or something safe
 --     Linking                                                    what a put at 5 knows whose swap succeeds
 --     out-not-left, chain-distinct                               what is no spot of a chain; a chain has each node once
@@ -22,7 +21,7 @@ use Rattle.arrival.specs.declared.Shape.{Shape}
 use Rattle.arrival.specs.Keys.{itemBucket, lower-trans, lower-irr}
 use Rattle.laws.specs.Tests.{upd-same, upd-other, upd-cases}
 use Rattle.laws.specs.Lists.{Once}
-use Rattle.calendar.specs.rules.Layout.{word, cell, field}
+use Rattle.calendar.specs.rules.Layout.{cell, field}
 use Rattle.calendar.specs.facts.Views.{View, update, itemIn, Lt}
 use Rattle.lists.specs.Chain.{In, Runs, Spot, Edge, Apart, insertAt, removeAt, runs-frame, spot-not, insert-runs, edge-of, edge-in, remove-runs}
 use Rattle.lists.specs.Chain.{in-insert, insert-in, in-remove, remove-in, removed-ne, in-next, Ascends, distinct, insert-ascends, remove-ascends}
@@ -61,13 +60,6 @@ Lists sh m ch Live = record {
   frozen : (c n k : ℕ) → Live c → n < sh .nodes → m .standing n ≡ 2 + k → c ≤ k
       → (m .cells (sh .buckets + n) / 2 ≡ sh .nodes) ⊎ Follows sh m ch c n (m .cells (sh .buckets + n) / 2);
 }
-
--- An update to current, or to a node's epoch, leaves all this as it is, by computation.
-pub current-keeps : (sh : Shape) (m : View) (ch : Chains) (Live : ℕ → Type 0) (v : ℕ) → Lists sh m ch Live → Lists sh (update (word 0) v m) ch Live
-current-keeps sh m ch Live v I = I
-
-pub epoch-keeps : (sh : Shape) (m : View) (ch : Chains) (Live : ℕ → Type 0) (n v : ℕ) → Lists sh m ch Live → Lists sh (update (field 6 n) v m) ch Live
-epoch-keeps sh m ch Live n v I = I
 
 -- Consequence (b): what is safe is followed by the end or by something safe, of the same bucket and above it.
 pub safe-next : (sh : Shape) (m : View) (ch : Chains) (Live : ℕ → Type 0) → Lists sh m ch Live → (c n : ℕ) → Live c → n < sh .nodes → Safe sh m ch c n

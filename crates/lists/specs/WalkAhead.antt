@@ -10,9 +10,8 @@ use Rattle.calendar.specs.rules.Layout.{cell}
 use Rattle.calendar.specs.facts.Views.{View, update, itemIn, Lt}
 use Rattle.lists.specs.Chain.{In}
 use Rattle.lists.specs.LinkInvariant.{Chains, Safe, Follows, Lists, Linking, Unlinking, unlinked, own-not-left, safe-next}
-use Rattle.lists.specs.Marking.{marked-half}
 use Rattle.lists.specs.Knowledge.{Private, not-private}
-use Rattle.lists.specs.LinkPaths.{Reach, reach-half, reach-link, reach-unlink, reach-outside, run-reach, later-reach}
+use Rattle.lists.specs.LinkPaths.{Reach, reach-link, reach-unlink, reach-outside, run-reach, later-reach}
 
 module _ (sh : Shape) (m : View) (ch : Chains) (Live : ℕ → Type 0) (I : Lists sh m ch Live) (z n : ℕ) (r : Reach sh (m .cells) z n) where
   pub ahead-link : (b left right own : ℕ) → Linking sh m ch b left right own → Reach sh ((update (cell left) (2 * own) m) .cells) z n
@@ -28,9 +27,6 @@ module _ (sh : Shape) (m : View) (ch : Chains) (Live : ℕ → Type 0) (I : List
       reach-unlink sh (m .cells) _ left right (λ e. omega (arith, k .link, k .marked, ap (λ y. m .cells (sh .buckets + y)) e)) (omega (arith, k .was))
       (rw (upd-same left left (2 * (seen / 2)) (m .cells left) refl, k .link) (omega arith))
       (λ q h. upd-other left q (2 * (seen / 2)) (m .cells q) (λ e. h (sym e))) r
-
-  pub ahead-mark : (x seen : ℕ) → m .cells (sh .buckets + x) ≡ seen → Reach sh ((update (cell (sh .buckets + x)) (2 * (seen / 2) + 1) m) .cells) z n
-  ahead-mark x seen was = reach-half sh (m .cells) _ (marked-half sh m ch Live I x seen was) r
 
   pub ahead-private : (c d x v : ℕ) → Live c → n < sh .nodes → z < sh .nodes → Safe sh m ch c n → Private sh m ch d x
       → Reach sh ((update (cell (sh .buckets + x)) v m) .cells) z n

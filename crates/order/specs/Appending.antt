@@ -5,7 +5,7 @@
 --     Longer, marks-snoc                                                      scans where an entry is appended
 --     inv-end, inv-enqueue, inv-empty                                         a call ends; its enqueue, or its empty dequeue, is appended
 --     unscan-mem, inv-scan                                                    a scan is set to the end
---     inv-walk, walked-out, inv-shift                                         a walk goes on; comes to the end of its bucket; the store changes
+--     walked-out, inv-shift                                                   a walk comes to the end of its bucket; the store changes
 -- Assumes nothing.
 use mathlib.Core.Path.{_≡_, refl, sym, _∙_, ap, subst}
 use mathlib.Core.Logic.{_⊎_, inl, inr}
@@ -259,33 +259,6 @@ module _ {K : Keys} (H : Hist) (W W′ : ℕ → Walker K) (S : Q K) (L : Order 
         tt,
       )
       (marks-map H H W W′ S M unchanged (J .marks)))
-
--- ── w walks on: what lies ahead of it is less, but holds what is in the queue ──
-module _ {K : Keys} (H : Hist) (W W′ : ℕ → Walker K) (S : Q K) (L : Order K) (w : ℕ) (I : Inv H W S L) (same : (v : ℕ) → ¬ (v ≡ w) → W′ v ≡ W v)
-    (call : W′ w .call ≡ W w .call) (floor : W′ w .floor ≡ W w .floor) (epoch : W′ w .epoch ≡ W w .epoch)
-    (ahead : (q : Element K) → Mem q (run S L) → W w .Ahead q → W′ w .Ahead q) where
-  pub inv-walk : Inv H W′ S L
-  inv-walk =
-      record {
-        legal = I .legal;
-        aged = I .aged;
-        done = I .done;
-        timely = I .timely;
-        marks = marks-map H H W W′ S L (λ v T D m i g σ. go v T D g σ (ℕ-discrete v w)) (I .marks);
-      }
-    where
-      at-w : (T : Q K) (D : Order K) → run T D ≡ run S L → Sight H (W w) T D → Sight H (W′ w) T D
-      at-w T D g σ = record {
-        kept = σ .kept;
-        above = λ q m. rw floor (σ .above q m);
-        ahead = λ q m e. ahead q (subst (λ R. Mem q R) g (σ .kept q m)) (σ .ahead q m (e ∙ floor));
-        young = λ f m. rw call (σ .young f m);
-        fresh = λ q t m e b. rw epoch (σ .fresh q t m e (rw floor at b));
-      }
-
-      go : (v : ℕ) (T : Q K) (D : Order K) → run T D ≡ run S L → Sight H (W v) T D → Dec (v ≡ w) → Sight H (W′ v) T D
-      go v T D g σ (yes e) = subst (λ u. Sight H (W′ u) T D) (sym e) (at-w T D g (subst (λ u. Sight H (W u) T D) e σ))
-      go v T D g σ (no n) = subst (λ U. Sight H U T D) (sym (same v n)) σ
 
 -- ── w has walked to the end of its bucket, and no enqueue was answered since: nothing in the queue is as low as that bucket (12, 13) ──
 module _ {K : Keys} (H : Hist) (W : ℕ → Walker K) (S : Q K) (L : Order K) (w : ℕ) (I : Inv H W S L) (scanning : Mem (scan w) L)

@@ -1,7 +1,7 @@
 // The by-value turn: one worker's record and the lent store, a function for each stage.
 ghost use mathlib.Core.Path.{_≡_};
 ghost use Prim.Native.Nat.{_≤_};
-ghost use Rattle.words.specs.Done.{gives, refuses};
+ghost use Rattle.words.specs.Done.{gives};
 ghost use Rattle.stages.specs.Gives.{goesOn, answers};
 ghost use Rattle.stages.specs.LocalStep.{localStep};
 ghost use Rattle.stages.specs.Ready.{Ready};

@@ -2,15 +2,14 @@
 use mathlib.Core.Path.{_≡_, refl, _∙_}
 use mathlib.Core.List.{List}
 use mathlib.Core.Bool.{Bool, true, false, cond}
-use Prim.Native.Nat.{ℕ, zero, suc, _+_, _-_, _<_}
+use Prim.Native.Nat.{ℕ, zero, suc, _-_, _<_}
 use native.Mathlib.Omega.{arith}
-use lib.Dec.{ltb}
-use borrow.Author.Tests.{ltb-true}
 use Rattle.arrival.specs.declared.Shape.{Shape}
 use Rattle.arrival.specs.declared.Worker.{Worker}
 use Rattle.calendar.specs.rules.Layout.{field, read, lastNode, standing}
 use Rattle.calendar.specs.facts.Views.{view}
 use Rattle.calendar.specs.facts.RangeFacts.{StoreRanges}
+use Rattle.calendar.specs.facts.FirstFree.{after-below}
 use Rattle.calendar.specs.rules.Reclaim.{nodeAfter, firstFreeOf, firstFree}
 use Rattle.starts.specs.LeastTicket.{leastTicket, freeBelow, free-is}
 
@@ -23,12 +22,8 @@ freeOfBelow sh s low (suc k) n =
 unfoldable pub firstFreeBelow : Shape → List ℕ → ℕ → ℕ
 firstFreeBelow sh s low = freeOfBelow sh s low (sh .nodes) (lastNode sh s)
 
-pub after-below : (sh : Shape) (n : ℕ) → n < sh .nodes → nodeAfter sh n < sh .nodes
-after-below sh n h = go (ltb (n + 1) (sh .nodes)) refl
-  where
-    go : (t : Bool) → ltb (n + 1) (sh .nodes) ≡ t → cond t (n + 1) 0 < sh .nodes
-    go true e = ltb-true _ _ e
-    go false e = omega arith
+pub next-below : (sh : Shape) (n : ℕ) → n < sh .nodes → nodeAfter sh n < sh .nodes
+next-below sh n h = after-below sh n (omega arith)
 
 pub free-none : (sh : Shape) (s : List ℕ) (low n : ℕ) → freeOfBelow sh s low 0 n ≡ sh .nodes
 unfolding freeOfBelow
@@ -58,7 +53,7 @@ module _ (sh : Shape) (s : List ℕ) (t : List Worker) (ranges : StoreRanges sh 
   unfolding freeOfBelow firstFreeOf
   same-of zero n h = refl
   same-of (suc k) n h =
-      let l = after-below sh n h in
+      let l = next-below sh n h in
       rw (free-is sh t (standing sh s (nodeAfter sh n)) (ranges .nodes (nodeAfter sh n) l .standing), same-of k (nodeAfter sh n) l)
 
   pub first-free-is : firstFreeBelow sh s (leastTicket t (sh .workers)) ≡ firstFree sh s t

@@ -4,7 +4,6 @@ use mathlib.Core.List.{List}
 use mathlib.Core.Bool.{Bool, true, false, cond, not, _&&_, _||_}
 use Prim.Native.Nat.{ℕ, zero, suc, _+_, _-_, _<_, _≤_}
 use native.Mathlib.Omega.{arith}
-use native.Mathlib.Numerals.{add-one}
 use lib.Dec.{eqb, leb, ltb}
 use borrow.Author.Tests.{ltb-true, ltb-false, leb-true, leb-false, lt-ltb, le-ltb}
 use Rattle.arrival.specs.declared.Shape.{Shape}
@@ -25,14 +24,6 @@ leastTicket t (suc n) = lower (leastTicket t n) (worker t n)
 -- a standing that is free if `low` is the least ticket in progress
 abbrev pub freeBelow : ℕ → ℕ → Bool
 freeBelow low x = eqb x 0 || (leb 2 x && ltb x (2 + low))
-
-pub least-none : (t : List Worker) → leastTicket t 0 ≡ 4294967296
-unfolding leastTicket
-least-none t = refl
-
-pub least-more : (t : List Worker) (n : ℕ) → leastTicket t (n + 1) ≡ lower (leastTicket t n) (worker t n)
-unfolding leastTicket
-least-more t n = rw add-one
 
 pub least-bound : (t : List Worker) (n : ℕ) → leastTicket t n ≤ 4294967296
 unfolding leastTicket

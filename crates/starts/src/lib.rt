@@ -3,7 +3,7 @@ ghost use mathlib.Core.Path.{_≡_};
 ghost use Prim.Native.Nat.{_<_, _≤_};
 ghost use Rattle.calendar.specs.rules.Layout.{writeAll, started, lastNode};
 ghost use Rattle.calendar.specs.rules.Starts.{fill, enqueueStart, dequeueStart};
-ghost use Rattle.words.specs.Done.{done, gives, refuses};
+ghost use Rattle.words.specs.Done.{done, gives};
 ghost use Rattle.words.specs.Laid.{Laid};
 ghost use Rattle.starts.specs.LocalStart.{earlyRefusal, localEnqueue, localDequeue};
 use arrival::Arrival;

@@ -11,7 +11,6 @@ ghost use Rattle.turns.specs.BetweenRounds.{inHand, holding, leaves, Pla
 ghost use Rattle.turns.specs.RunFollows.{Outcome};
 use arrival::IDLE_WORKER;
 use arrival::Shape;
-use arrival::Worker;
 use batch::HeldPool;
 use batch::Stop;
 use batch::run_batch;

@@ -4,8 +4,8 @@ use Prim.Native.Nat.{ℕ, _+_, _<_, _≤_}
 use native.Mathlib.Omega.{arith}
 use lib.ListN.{length}
 use Rattle.arrival.specs.declared.Shape.{Shape}
-use Rattle.calendar.specs.rules.Layout.{Place, word, cell, field, address, layout, write}
-use Rattle.calendar.specs.facts.Places.{length-write, word-inside, cell-inside, field-inside}
+use Rattle.calendar.specs.rules.Layout.{Place, cell, field, address, layout, write}
+use Rattle.calendar.specs.facts.Places.{length-write, cell-inside, field-inside}
 use Rattle.calendar.specs.facts.RangeFacts.{Limits}
 
 -- the shape's limits that bound addresses, and a store long enough
@@ -23,9 +23,6 @@ pub laid-write : (sh : Shape) (s : List ℕ) (p : Place) (v : ℕ) → Laid sh s
 laid-write sh s p v h = record { some-bucket = h .some-bucket; buckets = h .buckets; nodes = h .nodes; fits = rw length-write (h .fits) }
 
 -- the places of a store that is laid out lie inside
-pub word-in : (sh : Shape) (s : List ℕ) (k : ℕ) → Laid sh s → k < 3 → address sh (word k) < length s
-word-in sh s k h l = omega (arith, word-inside sh k l, h .fits)
-
 pub cell-in : (sh : Shape) (s : List ℕ) (p : ℕ) → Laid sh s → p < sh .buckets + sh .nodes → address sh (cell p) < length s
 cell-in sh s p h l = omega (arith, cell-inside sh p l, h .fits)
 

@@ -1,4 +1,12 @@
--- What the by-value functions leave, and that it is what the operations of the pool are defined to give. Assumes nothing.
+-- What the by-value functions leave, and that it is what the operations of the pool are defined to give.
+--     Told, leaves, told             memory and answer after a call: of what the code left, and of an operation's result
+--     Handles, put-back-told         the same of one record; put back, it is the same of the table
+--     actionOf, actor-of             the action by the kind that the code hands on, and its worker
+--     actOn, refused-on, done-on     refused by 1 to 4, or done; by what the gate said
+--     acted, acted-of                what is done on one record and put back is the operation
+--     away-is, away-of               so is the refusal of a worker past the records that were looked at
+--     opensWords, open-is            what opening the store gives; with the records cleared it is the opening
+-- Assumes nothing.
 use mathlib.Core.Path.{_≡_, refl, ap, _∙_, subst}
 use mathlib.Core.List.{List, _++_}
 use mathlib.Core.Bool.{Bool, true, false, cond}

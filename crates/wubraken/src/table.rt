@@ -12,6 +12,7 @@ use arrival::IDLE_WORKER;
 use arrival::Shape;
 use arrival::Worker;
 use starts::free::lower_ticket;
+use words::word;
 
 // What a look over records finds: whether all are in range, and the least ticket in progress; and how many they are.
 pub struct Survey {
@@ -52,7 +53,7 @@ pub fn survey_table(shape: Shape, table: &[Worker]) -> Survey
     let n = records_surveyed(shape, table.len());
     let mut found = Survey {
         ok: true,
-        low: 4294967296,
+        low: word::COUNTS,
         records: n,
     };
     let mut k: usize = 0;

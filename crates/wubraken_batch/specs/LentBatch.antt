@@ -1,4 +1,12 @@
--- A batch on lent memory, in numbers; that records it does not hold do not matter and are kept, so that it may be run on a copy of the others. Assumes nothing.
+-- A batch on lent memory, in numbers; that records it does not hold do not matter and are kept, so that it may be run on a copy of the others.
+--     stopNumber, Account, account, accountOf     why a batch was left, by number; what is left after one, of the code's and of the definition's
+--     batchOn, heldOn                             the batch from the first byte on, and how many records it holds
+--     keepingFrom, batch-beyond                   records behind the held ones do not matter, and stay
+--     held-within                                 no more are held than count
+--     heldInRange, held-watched                   the flag of held records
+--     copied, copied-bound, back-bound            how many records are copied, and how many are stored back
+--     batch-is                                    what was run on the copy, and stored back, is the batch on the table
+-- Assumes nothing.
 use mathlib.Core.Path.{_≡_, refl, sym, ap, _∙_, subst, subst⁻¹}
 use mathlib.Core.List.{List, _++_}
 use mathlib.Core.Bool.{Bool, true, false, cond}

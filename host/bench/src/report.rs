@@ -43,8 +43,8 @@ impl Target {
 impl fmt::Display for Target {
     fn fmt(&self, f: &mut fmt::Formatter<'_>) -> fmt::Result {
         match self {
-            Self::AtLeast(bound) => write!(f, "at least {bound:.1}"),
-            Self::AtMost(bound) => write!(f, "at most {bound:.1}"),
+            Self::AtLeast(bound) => write!(f, "at least {bound:?}"),
+            Self::AtMost(bound) => write!(f, "at most {bound:?}"),
         }
     }
 }

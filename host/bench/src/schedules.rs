@@ -71,7 +71,7 @@ fn in_memory(arguments: &Arguments, name: &str, pieces: &[Vec<u8>]) {
             time_pieces(&mut Program::new(), pieces)
         }],
     );
-    show("batch entry", arguments.records, entry, library);
+    show("batch entry", arguments.records, entry, library, 1.15);
 }
 
 fn time_pieces(engine: &mut impl Engine, pieces: &[Vec<u8>]) -> Vec<Duration> {
@@ -95,12 +95,12 @@ fn as_programs(arguments: &Arguments, name: &str, input: &[u8]) -> io::Result<()
             vec![pair.time_second()]
         }],
     );
-    show("program turns", arguments.records, turns, second);
+    show("program turns", arguments.records, turns, second, 1.0);
     Ok(())
 }
 
-fn show(name: &str, records: u64, ours: Duration, others: Duration) {
+fn show(name: &str, records: u64, ours: Duration, others: Duration, target: f64) {
     let speeds = [ours, others].map(|time| 1e3 / nanoseconds_each(time, records as usize));
     let ratio = speeds[0] / speeds[1];
-    row(name, speeds, "M/s", ratio, Target::AtLeast(1.0));
+    row(name, speeds, "M/s", ratio, Target::AtLeast(target));
 }

@@ -1,4 +1,9 @@
--- What an operation that is not refused may count on. Assumes nothing.
+-- What an operation that is not refused may count on.
+--     Lent, Usable                                          without refusals 1 and 2; and without 3 and 4
+--     EnqueueAccepted, DequeueAccepted, StepAccepted        and without those of a put, of a take, of a turn
+--     open-accepted                                         an opening that is not refused has the first
+--     enqueue-accepted, dequeue-accepted, step-accepted     an action that is not refused has its own
+-- Assumes nothing.
 use mathlib.Core.Path.{_≡_, refl, sym, ap, _∙_}
 use mathlib.Core.List.{List}
 use mathlib.Core.Bool.{Bool, true, false, cond, not, _&&_, _||_}

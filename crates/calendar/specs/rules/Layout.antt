@@ -14,8 +14,8 @@ use lib.ListN.{getD, set}
 use Rattle.arrival.specs.declared.Shape.{Shape}
 use Rattle.arrival.specs.declared.Item.{Item}
 
--- A place of the store: one of the first three words; a cell, which a record's `left` names (the heads first, then the nodes'
--- links); a field 1 to 7 of a node: time, ticket, path, order, distance, epoch, standing.
+-- A place of the store: one of the first three words; a cell (left word), which a record's `left` names (the heads first, then
+-- the nodes' links); a field 1 to 7 of a node: time, ticket, path, order, distance, epoch, standing.
 pub data Place : Type 0 where
   word : ℕ → Place
   cell : ℕ → Place

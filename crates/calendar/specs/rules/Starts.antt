@@ -10,7 +10,7 @@ use Rattle.arrival.specs.Keys.{bucketOf}
 use Rattle.calendar.specs.rules.Layout.{Write, _≔_, word, field, started, inUse}
 use Rattle.calendar.specs.rules.Outcome.{Outcome}
 
--- A start adds 1 to word 1; that number is the call's ticket.
+-- A start adds 1 to word 1; that number is the call's ticket (stamp).
 abbrev pub nextTicket : Shape → List ℕ → ℕ
 nextTicket sh s = started sh s + 1
 

@@ -2,7 +2,7 @@
 use mathlib.Core.Path.{_≡_, refl, sym, _∙_}
 use Prim.Native.Nat.{_≤_, _<_}
 use native.Mathlib.Omega.{arith}
-use Rattle.starts.specs.FreeSearch.{freeOfBelow, firstFreeBelow, free-none, free-here, free-on, after-below}
+use Rattle.starts.specs.FreeSearch.{freeOfBelow, firstFreeBelow, free-none, free-here, free-on, next-below}
 use borrow.Author.Needs.{needs}
 use Rattle.starts.proofs.free.first_free.Statement.{statement}
 use Rattle.starts.proofs.free.first_free.Tie as tie
@@ -26,7 +26,7 @@ node-after-requires c κs = search needs
 
 get-field-requires : tie.Need-get-field-requires Inv-loop μ-loop
 get-field-requires c κs =
-    omega (arith, c .node-after .ensures, after-below (c .before .before .before .before .before .args .shape) _ (c .before .before .loop .inv .0))
+    omega (arith, c .node-after .ensures, next-below (c .before .before .before .before .before .args .shape) _ (c .before .before .loop .inv .0))
 
 is-free-requires : tie.Need-is-free-requires Inv-loop μ-loop
 is-free-requires c κs = search needs
@@ -39,7 +39,7 @@ returns c = (
   omega (
     arith,
     c .before .before .before .node-after .ensures,
-    after-below (c .before .before .before .before .before .before .before .before .args .shape) _ (c .before .before .before .before .before .loop .inv .0),
+    next-below (c .before .before .before .before .before .before .before .before .args .shape) _ (c .before .before .before .before .before .loop .inv .0),
   ),
 )
 
@@ -51,7 +51,7 @@ loop-less c = search needs
 
 loop-again : tie.Need-loop-again Inv-loop μ-loop
 loop-again c =
-    let l = after-below (c .before .before .before .before .before .before .before .before .args .shape) _
+    let l = next-below (c .before .before .before .before .before .before .before .before .args .shape) _
     (c .before .before .before .before .before .loop .inv .0) in (
       omega (arith, c .before .before .before .node-after .ensures),
       omega arith,

@@ -1,6 +1,6 @@
--- `wubraken::copies::copy_back` meets its contract: a walk of its MIR, by hand, with a loop that stores. Before the loop the array is taken apart into a row of
--- records and the borrow is opened; each turn copies record k out of the array's row, takes record k out of the table's and stores the copy; after the loop the
--- borrow is closed.
+-- `wubraken_batch::copies::copy_back` meets its contract: a walk of its MIR, by hand, with a loop that stores. Before the loop the array is taken apart into a
+-- row of records and the borrow is opened; each turn copies record k out of the array's row, takes record k out of the table's and stores the copy; after the
+-- loop the borrow is closed.
 -- The invariant: the table's row is `storedOf rs ys k`. The variant: k with k ≤ n, ordered by what is left.
 -- Assumes nothing.
 use mathlib.Core.Path.{_≡_, refl, sym, ap, subst, _∙_}

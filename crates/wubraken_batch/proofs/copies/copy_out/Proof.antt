@@ -1,6 +1,6 @@
--- `wubraken::copies::copy_out` meets its contract: a walk of its MIR, by hand, with a loop. Before the loop the array is taken apart into a row of records. In
--- each turn the slice is looked into for record k, which is copied and put back, and the copy is stored into the row; after the loop the row is the array
--- again.
+-- `wubraken_batch::copies::copy_out` meets its contract: a walk of its MIR, by hand, with a loop. Before the loop the array is taken apart into a row of
+-- records. In each turn the slice is looked into for record k, which is copied and put back, and the copy is stored into the row; after the loop the row is
+-- the array again.
 -- The invariant: the row is the first k records over idle ones. The variant: k with k ≤ n, ordered by what is left.
 -- Assumes nothing.
 use mathlib.Core.Path.{_≡_, refl, sym, ap, subst, _∙_}
