@@ -74,6 +74,10 @@ actionOf kind i x = cond (eqb kind 0) (Enqueue i x) (cond (eqb kind 1) (Dequeue 
 abbrev pub noArrival : Arrival
 noArrival = record { time = 0; path = 0; order = 0; distance = 0 }
 
+-- what a call of that kind claims of its answer and of the last store and table
+abbrev pub ActsAs : Shape → ℕ → ℕ → Arrival → List ℕ → List Worker → Answer → List ℕ → List Worker → Type 0
+ActsAs sh kind i x s t r s′ t′ = leaves s′ t′ r ≡ told (act sh (lent s t) (actionOf kind i x))
+
 pub actor-of : (kind i : ℕ) (x : Arrival) → actor (actionOf kind i x) ≡ i
 actor-of kind i x = go (eqb kind 0) (eqb kind 1)
   where
