@@ -5,12 +5,11 @@ use Prim.Native.Nat.{ℕ, zero, suc, _+_}
 use lib.Dec.{eqb, leb}
 use lib.ListN.{length}
 use Rattle.arrival.specs.declared.Shape.{Shape}
-use Rattle.arrival.specs.declared.Action.{Action}
-use Rattle.arrival.specs.declared.Response.{Response}
 use Rattle.calendar.specs.rules.Refusals.{openRefusal}
-use Rattle.calendar.specs.rules.Operations.{Memory, open-pool, act}
+use Rattle.calendar.specs.rules.Operations.{Memory, Result, open-pool, act}
 use Rattle.turn_file.specs.declared.Read.{Read}
 use Rattle.turn_file.specs.declared.Read.the-variants.{Open, Act, End, Refused}
+use Rattle.turn_file.specs.Records.{Record, opens, acts}
 use Rattle.turn_file.specs.Reading.{recordAt}
 use Rattle.turn_file.specs.Lines.{lineOf}
 use Rattle.turn_file.specs.Buffer.{written, after}
@@ -22,24 +21,21 @@ pub record Pool : Type 0 where
   pub shape : Shape
   pub memory : Memory
 
-pub record Answered : Type 0 where
-  pub pool : Pool
-  pub response : Response
+-- what a record of the file does; a start or turn is handed the shape so far
+abbrev pub resultOf : Record → Pool → Result
+resultOf (opens sh) x = open-pool sh (x .memory)
+resultOf (acts a) x = act (x .shape) (x .memory) a
 
 -- An opening sets the shape, unless it is refused.
-unfoldable pub opening : Shape → Pool → Answered
-opening sh x =
-    let r = open-pool sh (x .memory) in
-    record {
-      pool = record { shape = cond (eqb (openRefusal sh (x .memory .store) (x .memory .table)) 0) sh (x .shape); memory = r .memory };
-      response = r .response;
-    }
+abbrev pub shapeAfter : Record → Pool → Shape
+shapeAfter (opens sh) x = cond (eqb (openRefusal sh (x .memory .store) (x .memory .table)) 0) sh (x .shape)
+shapeAfter (acts a) x = x .shape
 
--- A start or turn is handed the shape so far.
-unfoldable pub acting : Action → Pool → Answered
-acting a x =
-    let r = act (x .shape) (x .memory) a in
-    record { pool = record { shape = x .shape; memory = r .memory }; response = r .response }
+abbrev pub poolAfter : Record → Pool → Pool
+poolAfter r x = record { shape = shapeAfter r x; memory = resultOf r x .memory }
+
+abbrev pub lineFor : Record → Pool → List ℕ
+lineFor r x = lineOf (resultOf r x .response)
 
 -- `at`: the next byte to be read; `lines`: the lent buffer; `to`: where the next line goes
 pub record Progress : Type 0 where
@@ -56,18 +52,18 @@ pub record Stopped : Type 0 where
 abbrev pub hasRoom : List ℕ → ℕ → Bool
 hasRoom lines to = leb (to + 89) (length lines)
 
--- the record has been answered, its line written, and the next one stands at `next`
-abbrev pub wrote : Progress → ℕ → Answered → Progress
-wrote p next a = record {
-  pool = a .pool;
+-- r has been answered, its line written, and the next record stands at `next`
+abbrev pub wrote : Progress → Record → ℕ → Progress
+wrote p r next = record {
+  pool = poolAfter r (p .pool);
   at = next;
-  lines = written (p .lines) (p .to) (lineOf (a .response));
-  to = after (p .lines) (p .to) (lineOf (a .response));
+  lines = written (p .lines) (p .to) (lineFor r (p .pool));
+  to = after (p .lines) (p .to) (lineFor r (p .pool));
 }
 
 abbrev pub onward : (Progress → Stopped) → Progress → Read → Stopped
-onward rest p (Open sh next) = rest (wrote p next (opening sh (p .pool)))
-onward rest p (Act a next) = rest (wrote p next (acting a (p .pool)))
+onward rest p (Open sh next) = rest (wrote p (opens sh) next)
+onward rest p (Act a next) = rest (wrote p (acts a) next)
 onward rest p End = record { progress = p; stop = Drained }
 onward rest p (Refused k) = record { progress = p; stop = Halted k }
 

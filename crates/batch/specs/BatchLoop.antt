@@ -29,9 +29,9 @@ use Rattle.turn_file.specs.Records.{Record, opens, acts}
 use Rattle.turn_file.specs.Reading.{recordAt, whole}
 use Rattle.turn_file.specs.OneReading.{read-on}
 use Rattle.batch.specs.declared.Stop.the-variants.{Drained, Full, Halted}
-use Rattle.batch.specs.Held.{pastOpening, held, heldAll}
+use Rattle.batch.specs.Held.{heldAfter, held, heldAll}
 use Rattle.batch.specs.Held.{onward as held-onward}
-use Rattle.batch.specs.Batch.{Pool, Answered, opening, acting, Progress, Stopped, hasRoom, wrote, onward, worked, workedAll}
+use Rattle.batch.specs.Batch.{Progress, Stopped, hasRoom, wrote, onward, worked, workedAll}
 use Rattle.admission.specs.Watched.{inRange, Watched, enqueue-sound, dequeue-sound, step-sound}
 use Rattle.admission.specs.Gate.{gateOf, gate-passed, usable, turn-at-3}
 
@@ -83,14 +83,6 @@ act-watched sh m sound w (Step i) z l =
 
 -- ── rounds ──
 -- more rounds than there are bytes left change nothing
-abbrev answer : Record → Pool → Answered
-answer (opens sh) x = opening sh x
-answer (acts a) x = acting a x
-
-abbrev pub holding : Record → Pool → ℕ → ℕ
-holding (opens sh) x h = pastOpening sh x h
-holding (acts a) x h = h
-
 module _ (bytes : List ℕ) where
   pub worked-enough : (n m : ℕ) (p : Progress) → length bytes - p .at < n → length bytes - p .at < m → worked n bytes p ≡ worked m bytes p
   unfolding worked
@@ -105,11 +97,11 @@ module _ (bytes : List ℕ) where
       go rest (Open sh next) e =
           let (on, end) = read-on bytes (p .at) (opens sh) next e in
           ap (λ (q : Stopped). cond (hasRoom (p .lines) (p .to)) q (record { progress = p; stop = Full }))
-          (rest (wrote p next (opening sh (p .pool))) (omega arith) (omega arith))
+          (rest (wrote p (opens sh) next) (omega arith) (omega arith))
       go rest (Act a next) e =
           let (on, end) = read-on bytes (p .at) (acts a) next e in
           ap (λ (q : Stopped). cond (hasRoom (p .lines) (p .to)) q (record { progress = p; stop = Full }))
-          (rest (wrote p next (acting a (p .pool))) (omega arith) (omega arith))
+          (rest (wrote p (acts a) next) (omega arith) (omega arith))
       go rest End e = refl
       go rest (Refused k) e = refl
 
@@ -124,11 +116,11 @@ module _ (bytes : List ℕ) where
           → cond (hasRoom (p .lines) (p .to)) (held-onward (held n bytes) h p r) h ≡ cond (hasRoom (p .lines) (p .to)) (held-onward (held m bytes) h p r) h
       go rest (Open sh next) e =
           let (on, end) = read-on bytes (p .at) (opens sh) next e in
-          ap (λ (i : ℕ). cond (hasRoom (p .lines) (p .to)) i h) (rest (pastOpening sh (p .pool) h) (wrote p next (opening sh (p .pool))) (omega arith)
+          ap (λ (i : ℕ). cond (hasRoom (p .lines) (p .to)) i h) (rest (heldAfter (opens sh) (p .pool) h) (wrote p (opens sh) next) (omega arith)
           (omega arith))
       go rest (Act a next) e =
           let (on, end) = read-on bytes (p .at) (acts a) next e in
-          ap (λ (i : ℕ). cond (hasRoom (p .lines) (p .to)) i h) (rest h (wrote p next (acting a (p .pool))) (omega arith) (omega arith))
+          ap (λ (i : ℕ). cond (hasRoom (p .lines) (p .to)) i h) (rest h (wrote p (acts a) next) (omega arith) (omega arith))
       go rest End e = refl
       go rest (Refused k) e = refl
 
@@ -143,32 +135,32 @@ going bytes p h sound w = record { same = refl; holds = refl; watched = w }
 
 module _ (bytes : List ℕ) (p₀ : Progress) (h₀ : ℕ) (p : Progress) (h : ℕ) (sound : Bool) (G : Going bytes p₀ h₀ p h sound) where
   worked-on : (n : ℕ) → hasRoom (p .lines) (p .to) ≡ true → (r : Record) (next : ℕ) → whole r next ≡ recordAt bytes (p .at)
-      → worked (suc n) bytes p ≡ worked n bytes (wrote p next (answer r (p .pool)))
+      → worked (suc n) bytes p ≡ worked n bytes (wrote p r next)
   unfolding worked
   worked-on n room (opens sh) next e = rw (room, ← e)
   worked-on n room (acts a) next e = rw (room, ← e)
 
   held-on : (n : ℕ) → hasRoom (p .lines) (p .to) ≡ true → (r : Record) (next : ℕ) → whole r next ≡ recordAt bytes (p .at)
-      → held (suc n) bytes h p ≡ held n bytes (holding r (p .pool) h) (wrote p next (answer r (p .pool)))
+      → held (suc n) bytes h p ≡ held n bytes (heldAfter r (p .pool) h) (wrote p r next)
   unfolding held
   held-on n room (opens sh) next e = rw (room, ← e)
   held-on n room (acts a) next e = rw (room, ← e)
 
   -- one record more
   pub go-on : hasRoom (p .lines) (p .to) ≡ true → (r : Record) (next : ℕ) → whole r next ≡ recordAt bytes (p .at)
-      → (p′ : Progress) → p′ ≡ wrote p next (answer r (p .pool)) → (h′ : ℕ) → h′ ≡ holding r (p .pool) h
+      → (p′ : Progress) → p′ ≡ wrote p r next → (h′ : ℕ) → h′ ≡ heldAfter r (p .pool) h
       → (sound′ : Bool) → Watched (p′ .pool .shape) (p′ .pool .memory) sound′ → Going bytes p₀ h₀ p′ h′ sound′
   go-on room r next e p′ is h′ holds sound′ w = record {
     same = ap (workedAll bytes) is ∙ worked-enough bytes (length bytes + 1) (length bytes) q (omega (arith, on .0, on .1)) (omega (arith, on .0, on .1))
         ∙ sym (worked-on (length bytes) room r next e) ∙ ap (λ (n : ℕ). worked n bytes p) one ∙ G .same;
     holds = ap (heldAll bytes h′) is ∙ ap (λ (i : ℕ). heldAll bytes i q) holds
-        ∙ held-enough bytes (length bytes + 1) (length bytes) (holding r (p .pool) h) q (omega (arith, on .0, on .1)) (omega (arith, on .0, on .1))
+        ∙ held-enough bytes (length bytes + 1) (length bytes) (heldAfter r (p .pool) h) q (omega (arith, on .0, on .1)) (omega (arith, on .0, on .1))
         ∙ sym (held-on (length bytes) room r next e) ∙ ap (λ (n : ℕ). held n bytes h p) one ∙ G .holds;
     watched = w;
   }
     where
       q : Progress
-      q = wrote p next (answer r (p .pool))
+      q = wrote p r next
 
       on : (p .at < next) × (next ≤ length bytes)
       on = read-on bytes (p .at) r next (sym e)

@@ -26,8 +26,9 @@ use Rattle.calendar.specs.facts.Accepted.{enqueue-accepted, dequeue-accepted, s
 use Rattle.calendar.specs.rules.Refusals.{openTests, enqueueTests, dequeueTests, stepTests, firstOf, openRefusal, enqueueRefusal, dequeueRefusal, stepRefusal}
 use Rattle.calendar.specs.rules.Operations.{Memory, Result, unless, open-pool, refusal, outcome, act}
 use borrow.Author.Tests.{eqb-true}
-use Rattle.turn_file.specs.Lines.{lineOf, Words, line-most}
-use Rattle.batch.specs.Batch.{Pool, opening, acting}
+use Rattle.turn_file.specs.Lines.{Words, line-most}
+use Rattle.turn_file.specs.Records.{Record, opens, acts}
+use Rattle.batch.specs.Batch.{Pool, lineFor}
 
 -- ── values ──
 energy-word : (d : ℕ) → energyOf d < 2 ^ 64
@@ -120,11 +121,9 @@ either-words k m r low h = go (eqb k 0) refl
     go true e = h (eqb-true k 0 e)
     go false e = omega arith
 
-pub opening-fits : (sh : Shape) (x : Pool) → length (lineOf (opening sh x .response)) ≤ 89
-unfolding opening open-pool
-opening-fits sh x = line-most _ (either-words (openRefusal sh (x .memory .store) (x .memory .table)) (x .memory) _ (open-low sh (x .memory)) (λ e. tt))
-
-pub acting-fits : (a : Action) (x : Pool) → length (lineOf (acting a x .response)) ≤ 89
-unfolding acting act
-acting-fits a x =
+-- A RECORD'S LINE FITS
+pub line-fits : (r : Record) (x : Pool) → length (lineFor r x) ≤ 89
+unfolding open-pool act
+line-fits (opens sh) x = line-most _ (either-words (openRefusal sh (x .memory .store) (x .memory .table)) (x .memory) _ (open-low sh (x .memory)) (λ e. tt))
+line-fits (acts a) x =
     line-most _ (either-words (refusal (x .shape) (x .memory) a) (x .memory) _ (act-low (x .shape) (x .memory) a) (outcome-words (x .shape) (x .memory) a))

@@ -14,21 +14,18 @@ use native.Mathlib.Omega.{arith}
 use lib.ListN.{length, take, drop, length-append, length-drop}
 use lib.Seq.{drop-drop, drop-append-le, take-at, length-take-le}
 use borrow.Author.Tests.{leb-true, leb-false}
-use Rattle.arrival.specs.declared.Shape.{Shape}
-use Rattle.arrival.specs.declared.Action.{Action}
 use Rattle.turn_file.specs.declared.Read.{Read}
 use Rattle.turn_file.specs.declared.Read.the-variants.{Open, Act, End, Refused}
-use Rattle.turn_file.specs.Records.{opens, acts}
-use Rattle.turn_file.specs.Reading.{recordAt}
+use Rattle.turn_file.specs.Records.{Record, opens, acts}
+use Rattle.turn_file.specs.Reading.{recordAt, whole}
 use Rattle.turn_file.specs.OneReading.{read-on}
 use Rattle.turn_file.specs.MoreBytes.{read-rest}
-use Rattle.turn_file.specs.Lines.{lineOf}
 use Rattle.turn_file.specs.Buffer.{written, after, roomy}
 use Rattle.batch.specs.declared.Stop.{Stop}
 use Rattle.batch.specs.declared.Stop.the-variants.{Drained, Full, Halted}
-use Rattle.batch.specs.Batch.{Pool, Answered, opening, acting, Progress, Stopped, hasRoom, wrote, onward, worked}
+use Rattle.batch.specs.Batch.{Pool, poolAfter, lineFor, Progress, Stopped, hasRoom, wrote, onward, worked}
 use Rattle.batch.specs.TurnFile.{Ran, behind, fromFirst, records, allRecords}
-use Rattle.batch.specs.LinesFit.{opening-fits, acting-fits}
+use Rattle.batch.specs.LinesFit.{line-fits}
 
 -- ── the file, record by record ──
 -- more records than bytes make no difference
@@ -38,16 +35,17 @@ same-records zero m bytes x h k = absurd (omega arith)
 same-records (suc n) zero bytes x h k = absurd (omega arith)
 same-records (suc n) (suc m) bytes x h k = go (λ b y. same-records n m b y) (recordAt bytes 0) refl
   where
+    one : ((b : List ℕ) (y : Pool) → length b < n → length b < m → records n b y ≡ records m b y) → (r : Record) (next : ℕ) → recordAt bytes 0 ≡ whole r next
+        → behind (lineFor r x) (records n (drop next bytes) (poolAfter r x)) ≡ behind (lineFor r x) (records m (drop next bytes) (poolAfter r x))
+    one same r next e =
+        let on = read-on bytes 0 r next e in
+        ap (behind (lineFor r x)) (same (drop next bytes) (poolAfter r x) (omega (arith, on .0, on .1, length-drop next bytes))
+        (omega (arith, on .0, on .1, length-drop next bytes)))
+
     go : ((b : List ℕ) (y : Pool) → length b < n → length b < m → records n b y ≡ records m b y)
         → (r : Read) → recordAt bytes 0 ≡ r → fromFirst (λ next. records n (drop next bytes)) x r ≡ fromFirst (λ next. records m (drop next bytes)) x r
-    go same (Open sh next) e =
-        let on = read-on bytes 0 (opens sh) next e in
-        ap (behind (lineOf (opening sh x .response))) (same (drop next bytes) (opening sh x .pool) (omega (arith, on .0, on .1, length-drop next bytes))
-        (omega (arith, on .0, on .1, length-drop next bytes)))
-    go same (Act a next) e =
-        let on = read-on bytes 0 (acts a) next e in
-        ap (behind (lineOf (acting a x .response))) (same (drop next bytes) (acting a x .pool) (omega (arith, on .0, on .1, length-drop next bytes))
-        (omega (arith, on .0, on .1, length-drop next bytes)))
+    go same (Open sh next) e = one same (opens sh) next e
+    go same (Act a next) e = one same (acts a) next e
     go same End e = refl
     go same (Refused k) e = refl
 
@@ -72,19 +70,19 @@ module _ (bytes more : List ℕ) where
       ∙ same-records _ _ (drop next bytes ++ more) x
       (omega (arith, length-append (drop at bytes) more, length-append (drop next bytes) more, length-drop at bytes, length-drop next bytes)) (omega arith)
 
-  opening-first : (at : ℕ) (x : Pool) (sh : Shape) (next : ℕ) → recordAt bytes at ≡ Open sh next
-      → fileFrom at x ≡ behind (lineOf (opening sh x .response)) (fileFrom next (opening sh x .pool))
+  record-first : (at : ℕ) (x : Pool) (r : Record) (next : ℕ) → recordAt bytes at ≡ whole r next
+      → fileFrom at x ≡ behind (lineFor r x) (fileFrom next (poolAfter r x))
   unfolding records
-  opening-first at x sh next e =
-      let on = read-on bytes at (opens sh) next e in
-      rw (read-rest bytes at more (opens sh) next e) (ap (behind (lineOf (opening sh x .response))) (fewer at next (opening sh x .pool) (on .0) (on .1)))
+  record-first at x r next e =
+      let on = read-on bytes at r next e in
+      rw (read-rest bytes at more r next e) (first r ∙ ap (behind (lineFor r x)) (fewer at next (poolAfter r x) (on .0) (on .1)))
+    where
+      rest : ℕ → Pool → Ran
+      rest k = records (length (drop at bytes ++ more)) (drop k (drop at bytes ++ more))
 
-  acting-first : (at : ℕ) (x : Pool) (a : Action) (next : ℕ) → recordAt bytes at ≡ Act a next
-      → fileFrom at x ≡ behind (lineOf (acting a x .response)) (fileFrom next (acting a x .pool))
-  unfolding records
-  acting-first at x a next e =
-      let on = read-on bytes at (acts a) next e in
-      rw (read-rest bytes at more (acts a) next e) (ap (behind (lineOf (acting a x .response))) (fewer at next (acting a x .pool) (on .0) (on .1)))
+      first : (r : Record) → fromFirst rest x (whole r (next - at)) ≡ behind (lineFor r x) (rest (next - at) (poolAfter r x))
+      first (opens sh) = refl
+      first (acts a) = refl
 
 -- ── the batch ──
 -- the lines that a buffer holds
@@ -120,18 +118,19 @@ module _ (bytes more : List ℕ) where
   stays p stop why = record { new = []; holds = sym (append-nil (text p)); file = refl; reason = why; on = inl refl }
 
   -- one record, and then the rest of the batch
-  after-one : (p : Progress) (next : ℕ) (a : Answered) (q : Stopped) → p .at < next → text (wrote p next a) ≡ text p ++ lineOf (a .response)
-      → fileFrom bytes more (p .at) (p .pool) ≡ behind (lineOf (a .response)) (fileFrom bytes more next (a .pool)) → PartOf bytes more (wrote p next a) q
+  after-one : (p : Progress) (r : Record) (next : ℕ) (q : Stopped) → p .at < next → text (wrote p r next) ≡ text p ++ lineFor r (p .pool)
+      → fileFrom bytes more (p .at) (p .pool) ≡ behind (lineFor r (p .pool)) (fileFrom bytes more next (poolAfter r (p .pool)))
+      → PartOf bytes more (wrote p r next) q
       → PartOf bytes more p q
-  after-one p next a q h held first S = record {
-    new = lineOf (a .response) ++ S .new;
-    holds = S .holds ∙ ap (λ (l : List ℕ). l ++ S .new) held ∙ append-assoc (text p) (lineOf (a .response)) (S .new);
-    file = first ∙ ap (behind (lineOf (a .response))) (S .file) ∙ sym (behind-behind (lineOf (a .response)) (S .new) _);
+  after-one p r next q h held first S = record {
+    new = lineFor r (p .pool) ++ S .new;
+    holds = S .holds ∙ ap (λ (l : List ℕ). l ++ S .new) held ∙ append-assoc (text p) (lineFor r (p .pool)) (S .new);
+    file = first ∙ ap (behind (lineFor r (p .pool))) (S .file) ∙ sym (behind-behind (lineFor r (p .pool)) (S .new) _);
     reason = S .reason;
     on = inr (further (S .on));
   }
     where
-      further : (q .progress ≡ wrote p next a) ⊎ (next < q .progress .at) → p .at < q .progress .at
+      further : (q .progress ≡ wrote p r next) ⊎ (next < q .progress .at) → p .at < q .progress .at
       further (inl e) = rw e h
       further (inr k) = omega arith
 
@@ -140,21 +139,19 @@ module _ (bytes more : List ℕ) where
   part-of-file zero p h = absurd (omega arith)
   part-of-file (suc n) p h = go (λ q. part-of-file n q) (hasRoom (p .lines) (p .to)) refl (recordAt bytes (p .at)) refl
     where
+      past : ((q : Progress) → length bytes - q .at < n → PartOf bytes more q (worked n bytes q)) → hasRoom (p .lines) (p .to) ≡ true
+          → (r : Record) (next : ℕ) → recordAt bytes (p .at) ≡ whole r next → PartOf bytes more p (worked n bytes (wrote p r next))
+      past rest room r next e =
+          let on = read-on bytes (p .at) r next e in
+          after-one p r next _ (on .0) (line-behind (p .lines) (lineFor r (p .pool)) (p .to) (line-fits r (p .pool))
+          (leb-true (p .to + 89) (length (p .lines)) room))
+          (record-first bytes more (p .at) (p .pool) r next e) (rest (wrote p r next) (omega (arith, on .0, on .1)))
+
       go : ((q : Progress) → length bytes - q .at < n → PartOf bytes more q (worked n bytes q)) → (b : Bool) → hasRoom (p .lines) (p .to) ≡ b → (r : Read)
           → recordAt bytes (p .at) ≡ r
           → PartOf bytes more p (cond b (onward (worked n bytes) p r) (record { progress = p; stop = Full }))
       go rest false full r e = stays p Full (leb-false (p .to + 89) (length (p .lines)) full)
-      go rest true room (Open sh next) e =
-          let on = read-on bytes (p .at) (opens sh) next e in
-          let a = opening sh (p .pool) in
-          after-one p next a _ (on .0) (line-behind (p .lines) (lineOf (a .response)) (p .to) (opening-fits sh (p .pool))
-          (leb-true (p .to + 89) (length (p .lines)) room))
-          (opening-first bytes more (p .at) (p .pool) sh next e) (rest (wrote p next a) (omega (arith, on .0, on .1)))
-      go rest true room (Act b next) e =
-          let on = read-on bytes (p .at) (acts b) next e in
-          let a = acting b (p .pool) in
-          after-one p next a _ (on .0) (line-behind (p .lines) (lineOf (a .response)) (p .to) (acting-fits b (p .pool))
-          (leb-true (p .to + 89) (length (p .lines)) room))
-          (acting-first bytes more (p .at) (p .pool) b next e) (rest (wrote p next a) (omega (arith, on .0, on .1)))
+      go rest true room (Open sh next) e = past rest room (opens sh) next e
+      go rest true room (Act a next) e = past rest room (acts a) next e
       go rest true room End e = stays p Drained e
       go rest true room (Refused k) e = stays p (Halted k) (e, leb-true (p .to + 89) (length (p .lines)) room)

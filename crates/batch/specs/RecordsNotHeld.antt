@@ -32,12 +32,15 @@ use Rattle.calendar.specs.facts.RecordsBeyond.{keeping, act-same}
 use Rattle.admission.specs.Gate.{shape-tests}
 use Rattle.turn_file.specs.declared.Read.{Read}
 use Rattle.turn_file.specs.declared.Read.the-variants.{Open, Act, End, Refused}
+use Rattle.turn_file.specs.Records.{Record, opens, acts}
 use Rattle.turn_file.specs.Reading.{recordAt}
+use Rattle.turn_file.specs.Lines.{lineOf}
+use Rattle.turn_file.specs.Buffer.{written, after}
 use Rattle.batch.specs.declared.Stop.{Stop}
 use Rattle.batch.specs.declared.Stop.the-variants.{Drained, Full, Halted}
-use Rattle.batch.specs.Batch.{Pool, Answered, opening, acting, Progress, Stopped, hasRoom, wrote, onward, worked, workedAll}
+use Rattle.batch.specs.Batch.{Pool, resultOf, shapeAfter, Progress, Stopped, hasRoom, wrote, onward, worked, workedAll}
 use Rattle.batch.specs.RecordsCounted.{countedOf, counted-bound, count-tells, counts}
-use Rattle.batch.specs.Held.{greater, pastOpening, held, heldAll}
+use Rattle.batch.specs.Held.{greater, heldAfter, held, heldAll}
 use Rattle.batch.specs.Held as holding
 use Rattle.laws.specs.Storing.{over-taken}
 
@@ -199,14 +202,9 @@ module _ {k : ℕ} {t u : List Worker} (A : Alike k t u) (sh : Shape) (s : List 
       go false e = unchanged (openRefusal sh s t)
 
 -- ── how many are held ──
-module _ (x : Pool) where
-  acting-long : (a : Action) → length (acting a x .pool .memory .table) ≡ length (x .memory .table)
-  unfolding acting
-  acting-long a = act-same-size (x .shape) (x .memory) a .table
-
-  opening-long : (sh : Shape) → length (opening sh x .pool .memory .table) ≡ length (x .memory .table)
-  unfolding opening
-  opening-long sh = open-same-size sh (x .memory) .table
+same-long : (x : Pool) (r : Record) → length (resultOf r x .memory .table) ≡ length (x .memory .table)
+same-long x (opens sh) = open-same-size sh (x .memory) .table
+same-long x (acts a) = act-same-size (x .shape) (x .memory) a .table
 
 greater-left : (a b : ℕ) → a ≤ greater a b
 greater-left a b = go (ltb a b) refl
@@ -229,24 +227,25 @@ greater-within a b c h k = go (ltb a b)
     go true = k
     go false = h
 
-module _ (x : Pool) (sh : Shape) (k : ℕ) where
-  pastOpening-more : k ≤ pastOpening sh x k
-  pastOpening-more = go (eqb (openRefusal sh (x .memory .store) (x .memory .table)) 0)
-    where
-      go : (b : Bool) → k ≤ cond b (greater k (sh .workers)) k
-      go true = greater-left k (sh .workers)
-      go false = omega arith
+after-more : (x : Pool) (k : ℕ) (r : Record) → k ≤ heldAfter r x k
+after-more x k (opens sh) = go (eqb (openRefusal sh (x .memory .store) (x .memory .table)) 0)
+  where
+    go : (b : Bool) → k ≤ cond b (greater k (sh .workers)) k
+    go true = greater-left k (sh .workers)
+    go false = omega arith
+after-more x k (acts a) = omega arith
 
-  pastOpening-within : k ≤ countedOf (length (x .memory .table)) → pastOpening sh x k ≤ countedOf (length (x .memory .table))
-  pastOpening-within h = go (eqb (openRefusal sh (x .memory .store) (x .memory .table)) 0) refl
-    where
-      go : (b : Bool) → eqb (openRefusal sh (x .memory .store) (x .memory .table)) 0 ≡ b
-          → cond b (greater k (sh .workers)) k ≤ countedOf (length (x .memory .table))
-      go true e =
-          let L = open-accepted sh (x .memory .store) (x .memory .table) (eqb-true _ 0 e) in
-          greater-within k (sh .workers) (countedOf (length (x .memory .table))) h
-          (counts (length (x .memory .table)) (sh .workers) (L .table) (L .limits .workers))
-      go false e = h
+after-within : (x : Pool) (k : ℕ) (r : Record) → k ≤ countedOf (length (x .memory .table)) → heldAfter r x k ≤ countedOf (length (x .memory .table))
+after-within x k (opens sh) h = go (eqb (openRefusal sh (x .memory .store) (x .memory .table)) 0) refl
+  where
+    go : (b : Bool) → eqb (openRefusal sh (x .memory .store) (x .memory .table)) 0 ≡ b
+        → cond b (greater k (sh .workers)) k ≤ countedOf (length (x .memory .table))
+    go true e =
+        let L = open-accepted sh (x .memory .store) (x .memory .table) (eqb-true _ 0 e) in
+        greater-within k (sh .workers) (countedOf (length (x .memory .table))) h
+        (counts (length (x .memory .table)) (sh .workers) (L .table) (L .limits .workers))
+    go false e = h
+after-within x k (acts a) h = h
 
 module _ (bytes : List ℕ) where
   held-more : (n : ℕ) (p : Progress) (k : ℕ) → k ≤ held n bytes k p
@@ -256,8 +255,8 @@ module _ (bytes : List ℕ) where
     where
       go : ((q : Progress) (h : ℕ) → h ≤ held n bytes h q) → (b : Bool) (r : Read) → k ≤ cond b (holding.onward (held n bytes) k p r) k
       go rest false r = omega arith
-      go rest true (Open sh next) = omega (arith, pastOpening-more (p .pool) sh k, rest (wrote p next (opening sh (p .pool))) (pastOpening sh (p .pool) k))
-      go rest true (Act a next) = rest (wrote p next (acting a (p .pool))) k
+      go rest true (Open sh next) = omega (arith, after-more (p .pool) k (opens sh), rest (wrote p (opens sh) next) (heldAfter (opens sh) (p .pool) k))
+      go rest true (Act a next) = rest (wrote p (acts a) next) k
       go rest true End = omega arith
       go rest true (Refused i) = omega arith
 
@@ -267,16 +266,18 @@ module _ (bytes : List ℕ) where
   held-within zero p k h = h
   held-within (suc n) p k h = go (λ q i l. held-within n q i l) (hasRoom (p .lines) (p .to)) (recordAt bytes (p .at))
     where
+      past : ((q : Progress) (i : ℕ) → i ≤ countedOf (length (q .pool .memory .table)) → held n bytes i q ≤ countedOf (length (q .pool .memory .table)))
+          → (r : Record) (next : ℕ) → held n bytes (heldAfter r (p .pool) k) (wrote p r next) ≤ countedOf (length (p .pool .memory .table))
+      past rest r next =
+          subst (λ m. heldAfter r (p .pool) k ≤ countedOf m → held n bytes (heldAfter r (p .pool) k) (wrote p r next) ≤ countedOf m)
+          (same-long (p .pool) r) (rest (wrote p r next) (heldAfter r (p .pool) k)) (after-within (p .pool) k r h)
+
       go : ((q : Progress) (i : ℕ) → i ≤ countedOf (length (q .pool .memory .table)) → held n bytes i q ≤ countedOf (length (q .pool .memory .table)))
           → (b : Bool) (r : Read)
           → cond b (holding.onward (held n bytes) k p r) k ≤ countedOf (length (p .pool .memory .table))
       go rest false r = h
-      go rest true (Open sh next) =
-          subst (λ m. pastOpening sh (p .pool) k ≤ countedOf m → held n bytes (pastOpening sh (p .pool) k) (wrote p next (opening sh (p .pool))) ≤ countedOf m)
-          (opening-long (p .pool) sh) (rest (wrote p next (opening sh (p .pool))) (pastOpening sh (p .pool) k)) (pastOpening-within (p .pool) sh k h)
-      go rest true (Act a next) =
-          subst (λ m. k ≤ countedOf m → held n bytes k (wrote p next (acting a (p .pool))) ≤ countedOf m) (acting-long (p .pool) a)
-          (rest (wrote p next (acting a (p .pool))) k) h
+      go rest true (Open sh next) = past rest (opens sh) next
+      go rest true (Act a next) = past rest (acts a) next
       go rest true End = h
       go rest true (Refused i) = h
 
@@ -288,39 +289,28 @@ module _ (bytes : List ℕ) where
 abbrev on : Pool → List Worker → Pool
 on x u = record { shape = x .shape; memory = record { store = x .memory .store; table = u } }
 
-abbrev answered : ℕ → Answered → List Worker → Answered
-answered h a u = record { pool = on (a .pool) (over h (a .pool .memory .table) u); response = a .response }
-
 module _ {k : ℕ} {u : List Worker} (x : Pool) (A : Alike k (x .memory .table) u) (covers : Covers (x .shape) (length (x .memory .table)) k) where
   next-alike : (h : ℕ) (t : List Worker) → length t ≡ length (x .memory .table) → h ≤ countedOf (length (x .memory .table)) → Alike h t (over h t u)
   next-alike h t same within = put-together h t u (subst (λ n. h ≤ countedOf n) (sym same) within) (A .counted ∙ ap countedOf (sym same))
 
-  acting-alike : (a : Action) → acting a (on x u) ≡ answered k (acting a x) u
-  unfolding acting
-  acting-alike a =
-      ap (λ (r : Result). record { pool = record { shape = x .shape; memory = r .memory }; response = r .response })
-      (act-alike A (x .shape) (x .memory .store) a covers)
+  result-alike : (r : Record) → resultOf r (on x u) ≡ keeps A (x .shape) (x .memory .store) (heldAfter r x k) (resultOf r x)
+  result-alike (opens sh) = open-alike A sh (x .memory .store)
+  result-alike (acts a) = act-alike A (x .shape) (x .memory .store) a covers
 
-  acting-covers : (a : Action) → Covers (acting a x .pool .shape) (length (acting a x .pool .memory .table)) k
-  unfolding acting
-  acting-covers a = subst (λ n. Covers (x .shape) n k) (sym (acting-long x a)) covers
+  shape-alike : (r : Record) → shapeAfter r (on x u) ≡ shapeAfter r x
+  shape-alike (opens sh) = ap (λ (n : ℕ). cond (eqb n 0) sh (x .shape)) (open-refusal-alike A sh (x .memory .store))
+  shape-alike (acts a) = refl
 
-  opening-alike : (sh : Shape) → opening sh (on x u) ≡ answered (pastOpening sh x k) (opening sh x) u
-  unfolding opening
-  opening-alike sh = λ j. record {
-    pool = record { shape = cond (eqb (open-refusal-alike A sh (x .memory .store) j) 0) sh (x .shape); memory = open-alike A sh (x .memory .store) j .memory };
-    response = open-alike A sh (x .memory .store) j .response;
-  }
-
-  opening-covers : (sh : Shape) → Covers (opening sh x .pool .shape) (length (opening sh x .pool .memory .table)) (pastOpening sh x k)
-  unfolding opening
-  opening-covers sh =
-      subst (λ n. Covers (opening sh x .pool .shape) n (pastOpening sh x k)) (sym (opening-long x sh))
-      (go (eqb (openRefusal sh (x .memory .store) (x .memory .table)) 0))
+  after-covers : (r : Record) → Covers (shapeAfter r x) (length (resultOf r x .memory .table)) (heldAfter r x k)
+  after-covers r = subst (λ n. Covers (shapeAfter r x) n (heldAfter r x k)) (sym (same-long x r)) (still r)
     where
-      go : (b : Bool) → Covers (cond b sh (x .shape)) (length (x .memory .table)) (cond b (greater k (sh .workers)) k)
-      go true = λ i h. greater-right k (sh .workers)
-      go false = covers
+      go : (sh : Shape) (b : Bool) → Covers (cond b sh (x .shape)) (length (x .memory .table)) (cond b (greater k (sh .workers)) k)
+      go sh true = λ i h. greater-right k (sh .workers)
+      go sh false = covers
+
+      still : (r : Record) → Covers (shapeAfter r x) (length (x .memory .table)) (heldAfter r x k)
+      still (opens sh) = go sh (eqb (openRefusal sh (x .memory .store) (x .memory .table)) 0)
+      still (acts a) = covers
 
 -- what was kept by a record of the file is what was there before
 kept-through : (h : ℕ) (q : Stopped) (k : ℕ) (t u : List Worker) → k ≤ length t → k ≤ length u → k ≤ h → keepingFrom h q (over k t u) ≡ keepingFrom h q u
@@ -351,19 +341,32 @@ module _ (bytes : List ℕ) where
           (omega (arith, within, long, counted-bound (length (p .pool .memory .table)) .0)) (omega (arith, within, A .counted, counted-bound (length u) .0))
           (held-more bytes n q h)
 
+      past : ((q : Progress) (h : ℕ) (v : List Worker) → Alike h (q .pool .memory .table) v → Covers (q .pool .shape) (length (q .pool .memory .table)) h
+          → worked n bytes (onTable q v) ≡ keepingFrom (held n bytes h q) (worked n bytes q) v)
+          → (r : Record) (next : ℕ)
+          → worked n bytes (wrote (onTable p u) r next)
+          ≡ keepingFrom (held n bytes (heldAfter r (p .pool) k) (wrote p r next)) (worked n bytes (wrote p r next)) u
+      past rest r next =
+          ap (worked n bytes) same
+          ∙ on-from rest (wrote p r next) (heldAfter r (p .pool) k) (same-long (p .pool) r) (after-within (p .pool) k r (A .within))
+          (after-covers (p .pool) A covers r)
+        where
+          same : wrote (onTable p u) r next ≡ onTable (wrote p r next) (over (heldAfter r (p .pool) k) (resultOf r (p .pool) .memory .table) u)
+          same = λ j. record {
+            pool = record { shape = shape-alike (p .pool) A covers r j; memory = result-alike (p .pool) A covers r j .memory };
+            at = next;
+            lines = written (p .lines) (p .to) (lineOf (result-alike (p .pool) A covers r j .response));
+            to = after (p .lines) (p .to) (lineOf (result-alike (p .pool) A covers r j .response));
+          }
+
       go : ((q : Progress) (h : ℕ) (v : List Worker) → Alike h (q .pool .memory .table) v → Covers (q .pool .shape) (length (q .pool .memory .table)) h
           → worked n bytes (onTable q v) ≡ keepingFrom (held n bytes h q) (worked n bytes q) v)
           → (b : Bool) (r : Read)
           → cond b (onward (worked n bytes) (onTable p u) r) (record { progress = onTable p u; stop = Full })
           ≡ keepingFrom (cond b (holding.onward (held n bytes) k p r) k) (cond b (onward (worked n bytes) p r) (record { progress = p; stop = Full })) u
       go rest false r = there Full
-      go rest true (Open sh next) =
-          ap (λ (a : Answered). worked n bytes (wrote (onTable p u) next a)) (opening-alike (p .pool) A covers sh)
-          ∙ on-from rest (wrote p next (opening sh (p .pool))) (pastOpening sh (p .pool) k) (opening-long (p .pool) sh)
-          (pastOpening-within (p .pool) sh k (A .within)) (opening-covers (p .pool) A covers sh)
-      go rest true (Act a next) =
-          ap (λ (b : Answered). worked n bytes (wrote (onTable p u) next b)) (acting-alike (p .pool) A covers a)
-          ∙ on-from rest (wrote p next (acting a (p .pool))) k (acting-long (p .pool) a) (A .within) (acting-covers (p .pool) A covers a)
+      go rest true (Open sh next) = past rest (opens sh) next
+      go rest true (Act a next) = past rest (acts a) next
       go rest true End = there Drained
       go rest true (Refused i) = there (Halted i)
 

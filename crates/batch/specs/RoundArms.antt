@@ -41,7 +41,7 @@ use Rattle.batch.specs.declared.Stop.{Stop}
 use Rattle.batch.specs.declared.Stop.the-variants.{Drained, Full, Halted}
 use Rattle.turn_file.specs.Lines.{lineOf}
 use Rattle.turn_file.specs.Buffer.{written, after, written-length}
-use Rattle.batch.specs.Batch.{opening, acting, Progress, hasRoom, wrote, workedAll}
+use Rattle.batch.specs.Batch.{Progress, hasRoom, wrote, workedAll}
 use Rattle.batch.specs.Held.{greater, heldAll}
 use Rattle.batch.specs.LentPart.{least-taken, over-length}
 use Rattle.laws.specs.Storing.{over-taken}
@@ -132,7 +132,6 @@ module _ {bytes : List ℕ} {p₀ : Progress} {h₀ words records space : ℕ} {
         → record { memory = record { store = s′; table = take records t′ }; response = l } ≡ act sh (record { store = s; table = take records t }) a
         → (sound′ : Bool) → Watched sh (act sh (record { store = s; table = take records t }) a .memory) sound′ → Tight sh words records sound′
         → Round bytes p₀ h₀ words records space sh s′ t′ next lines′ to′ sound′ h
-    unfolding acting
     acted a e s′ t′ array is sound′ w tight = record {
       going =
           go-on bytes p₀ h₀ (at-work sh s (take records t) at lines to) h sound (R .going) room (acts a) next e
@@ -146,7 +145,7 @@ module _ {bytes : List ℕ} {p₀ : Progress} {h₀ words records space : ℕ} {
     }
       where
         there : at-work sh s′ (take records t′) next lines′ to′
-            ≡ wrote (at-work sh s (take records t) at lines to) next (acting a (record { shape = sh; memory = record { store = s; table = take records t } }))
+            ≡ wrote (at-work sh s (take records t) at lines to) (acts a) next
         there = λ j. record {
           pool = record { shape = sh; memory = is j .memory };
           at = next;
@@ -193,7 +192,6 @@ module _ {bytes : List ℕ} {p₀ : Progress} {h₀ words records space : ℕ} {
         → record { memory = record { store = s′; table = take records t′ }; response = l } ≡ open-pool sh′ (record { store = s; table = take records t })
         → (sound′ : Bool) → Watched sh″ (record { store = s′; table = take records t′ }) sound′ → Tight sh″ words records sound′
         → Round bytes p₀ h₀ words records space sh″ s′ t′ next lines′ to′ sound′ h′
-    unfolding opening
     opened-with sh′ e sh″ s′ t′ array shape h′ holds is sound′ w tight = record {
       going = go-on bytes p₀ h₀ (at-work sh s (take records t) at lines to) h sound (R .going) room (opens sh′) next e
           (at-work sh″ s′ (take records t′) next lines′ to′) there h′ holds sound′ w;
@@ -204,8 +202,7 @@ module _ {bytes : List ℕ} {p₀ : Progress} {h₀ words records space : ℕ} {
       tight = tight;
     }
       where
-        there : at-work sh″ s′ (take records t′) next lines′ to′ ≡ wrote (at-work sh s (take records t) at lines to) next (opening sh′
-            (record { shape = sh; memory = record { store = s; table = take records t } }))
+        there : at-work sh″ s′ (take records t′) next lines′ to′ ≡ wrote (at-work sh s (take records t) at lines to) (opens sh′) next
         there = λ j. record {
           pool = record { shape = shape j; memory = is j .memory };
           at = next;

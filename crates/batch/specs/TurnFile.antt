@@ -7,9 +7,10 @@ use Rattle.arrival.specs.declared.Response.the-variants as response
 use Rattle.calendar.specs.rules.Operations.{Memory}
 use Rattle.turn_file.specs.declared.Read.{Read}
 use Rattle.turn_file.specs.declared.Read.the-variants.{Open, Act, End, Refused}
+use Rattle.turn_file.specs.Records.{opens, acts}
 use Rattle.turn_file.specs.Reading.{recordAt}
 use Rattle.turn_file.specs.Lines.{lineOf}
-use Rattle.batch.specs.Batch.{Pool, opening, acting}
+use Rattle.batch.specs.Batch.{Pool, poolAfter, lineFor}
 
 -- the pool at the end, and all lines, one behind the other
 pub record Ran : Type 0 where
@@ -22,8 +23,8 @@ behind lines r = record { pool = r .pool; lines = lines ++ r .lines }
 
 -- One line a record; a reading that is refused has its line, which is the last.
 abbrev pub fromFirst : (ℕ → Pool → Ran) → Pool → Read → Ran
-fromFirst rest x (Open sh next) = let a = opening sh x in behind (lineOf (a .response)) (rest next (a .pool))
-fromFirst rest x (Act a next) = let b = acting a x in behind (lineOf (b .response)) (rest next (b .pool))
+fromFirst rest x (Open sh next) = behind (lineFor (opens sh) x) (rest next (poolAfter (opens sh) x))
+fromFirst rest x (Act a next) = behind (lineFor (acts a) x) (rest next (poolAfter (acts a) x))
 fromFirst rest x End = record { pool = x; lines = [] }
 fromFirst rest x (Refused k) = record { pool = x; lines = lineOf (response.Refused k) }
 

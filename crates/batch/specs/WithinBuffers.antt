@@ -8,13 +8,12 @@ use lib.ListN.{length}
 use borrow.Author.Tests.{leb-true}
 use Rattle.turn_file.specs.declared.Read.{Read}
 use Rattle.turn_file.specs.declared.Read.the-variants.{Open, Act, End, Refused}
-use Rattle.turn_file.specs.Records.{opens, acts}
+use Rattle.turn_file.specs.Records.{Record, opens, acts}
 use Rattle.turn_file.specs.Reading.{recordAt}
 use Rattle.turn_file.specs.OneReading.{read-on}
-use Rattle.turn_file.specs.Lines.{lineOf}
 use Rattle.turn_file.specs.Buffer.{after, written-length}
 use Rattle.batch.specs.declared.Stop.the-variants.{Full}
-use Rattle.batch.specs.Batch.{Answered, opening, acting, Progress, Stopped, hasRoom, wrote, onward, worked, workedAll}
+use Rattle.batch.specs.Batch.{Progress, Stopped, lineFor, hasRoom, wrote, onward, worked, workedAll}
 
 pub record Within (bytes : List ℕ) (size : ℕ) (p : Progress) : Type 0 where
   pub at : p .at ≤ length bytes
@@ -30,11 +29,11 @@ after-within lines line to h = go (leb (to + length line) (length lines)) refl
     go false e = h
 
 module _ (bytes : List ℕ) (size : ℕ) where
-  wrote-within : (p : Progress) (next : ℕ) (a : Answered) → Within bytes size p → next ≤ length bytes → Within bytes size (wrote p next a)
-  wrote-within p next a w h = record {
+  wrote-within : (p : Progress) (r : Record) (next : ℕ) → Within bytes size p → next ≤ length bytes → Within bytes size (wrote p r next)
+  wrote-within p r next w h = record {
     at = h;
-    to = rw (written-length (p .lines) (p .to) (lineOf (a .response))) (after-within (p .lines) (lineOf (a .response)) (p .to) (w .to));
-    lines = written-length (p .lines) (p .to) (lineOf (a .response)) ∙ w .lines;
+    to = rw (written-length (p .lines) (p .to) (lineFor r (p .pool))) (after-within (p .lines) (lineFor r (p .pool)) (p .to) (w .to));
+    lines = written-length (p .lines) (p .to) (lineFor r (p .pool)) ∙ w .lines;
   }
 
   worked-within : (n : ℕ) (p : Progress) → Within bytes size p → Within bytes size (worked n bytes p .progress)
@@ -46,9 +45,9 @@ module _ (bytes : List ℕ) (size : ℕ) where
           → Within bytes size (cond b (onward (worked n bytes) p r) (record { progress = p; stop = Full }) .progress)
       go rest false r e = w
       go rest true (Open sh next) e =
-          rest (wrote p next (opening sh (p .pool))) (wrote-within p next (opening sh (p .pool)) w (read-on bytes (p .at) (opens sh) next e .1))
+          rest (wrote p (opens sh) next) (wrote-within p (opens sh) next w (read-on bytes (p .at) (opens sh) next e .1))
       go rest true (Act a next) e =
-          rest (wrote p next (acting a (p .pool))) (wrote-within p next (acting a (p .pool)) w (read-on bytes (p .at) (acts a) next e .1))
+          rest (wrote p (acts a) next) (wrote-within p (acts a) next w (read-on bytes (p .at) (acts a) next e .1))
       go rest true End e = w
       go rest true (Refused k) e = w
 

@@ -25,7 +25,6 @@ use Rattle.turn_file.specs.Records.{sizeOf}
 use Rattle.turn_file.specs.Reading.{fieldsAt, markedAt, recordAt}
 use Rattle.turn_file.specs.Decimal.{decimal, digits}
 use Rattle.turn_file.specs.Lines.{lineOf}
-use Rattle.batch.specs.Batch.{opening, acting}
 use Rattle.batch.specs.TurnFile.{records, turnFile}
 
 -- as many words as the example's shape needs
@@ -70,7 +69,7 @@ unknown = joined (OP 4 ∷ (84 ∷ 84 ∷ []) ∷ TU ∷ [])
 pub worked-example : (turnFile example lent .lines ≡ printed answers)
     × (turnFile around lent .lines ≡ printed (Refused 1 ∷ Opened ∷ Refused 2 ∷ Refused 10 ∷ Refused 8 ∷ []))
     × (turnFile unknown lent .lines ≡ printed (Opened ∷ Refused 7 ∷ []))
-unfolding records recordAt markedAt sizeOf fieldsAt shapeAt arrivalAt opening acting open-pool act openRefusal enqueueRefusal dequeueRefusal stepRefusal step
+unfolding records recordAt markedAt sizeOf fieldsAt shapeAt arrivalAt open-pool act openRefusal enqueueRefusal dequeueRefusal stepRefusal step
     no-step step-1 step-2 step-3 step-4 step-5 step-6 step-7 step-8 step-9 step-10 step-11 found settle walk enqueueStart dequeueStart openStore openTable
     wordsFrom isFree firstFreeOf firstFree blank storeInRange tableInRange every address read write lower bucketOf energyOf lineOf decimal digits
 worked-example = (refl, refl, refl)

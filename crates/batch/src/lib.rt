@@ -1,11 +1,9 @@
 // A batch of a turn file against a pool: whole records in, lines out.
 ghost use mathlib.Core.Path.{_≡_};
-ghost use mathlib.Core.Bool.{cond};
 ghost use Prim.Native.Nat.{_+_, _<_};
-ghost use lib.Dec.{eqb, leb};
+ghost use lib.Dec.{leb};
 ghost use lib.ListN.{length};
-ghost use Rattle.admission.specs.Gate.{gateOf, openGate, Tight};
-ghost use Rattle.calendar.specs.rules.Opening.{openStore};
+ghost use Rattle.admission.specs.Gate.{gateOf, Tight};
 ghost use Rattle.calendar.specs.facts.RangesKept.{leaks};
 ghost use Rattle.stages.specs.Ready.{Ready};
 ghost use Rattle.batch.specs.Batch.{workedAll};
@@ -17,14 +15,13 @@ ghost use Rattle.batch.specs.ActHeld.{Did, placeOf};
 ghost use Rattle.calendar.specs.rules.Operations.{actor as actorOf};
 ghost use Rattle.operation.specs.LocalAct.{Admitted};
 use admission::gate;
-use admission::open_gate;
 use arrival::Action;
 use arrival::Shape;
 use arrival::Worker;
 use operation::actor;
+use operation::open_lent;
 use operation::perform;
 use starts::free::lower_ticket;
-use starts::opening::open_store;
 use table::cleared;
 use table::greater;
 use tickets::low_for;
@@ -100,20 +97,6 @@ fn has_room(room: usize, to: usize) -> bool
         return false;
     }
     to <= room - 89
-}
-
-// Opens the store for a shape, unless the opening is refused: its number, or 0.
-fn open_lent(shape: Shape, records: usize, store: &mut [u64]) -> u64
-    ensures { λ r. ⌜ (r ≡ openGate shape (length (now (store .entry))) records)
-        × (now (store .exit) ≡ cond (eqb (openGate shape (length (now (store .entry))) records) 0) (openStore shape (now (store .entry)))
-        (now (store .entry))) ⌝ }
-{
-    let k = open_gate(shape, store.len(), records);
-    if k != 0 {
-        return k;
-    }
-    open_store(shape, store);
-    0
 }
 
 // What a start or turn leaves: the worker's record, whether all is in range, the place of the next line.

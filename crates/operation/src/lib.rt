@@ -1,13 +1,20 @@
-// One start or turn of one record, by value, after refusals 1 to 4.
+// What is done to one record, by value, after refusals 1 to 4; and opening the store.
 ghost use mathlib.Core.Path.{_≡_};
+ghost use mathlib.Core.Bool.{cond};
 ghost use Prim.Native.Nat.{_≤_};
+ghost use lib.Dec.{eqb};
+ghost use lib.ListN.{length};
+ghost use Rattle.admission.specs.Gate.{openGate};
+ghost use Rattle.calendar.specs.rules.Opening.{openStore};
 ghost use Rattle.calendar.specs.rules.Operations as operations;
 ghost use Rattle.words.specs.Done.{gives};
 ghost use Rattle.operation.specs.LocalAct.{Admitted, localAct};
+use admission::open_gate;
 use arrival::Action;
 use arrival::Shape;
 use arrival::Worker;
 use stages::step;
+use starts::opening::open_store;
 use starts::start_dequeue;
 use starts::start_enqueue;
 use words::replies::Reply;
@@ -34,4 +41,18 @@ pub fn perform(shape: Shape, low: u64, action: Action, w: Worker, store: &mut [u
         Action::Dequeue(_) => start_dequeue(shape, w, store),
         Action::Step(_) => step(shape, w, store),
     }
+}
+
+// Opens the store for a shape, unless the opening is refused: its number, or 0.
+pub fn open_lent(shape: Shape, records: usize, store: &mut [u64]) -> u64
+    ensures { λ r. ⌜ (r ≡ openGate shape (length (now (store .entry))) records)
+        × (now (store .exit) ≡ cond (eqb (openGate shape (length (now (store .entry))) records) 0) (openStore shape (now (store .entry)))
+        (now (store .entry))) ⌝ }
+{
+    let k = open_gate(shape, store.len(), records);
+    if k != 0 {
+        return k;
+    }
+    open_store(shape, store);
+    0
 }

@@ -4,8 +4,8 @@ use borrow.Author.Tests.{eq-eqb, ne-eqb}
 use Rattle.words.specs.Laid.{laid}
 use Rattle.admission.specs.Gate.{open-passed}
 use borrow.Author.Needs.{needs}
-use Rattle.batch.proofs.open_lent.Statement.{statement}
-use Rattle.batch.proofs.open_lent.Tie as tie
+use Rattle.operation.proofs.open_lent.Statement.{statement}
+use Rattle.operation.proofs.open_lent.Tie as tie
 
 open-gate-requires : tie.Need-open-gate-requires
 open-gate-requires c κs = search needs
