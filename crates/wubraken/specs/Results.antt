@@ -1,6 +1,6 @@
 -- What the by-value functions leave, and that it is what the operations of the pool are defined to give.
 --     Told, leaves, told             memory and answer after a call: of what the code left, and of an operation's result
---     Handles, put-back-told         the same of one record; put back, it is the same of the table
+--     put-back-told                  what is done on one record, put back, is told of the table
 --     actionOf, actor-of             the action by the kind that the code hands on, and its worker
 --     actOn, refused-on, done-on     refused by 1 to 4, or done; by what the gate said
 --     acted, acted-of                what is done on one record and put back is the operation
@@ -28,13 +28,13 @@ use Rattle.calendar.specs.rules.Ranges.{blank, worker}
 use Rattle.calendar.specs.rules.Opening.{openStore, openTable}
 use Rattle.calendar.specs.rules.Refusals.{openRefusal}
 use Rattle.calendar.specs.rules.Operations.{Memory, Result, actor, act, open-pool}
-use Rattle.words.specs.Done.{Done, refused, unlessRefused}
+use Rattle.words.specs.Done.{Done, gives, refused, unlessRefused}
+use Rattle.words.specs.declared.replies.Reply.{Reply}
 use Rattle.operation.specs.LocalAct.{localAct, LowFor, back, act-is}
 use Rattle.admission.specs.Watched.{Watched}
 use Rattle.admission.specs.Gate.{soundOf, sound-watched, shape-tests, usable, refused-is, openGate}
 use Rattle.wubraken.specs.declared.table.Survey.{Survey}
 use Rattle.wubraken.specs.declared.records.Opening.{Opening}
-use Rattle.wubraken.specs.declared.records.Handled.{Handled}
 use Rattle.wubraken.specs.declared.answers.Answer.{Answer}
 use Rattle.wubraken.specs.Answers.{answerOf, saidBy, answer-said}
 use Rattle.wubraken.specs.Survey.{surveyed, survey, survey-records, survey-ok-is, survey-low-is}
@@ -56,15 +56,13 @@ leaves s t a = record { memory = lent s t; answer = a; said = saidBy a }
 abbrev pub told : Result → Told
 told r = record { memory = r .memory; answer = answerOf (r .response); said = said (r .response) }
 
--- the same of one record: store, record and answer are what d has
-abbrev pub Handles : List ℕ → Handled → Done → Type 0
-Handles s r d = (s ≡ d .store) × (r .worker ≡ d .worker) × (r .answer ≡ answerOf (d .response))
-
-pub put-back-told : (t : List Worker) (i : ℕ) (s : List ℕ) (r : Handled) (d : Done) → Handles s r d
-    → leaves s (set t i (r .worker)) (r .answer) ≡ told (back t i d)
-put-back-told t i s r d (store, worker, answer) =
-    (λ k. leaves (store k) (set t i (worker k)) (answer k))
-    ∙ (λ k. record { memory = lent (d .store) (set t i (d .worker)); answer = answerOf (d .response); said = answer-said (d .response) k })
+-- what is done on one record, put back
+pub put-back-told : (t : List Worker) (i : ℕ) (s : List ℕ) (r : Reply) (a : Answer) (d : Done) → gives s r ≡ d → a ≡ answerOf (r .response)
+    → leaves s (set t i (r .worker)) a ≡ told (back t i d)
+put-back-told t i s r a d given answer =
+    (λ k. leaves s (set t i (r .worker)) (answer k))
+    ∙ (λ k. record { memory = lent s (set t i (r .worker)); answer = answerOf (r .response); said = answer-said (r .response) k })
+    ∙ ap (λ (e : Done). told (back t i e)) given
 
 -- ── the operation on a record ──
 -- by the kind that the code hands on: 0 a put, 1 a take, otherwise a turn, of worker i

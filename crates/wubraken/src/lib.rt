@@ -9,6 +9,7 @@ ghost use Rattle.calendar.specs.rules.Operations.{act, open-pool};
 ghost use Rattle.wubraken.specs.Results.{lent, leaves, told, actionOf};
 use admission::ranges::shape_in_range;
 use answers::Answer;
+use answers::answer_of;
 use arrival::Arrival;
 use arrival::Shape;
 use arrival::Worker;
@@ -64,7 +65,7 @@ pub fn act_lent(
         let w = table[i];
         let r = act_on_record(shape, kind, i, arrival, n, seen, w, store);
         table[i] = r.worker;
-        return r.answer;
+        return answer_of(r.response);
     } else {
         return turn_away(shape, i, n, seen, store);
     }

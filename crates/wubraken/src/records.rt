@@ -5,7 +5,8 @@ ghost use Rattle.arrival.specs.declared.Response.the-variants.{Refused};
 ghost use Rattle.wubraken.specs.Answers.{answerOf};
 ghost use Rattle.wubraken.specs.Survey.{Surveyed};
 ghost use Rattle.wubraken.specs.LentGate.{gateOn};
-ghost use Rattle.wubraken.specs.Results.{Handles, actionOf, actOn, opensWords};
+ghost use Rattle.words.specs.Done.{gives};
+ghost use Rattle.wubraken.specs.Results.{actionOf, actOn, opensWords};
 use super::answers::Answer;
 use super::answers::answer_of;
 use super::table::Survey;
@@ -19,12 +20,8 @@ use arrival::Shape;
 use arrival::Worker;
 use operation::perform;
 use starts::opening::open_store;
-
-// What an operation leaves of a record, and its answer.
-pub struct Handled {
-    pub worker: Worker,
-    pub answer: Answer,
-}
+use words::replies::Reply;
+use words::replies::refuse;
 
 // Refusals 1 to 4, or 0, of n records.
 fn gate_on(shape: Shape, i: usize, n: usize, seen: Survey, store: &[u64]) -> u64
@@ -74,21 +71,16 @@ pub fn act_on_record(
     seen: Survey,
     w: Worker,
     store: &mut [u64],
-) -> Handled
+) -> Reply
     requires { ⌜ Surveyed shape i seen w ⌝ }
-    ensures { λ r. ⌜ Handles (now (store .exit)) r (actOn shape (actionOf kind i arrival) n seen (now (store .entry)) w) ⌝ }
+    ensures { λ r. ⌜ gives (now (store .exit)) r ≡ actOn shape (actionOf kind i arrival) n seen (now (store .entry)) w ⌝ }
 {
     let k = gate_on(shape, i, n, seen, store);
     if k != 0 {
-        let answer = answer_of(Response::Refused(k));
-        return Handled { worker: w, answer };
+        return refuse(w, k);
     }
     let action = action_of(kind, i, arrival);
-    let reply = perform(shape, seen.low, action, w, store);
-    let worker = reply.worker;
-    let response = reply.response;
-    let answer = answer_of(response);
-    Handled { worker, answer }
+    perform(shape, seen.low, action, w, store)
 }
 
 // How many records opening clears, and its answer.

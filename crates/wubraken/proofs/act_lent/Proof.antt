@@ -1,6 +1,6 @@
 -- `act_lent` meets its contract: a walk of its MIR, by hand. The table is lent as a `&` to `survey_table` and comes back. Where worker i has a record its
 -- borrow is opened once: the record is taken out of the row, copied, handed to `act_on_record` by value, stored to, and put back, and the borrow is closed at
--- the list with the new record in it. Where it has none `turn_away` answers.
+-- the list with the new record in it; `answer_of` answers. Where it has none `turn_away` does.
 -- The store goes to either at its own lifetime and is not needed after the call. All that the proof knows of the callees is that they meet their contracts.
 -- Assumes nothing.
 use mathlib.Core.Path.{_≡_, refl, sym, ap, subst, _∙_}
@@ -41,6 +41,7 @@ use denote.Index.{place-is, elem-out, elem-put, opens-slice, closes-slice}
 use denote.Signature.{plain}
 use denote.Steps.{only, owned, peeks, heard, nothing}
 use denote.Struct.Laws as LL
+use denote.Enum.Laws as EL
 use denote.Triple.Entry.{Vals, onEntry}
 use denote.Triple.Spec.{Meets, tripleOf}
 use denote.Triple.Statement.{Contract, Triple}
@@ -52,15 +53,17 @@ use denote.Exit.{yes}
 use Rattle.arrival.specs.declared.Shape.{Shape}
 use Rattle.arrival.specs.declared.Worker.{Worker}
 use Rattle.wubraken.specs.declared.answers.Answer.{Answer}
+use Rattle.arrival.specs.declared.Response.{Response}
 use Rattle.arrival.specs.declared.Response.the-variants.{Refused}
 use Rattle.calendar.specs.rules.Ranges.{blank}
 use Rattle.calendar.specs.rules.Operations.{act}
-use Rattle.wubraken.specs.declared.records.Handled.{Handled}
+use Rattle.words.specs.declared.replies.Reply.{Reply}
+use Rattle.words.specs.Done.{gives}
 use Rattle.wubraken.specs.Answers.{answerOf}
 use Rattle.wubraken.specs.declared.table.Survey.{Survey}
 use Rattle.wubraken.specs.Survey.{surveyed, survey, surveyed-bound, survey-records, survey-tells}
 use Rattle.wubraken.specs.LentGate.{gateOn}
-use Rattle.wubraken.specs.Results.{lent, leaves, told, Handles, put-back-told, actionOf, actOn, acted-of, away-of}
+use Rattle.wubraken.specs.Results.{lent, leaves, told, put-back-told, actionOf, actOn, acted-of, away-of}
 use Rattle.arrival.specs.declared.Arrival.{Arrival}
 use Rattle.arrival.proofs.Arrival as Ar
 use Rattle.arrival.proofs.Arrival.Laws as Ar′
@@ -70,8 +73,10 @@ use Rattle.arrival.proofs.Worker as T
 use Rattle.arrival.proofs.Worker.Laws as T′
 use Rattle.wubraken.proofs.answers.Answer as R
 use Rattle.wubraken.proofs.answers.Answer.Laws as R′
-use Rattle.wubraken.proofs.records.Handled as U
-use Rattle.wubraken.proofs.records.Handled.Laws as U′
+use Rattle.arrival.proofs.Response as Q
+use Rattle.arrival.proofs.Response.Laws as Q′
+use Rattle.words.proofs.replies.Reply as U
+use Rattle.words.proofs.replies.Reply.Laws as U′
 use Rattle.wubraken.proofs.table.Survey as Sv
 use Rattle.wubraken.proofs.table.Survey.Laws as Sv′
 use Rattle.wubraken.proofs.Shared.{LentShared, lends-shared, comes-back-shared}
@@ -83,6 +88,10 @@ use Rattle.wubraken.proofs.records.act_on_record as turn
 use Rattle.wubraken.proofs.records.act_on_record.Symbol as turn-def
 use Rattle.wubraken.proofs.records.act_on_record.Symbol.{name as #turn}
 use Rattle.wubraken.proofs.records.act_on_record.Met as turn-thm
+use Rattle.wubraken.proofs.answers.answer_of as tell
+use Rattle.wubraken.proofs.answers.answer_of.Symbol as tell-def
+use Rattle.wubraken.proofs.answers.answer_of.Symbol.{name as #tell}
+use Rattle.wubraken.proofs.answers.answer_of.Met as tell-thm
 use Rattle.wubraken.proofs.records.turn_away as away
 use Rattle.wubraken.proofs.records.turn_away.Symbol as away-def
 use Rattle.wubraken.proofs.records.turn_away.Symbol.{name as #away}
@@ -131,6 +140,9 @@ val-s = LL.val Sv.the-type Sv′.the-laws
 abbrev val-r : Answer → Val
 val-r = LL.val R.the-type R′.the-laws
 
+abbrev vals-a : Response → List Val
+vals-a = EL.vals Q.the-type Q′.the-laws
+
 holds : (y : Bool) → Holds y → y ≡ true
 holds true h = refl
 holds false h = absurd h
@@ -142,6 +154,9 @@ fails false h = refl
 -- the contracts that the proof cites
 abbrev Turn : {M : Type 1} (𝓤 : URA M) (H : Heap 𝓤) (A : Atoms 𝓤) (mem : Memory → SProp 𝓤) (run : Routine → Fun 𝓤) → Contract 𝓤
 Turn 𝓤 H A mem run = tripleOf 𝓤 H A turn.signature (turn.spec 𝓤 H A mem run)
+
+abbrev Tell : {M : Type 1} (𝓤 : URA M) (H : Heap 𝓤) (A : Atoms 𝓤) (mem : Memory → SProp 𝓤) (run : Routine → Fun 𝓤) → Contract 𝓤
+Tell 𝓤 H A mem run = tripleOf 𝓤 H A tell.signature (tell.spec 𝓤 H A mem run)
 
 abbrev Away : {M : Type 1} (𝓤 : URA M) (H : Heap 𝓤) (A : Atoms 𝓤) (mem : Memory → SProp 𝓤) (run : Routine → Fun 𝓤) → Contract 𝓤
 Away 𝓤 H A mem run = tripleOf 𝓤 H A away.signature (away.spec 𝓤 H A mem run)
@@ -155,13 +170,18 @@ scan-of : {M : Type 1} (𝓤 : URA M) (H : Heap 𝓤) (A : Atoms 𝓤) (mem : Me
     → ent 𝓤 (ensured 𝓤 H A scan.ended (scan.clauses 𝓤 H A mem run) (κ, tt) (sh, (y, tt)) tt r) (fact 𝓤 (r ≡ survey sh (y .now)))
 scan-of 𝓤 H A mem run κ sh y r = exE 𝓤 _ (λ ws. snd∗ 𝓤 (sem 𝓤 H A (lasts scan.ended (κ, tt) (sh, (y, tt)) ws)) (fact 𝓤 (r ≡ survey sh (y .now))))
 
+-- the same of `answer_of`
+tell-of : {M : Type 1} (𝓤 : URA M) (H : Heap 𝓤) (A : Atoms 𝓤) (mem : Memory → SProp 𝓤) (run : Routine → Fun 𝓤) (y : Response) (a : Answer)
+    → ent 𝓤 (ensured 𝓤 H A tell.ended (tell.clauses 𝓤 H A mem run) tt (y, tt) tt a) (fact 𝓤 (a ≡ answerOf y))
+tell-of 𝓤 H A mem run y a = exE 𝓤 _ (λ ws. snd∗ 𝓤 (sem 𝓤 H A (lasts tell.ended tt (y, tt) ws)) (fact 𝓤 (a ≡ answerOf y)))
+
 -- what the callees said, and what the contract says of it
 module _ (sh : Shape) (kind i : ℕ) (x : Arrival) (S : List ℕ) (ys : List Worker) where
   abbrev elem : Worker
   elem = getD ys i blank
 
-  abbrev Said : Handled → List ℕ → Type 0
-  Said r zs = Handles zs r (actOn sh (actionOf kind i x) (length ys) (survey sh ys) S elem)
+  abbrev Said : Reply → List ℕ → Type 0
+  Said r zs = gives zs r ≡ actOn sh (actionOf kind i x) (length ys) (survey sh ys) S elem
 
   abbrev SaidAway : Answer → List ℕ → Type 0
   SaidAway r zs = (r ≡ answerOf (Refused (gateOn sh S i (length ys) (survey sh ys .ok)))) × (zs ≡ S)
@@ -169,8 +189,8 @@ module _ (sh : Shape) (kind i : ℕ) (x : Arrival) (S : List ℕ) (ys : List Wor
   abbrev Says : Answer → List ℕ → List Worker → Type 0
   Says v zs ws = leaves zs ws v ≡ told (act sh (lent S ys) (actionOf kind i x))
 
-  says-in : i < length ys → (r : Handled) (zs : List ℕ) → Said r zs → Says (r .answer) zs (set ys i (r .worker))
-  says-in inside r zs e = put-back-told ys i zs r (actOn sh (actionOf kind i x) (length ys) (survey sh ys) S elem) e ∙ ap told (acted-of sh S ys kind i x)
+  says-in : (r : Reply) (a : Answer) (zs : List ℕ) → Said r zs → a ≡ answerOf (r .response) → Says a zs (set ys i (r .worker))
+  says-in r a zs e d = put-back-told ys i zs r a (actOn sh (actionOf kind i x) (length ys) (survey sh ys) S elem) e d ∙ ap told (acted-of sh S ys kind i x)
 
   says-out : ltb i (survey sh ys .records) ≡ false → (r : Answer) (zs : List ℕ) → SaidAway r zs → Says r zs ys
   says-out beyond r zs e = (λ k. leaves (e .1 k) ys (e .0 k)) ∙ away-of sh S ys kind i x beyond
@@ -263,27 +283,36 @@ module _ {M : Type 1} (𝓤 : URA M) (H : Heap 𝓤) (A : Atoms 𝓤) (W : Given
       owned ! usize (Is usize) (uint-makes 𝓤 H A W w64) i _ (refl, i-fits) $ fjoin ! $
       owned ! Sh.the-row (Is Sh.the-row) (LL.makes Sh.the-type Sh′.the-plain 𝓤 H A) sh _ sh-is $ fjoin ! $ move ! (1 ∷ 0 ∷ []) $ join ! $ frame ! $ done !
 
-  exits : (r : Handled) (zs : List ℕ) → Says sh kind i x S ys (r .answer) zs (set ys i (r .worker)) → length zs ≡ length S
-      → Is R.the-row (r .answer) (val-r (r .answer) ∷ [])
-      → ent 𝓤 (⋆ 𝓤 H A (‵ (fobs γ′ (codedHoleys T.the-row .code (heres T.the-row (set ys i (r .worker)))))
-      ∷ ‵ (fbor κ′ (Held T.the-row (length (set ys i (r .worker))) b′ o′ γ′)) ∷ ‵ (flft κ′ q′) ∷ (‵ (flft κ q) ⊛ ‵ ftrue) ∷ ‵ (finally u64 γ zs) ∷ []))
-      (Post (val-r (r .answer)))
-  exits r zs e same is =
-      qed W (‵ (fobs γ′ (codedHoleys T.the-row .code (heres T.the-row (set ys i (r .worker)))))
-      ∷ ‵ (fbor κ′ (Held T.the-row (length (set ys i (r .worker))) b′ o′ γ′)) ∷ ‵ (flft κ′ q′) ∷ (‵ (flft κ q) ⊛ ‵ ftrue) ∷ ‵ (finally u64 γ zs) ∷ []) ∵
-      suffices ! _ (ends-at 𝓤 H A f.ended stayed (f.clauses 𝓤 H A mem run) W (((κ, (κ′, tt)), (q, (q′, tt)), tt, args, at), tt) (val-r (r .answer)) (r .answer)
-      (tt, (tt, (tt, (tt, (zs, (set ys i (r .worker), tt)))))) (tt, (tt, (tt, (tt, (same, (length-set ys i (r .worker), tt))))))) $ says ! e $
+  -- and for `answer_of`, which owns nothing
+  abbrev to-tell : Response → Tell 𝓤 H A mem run .Ghost
+  to-tell y = ((tt, tt, tt, (y, tt), (vals-a y, tt)), tt)
+
+  goes-tell : (y : Response) → Is Q.the-row y (vals-a y) → ent 𝓤 (emp 𝓤) (Tell 𝓤 H A mem run .pre (to-tell y))
+  goes-tell y y-is =
+      qed W (‵ ftrue ∷ []) ∵ nothing ! $ owned ! Q.the-row (Is Q.the-row) (EL.makes Q.the-type Q′.the-plain 𝓤 H A) y _ y-is $ fjoin ! $
+      move ! (1 ∷ 0 ∷ []) $ join ! $ nothing ! $ move ! (1 ∷ []) $ frame ! $ done !
+
+  exits : (w : Worker) (a : Answer) (zs : List ℕ) → Says sh kind i x S ys a zs (set ys i w) → length zs ≡ length S
+      → Is R.the-row a (val-r a ∷ [])
+      → ent 𝓤 (⋆ 𝓤 H A (‵ (fobs γ′ (codedHoleys T.the-row .code (heres T.the-row (set ys i w))))
+      ∷ ‵ (fbor κ′ (Held T.the-row (length (set ys i w)) b′ o′ γ′)) ∷ ‵ (flft κ′ q′) ∷ (‵ (flft κ q) ⊛ ‵ ftrue) ∷ ‵ (finally u64 γ zs) ∷ []))
+      (Post (val-r a))
+  exits w a zs e same is =
+      qed W (‵ (fobs γ′ (codedHoleys T.the-row .code (heres T.the-row (set ys i w))))
+      ∷ ‵ (fbor κ′ (Held T.the-row (length (set ys i w)) b′ o′ γ′)) ∷ ‵ (flft κ′ q′) ∷ (‵ (flft κ q) ⊛ ‵ ftrue) ∷ ‵ (finally u64 γ zs) ∷ []) ∵
+      suffices ! _ (ends-at 𝓤 H A f.ended stayed (f.clauses 𝓤 H A mem run) W (((κ, (κ′, tt)), (q, (q′, tt)), tt, args, at), tt) (val-r a) a
+      (tt, (tt, (tt, (tt, (zs, (set ys i w, tt)))))) (tt, (tt, (tt, (tt, (same, (length-set ys i w, tt))))))) $ says ! e $
       move ! (3 ∷ []) $ split ! $ move ! (4 ∷ 1 ∷ []) $ join ! $ move ! (1 ∷ 0 ∷ []) $ join ! $ frame ! $
       -- [obs; the borrow; the store's last list]
-      fjoin ! $ pureI ! (at-slice T.the-row (t (set ys i (r .worker))) (tv ∷ [])) (tt, (tt, tt)) (
-        ap (λ (m : ℕ). sliceVal (b′, o′) m ∷ []) (sym (length-set ys i (r .worker))),
-        subst (Room T.the-row) (sym (length-set ys i (r .worker))) room,
+      fjoin ! $ pureI ! (at-slice T.the-row (t (set ys i w)) (tv ∷ [])) (tt, (tt, tt)) (
+        ap (λ (m : ℕ). sliceVal (b′, o′) m ∷ []) (sym (length-set ys i w)),
+        subst (Room T.the-row) (sym (length-set ys i w)) room,
       ) $ fjoin ! $
       nothing ! $ move ! (1 ∷ 0 ∷ []) $ fjoin ! $ move ! (1 ∷ 0 ∷ []) $ fjoin ! $
       owned ! Ar.the-row (Is Ar.the-row) (LL.makes Ar.the-type Ar′.the-plain 𝓤 H A) x _ x-is $ fjoin ! $
       owned ! usize (Is usize) (uint-makes 𝓤 H A W w64) i _ (refl, i-fits) $ fjoin ! $ owned ! u64 (Is u64) (uint-makes 𝓤 H A W w64) kind _ (refl, kind-fits) $
       fjoin ! $ owned ! Sh.the-row (Is Sh.the-row) (LL.makes Sh.the-type Sh′.the-plain 𝓤 H A) sh _ sh-is $ fjoin ! $
-      frame ! $ owned ! R.the-row (Is R.the-row) (LL.makes R.the-type R′.the-plain 𝓤 H A) (r .answer) _ is $ done !
+      frame ! $ owned ! R.the-row (Is R.the-row) (LL.makes R.the-type R′.the-plain 𝓤 H A) a _ is $ done !
 
   -- where worker i has no record the table is as it was
   exits-out : (r : Answer) (zs : List ℕ) → Says sh kind i x S ys r zs ys → length zs ≡ length S → Is R.the-row r (val-r r ∷ [])
@@ -302,7 +331,8 @@ module _ {M : Type 1} (𝓤 : URA M) (H : Heap 𝓤) (A : Atoms 𝓤) (W : Given
       frame ! $ owned ! R.the-row (Is R.the-row) (LL.makes R.the-type R′.the-plain 𝓤 H A) r _ is $ done !
 
   module _ (C : Calls 𝓤 H) (Λ : Loops 𝓤 H) (fm : FmC 𝓤 H (W .laws) C) (known-scan : Triple 𝓤 (C #scan) (Scan 𝓤 H A mem run))
-      (known : Triple 𝓤 (C #turn) (Turn 𝓤 H A mem run)) (known-away : Triple 𝓤 (C #away) (Away 𝓤 H A mem run)) where
+      (known : Triple 𝓤 (C #turn) (Turn 𝓤 H A mem run)) (known-tell : Triple 𝓤 (C #tell) (Tell 𝓤 H A mem run))
+      (known-away : Triple 𝓤 (C #away) (Away 𝓤 H A mem run)) where
     walk : ent 𝓤 (onEntry 𝓤 H A f.signature (κ, (κ′, tt)) (q, (q′, tt)) args at)
         (WpFn 𝓤 H C Λ code.function (val-sh sh ∷ vint w64 kind ∷ vint w64 i ∷ val-ar x ∷ sv ∷ tv ∷ []) Post)
     walk =
@@ -369,7 +399,7 @@ module _ {M : Type 1} (𝓤 : URA M) (H : Heap 𝓤) (A : Atoms 𝓤) (W : Given
         (and-then ! (load ! (from ! (stop !)) (look ! 44 refl))
         (and-then ! (load ! (from ! (stop !)) (look ! 38 refl)) (and-then ! (load ! (from ! (stop !)) (look ! 36 refl))
         (and-then ! (load ! (from ! (stop !)) (look ! 34 refl)) (and-then ! (load ! (from ! (stop !)) (look ! 16 refl)) (no-more !))))))))) (λ v.
-        use1 W (later (some (λ (r : Handled). ((‵ (flft κ q) ⊛ ‵ ftrue) ⊛ ‵ (U.the-row .own r (v ∷ [])))
+        use1 W (later (some (λ (r : Reply). ((‵ (flft κ q) ⊛ ‵ ftrue) ⊛ ‵ (U.the-row .own r (v ∷ [])))
         ⊛ raw (ensured 𝓤 H A turn.ended (turn.clauses 𝓤 H A mem run) (κ, tt) (sh, (kind, (i, (x, (length ys, (all, (wk, (s, tt)))))))) tt r)))) (id⊢ 𝓤 _) $
         await ! tt $ pick ! (λ r.
         split ! $ move ! (1 ∷ []) $ use1 W
@@ -394,8 +424,16 @@ module _ {M : Type 1} (𝓤 : URA M) (H : Heap 𝓤) (A : Atoms 𝓤) (W : Given
         move ! (5 ∷ 0 ∷ 6 ∷ []) $ elem-put ! T.the-row fullShare ys i (r .worker) (vals (r .worker)) b′ o′ (within inside) $
         move ! (0 ∷ 5 ∷ 6 ∷ 7 ∷ []) $ closes-slice ! tt T.the-row ys (set ys i (r .worker)) (length-set ys i (r .worker)) b′ o′ $
         -- [obs; the borrow; the table's token; what r owns; the store's token; its last list; true; the table's fact; true; true; the locals]
-        assigns ! (of-opd ! (load ! (from ! (fld ! refl (stop !))) (look-in ! 32 (sub ! 1 refl (whole !))))) (from ! (stop !)) (init ! 52 refl
-        (typed-r (r .answer) (answer-is r v is))) $
+        -- `answer_of`
+        nothing ! $ use1 W (raw (Tell 𝓤 H A mem run .pre (to-tell (r .response)))) (goes-tell (r .response) (response-is r v is)) $
+        calls-at ! fm (Tell 𝓤 H A mem run) known-tell (to-tell (r .response))
+        (and-then ! (load ! (from ! (fld ! refl (stop !))) (look-in ! 33 (sub ! 1 refl (whole !)))) (no-more !)) (λ v′.
+        use1 W (later (some (λ (a : Answer). (‵ ftrue ⊛ ‵ (R.the-row .own a (v′ ∷ [])))
+        ⊛ raw (ensured 𝓤 H A tell.ended (tell.clauses 𝓤 H A mem run) tt (r .response, tt) tt a)))) (id⊢ 𝓤 _) $ await ! tt $ pick ! (λ a.
+        split ! $ move ! (1 ∷ []) $ use1 W (raw (fact 𝓤 (a ≡ answerOf (r .response)))) (tell-of 𝓤 H A mem run (r .response) a) $
+        heard ! (a ≡ answerOf (r .response)) (λ d. split ! $ drop ! $ peeks ! R.the-row (Is R.the-row) (shows 𝓤 H A R.the-row) a (v′ ∷ []) (λ is′.
+        land ! (from ! (stop !)) (init ! 53 refl (LL.lawful R.the-type R′.the-laws 𝓤 H A W .typed a _ is′ .0)) $
+        rewrite ! 53 (λ (u : Val). ‵ (fat fullShare R′.mir l₀ 0 u)) (ap only (LL.tells R.the-type R′.the-laws a _ is′)) refl $ drop ! $
         returns-within ! Post refl (look ! 52 refl) $ forget ! 52 refl $ forget ! 50 refl $ forget ! 48 refl $ forget ! 46 refl $ forget ! 44 refl $
         forget ! 42 refl $ forget ! 40 refl $ forget ! 38 refl $ forget ! 36 refl $ forget ! 34 refl $ forget ! 32 refl $ forget ! 30 refl $ forget ! 28 refl $
         forget ! 26 refl $ forget ! 24 refl $ forget ! 22 refl $ forget ! 20 refl $ forget ! 18 refl $ forget ! 16 refl $ forget ! 14 refl $
@@ -405,8 +443,8 @@ module _ {M : Type 1} (𝓤 : URA M) (H : Heap 𝓤) (A : Atoms 𝓤) (W : Given
         move ! (28 ∷ 29 ∷ []) $ free1 ! $ move ! (26 ∷ 27 ∷ []) $ free1 ! $ move ! (24 ∷ 25 ∷ []) $ free1 ! $ move ! (22 ∷ 23 ∷ []) $ free1 ! $
         move ! (20 ∷ 21 ∷ []) $ free1 ! $ move ! (18 ∷ 19 ∷ []) $ free1 ! $ move ! (16 ∷ 17 ∷ []) $ free1 ! $ move ! (14 ∷ 15 ∷ []) $ free1 ! $
         move ! (12 ∷ 13 ∷ []) $ free1 ! $ move ! (10 ∷ 11 ∷ []) $ free1 ! $ free0 ! $
-        keep ! (0 ∷ 1 ∷ 2 ∷ 4 ∷ 5 ∷ []) $ by ! (exits r (zs .1 .1 .1 .1 .1 .1 .1 .0)
-        (says-in sh kind i x S ys (within inside) r (zs .1 .1 .1 .1 .1 .1 .1 .0) e) same (answer-is r v is))))))))))
+        keep ! (0 ∷ 1 ∷ 2 ∷ 4 ∷ 5 ∷ []) $ by ! (exits (r .worker) a (zs .1 .1 .1 .1 .1 .1 .1 .0)
+        (says-in sh kind i x S ys r a (zs .1 .1 .1 .1 .1 .1 .1 .0) e d) same (subst (Is R.the-row a) (LL.tells R.the-type R′.the-laws a _ is′) is′))))))))))))))
         (λ outside.
         assigns ! (addr ! (from ! (fld ! refl (hop ! (look-in ! 38 (sub ! 0 refl (whole !))) (stop !))))) (from ! (stop !)) (init ! 8 refl (tt, tt)) $
         assigns ! (agg ! (and-then ! (load ! (from ! (stop !)) (look ! 8 refl))
@@ -457,11 +495,11 @@ module _ {M : Type 1} (𝓤 : URA M) (H : Heap 𝓤) (A : Atoms 𝓤) (W : Given
         all-is : (m : Survey) (v : Val) → Is Sv.the-row m (v ∷ []) → m ≡ all → Is Sv.the-row all (vals-s all)
         all-is m v is e = subst (λ (y : Survey). Is Sv.the-row y (vals-s y)) e (subst (Is Sv.the-row m) (LL.tells Sv.the-type Sv′.the-laws m (v ∷ []) is) is)
 
-        worker-is : (r : Handled) (v : Val) → Is U.the-row r (v ∷ []) → Is T.the-row (r .worker) (vals (r .worker))
+        worker-is : (r : Reply) (v : Val) → Is U.the-row r (v ∷ []) → Is T.the-row (r .worker) (vals (r .worker))
         worker-is r v is = LL.owed U.the-type U′.the-laws r _ is .0
 
-        answer-is : (r : Handled) (v : Val) → Is U.the-row r (v ∷ []) → Is R.the-row (r .answer) (val-r (r .answer) ∷ [])
-        answer-is r v is = LL.owed U.the-type U′.the-laws r _ is .1 .0
+        response-is : (r : Reply) (v : Val) → Is U.the-row r (v ∷ []) → Is Q.the-row (r .response) (vals-a (r .response))
+        response-is r v is = LL.owed U.the-type U′.the-laws r _ is .1 .0
 
         within : Holds (ltb i (all .records)) → i < length ys
         within inside =
@@ -478,8 +516,8 @@ module _ {M : Type 1} (𝓤 : URA M) (H : Heap 𝓤) (A : Atoms 𝓤) (W : Given
 
 module _ {M : Type 1} (𝓤 : URA M) (H : Heap 𝓤) (A : Atoms 𝓤) (W : Given 𝓤 H A) (mem : Memory → SProp 𝓤) (run : Routine → Fun 𝓤) where
   walks : (C : Calls 𝓤 H) (Λ : Loops 𝓤 H) → FmC 𝓤 H (W .laws) C → Triple 𝓤 (C #scan) (Scan 𝓤 H A mem run) → Triple 𝓤 (C #turn) (Turn 𝓤 H A mem run)
-      → Triple 𝓤 (C #away) (Away 𝓤 H A mem run) → Walks 𝓤 H A f.ended stayed (WpFn 𝓤 H C Λ code.function) (f.clauses 𝓤 H A mem run)
-  walks C Λ fm known-scan known known-away = walked 𝓤 H A f.ended stayed (f.clauses 𝓤 H A mem run) (WpFn 𝓤 H C Λ code.function)
+      → Triple 𝓤 (C #tell) (Tell 𝓤 H A mem run) → Triple 𝓤 (C #away) (Away 𝓤 H A mem run) → Walks 𝓤 H A f.ended stayed (WpFn 𝓤 H C Λ code.function) (f.clauses 𝓤 H A mem run)
+  walks C Λ fm known-scan known known-tell known-away = walked 𝓤 H A f.ended stayed (f.clauses 𝓤 H A mem run) (WpFn 𝓤 H C Λ code.function)
       (λ κs. (vals-sh, (uint-vals w64, (uint-vals w64, (vals-ar, (slice-vals, (slice-vals, tt)))))))
       (λ κs. (
         LL.tells Sh.the-type Sh′.the-laws,
@@ -492,12 +530,13 @@ module _ {M : Type 1} (𝓤 : URA M) (H : Heap 𝓤) (A : Atoms 𝓤) (W : Given
       (walk 𝓤 H A W mem run (κs .0) (κs .1 .0) (qs .0) (qs .1 .0) (a .0) (a .1 .0) (a .1 .1 .0) (a .1 .1 .1 .0) (a .1 .1 .1 .1 .0 .ptr .0)
       (a .1 .1 .1 .1 .0 .ptr .1) (a .1 .1 .1 .1 .0 .name) (a .1 .1 .1 .1 .0 .now) (a .1 .1 .1 .1 .1 .0 .ptr .0) (a .1 .1 .1 .1 .1 .0 .ptr .1)
       (a .1 .1 .1 .1 .1 .0 .name) (a .1 .1 .1 .1 .1 .0 .now)
-      (are .0) (are .1 .0 .1) (are .1 .1 .0 .1) (are .1 .1 .1 .0) (are .1 .1 .1 .1 .0 .0 .1) (are .1 .1 .1 .1 .1 .0 .0 .1) C Λ fm known-scan known known-away))
+      (are .0) (are .1 .0 .1) (are .1 .1 .0 .1) (are .1 .1 .1 .0) (are .1 .1 .1 .1 .0 .0 .1) (are .1 .1 .1 .1 .1 .0 .0 .1) C Λ fm known-scan known known-tell known-away))
 
 meets : {M : Type 1} (𝓤 : URA M) (H : Heap 𝓤) (A : Atoms 𝓤) → Given 𝓤 H A → (mem : Memory → SProp 𝓤) (run : Routine → Fun 𝓤) (𝓣 : Tables 𝓤 H)
-    → Triple 𝓤 (𝓣 .C #scan) (Scan 𝓤 H A mem run) → Triple 𝓤 (𝓣 .C #turn) (Turn 𝓤 H A mem run) → Triple 𝓤 (𝓣 .C #away) (Away 𝓤 H A mem run)
+    → Triple 𝓤 (𝓣 .C #scan) (Scan 𝓤 H A mem run) → Triple 𝓤 (𝓣 .C #turn) (Turn 𝓤 H A mem run) → Triple 𝓤 (𝓣 .C #tell) (Tell 𝓤 H A mem run)
+    → Triple 𝓤 (𝓣 .C #away) (Away 𝓤 H A mem run)
     → Meets 𝓤 H A f.signature (WpFn 𝓤 H (𝓣 .C) (𝓣 .Λ) code.function) (f.spec 𝓤 H A mem run)
-meets 𝓤 H A W mem run 𝓣 known-scan known known-away =
+meets 𝓤 H A W mem run 𝓣 known-scan known known-tell known-away =
     walk-meets 𝓤 H A f.ended stayed W (
       goes-none 𝓤 H A W 2 (λ _. Sh.the-row) yes (λ κs x f. refl),
       (
@@ -512,7 +551,7 @@ meets 𝓤 H A W mem run 𝓣 known-scan known known-away =
       ),
     ) (f.clauses 𝓤 H A mem run)
     (WpFn 𝓤 H (𝓣 .C) (𝓣 .Λ) code.function) (WpFn-mono 𝓤 H (W .laws) 𝓣 code.function)
-    (walks 𝓤 H A W mem run (𝓣 .C) (𝓣 .Λ) (fmOf 𝓤 H (W .laws) 𝓣) known-scan known known-away)
+    (walks 𝓤 H A W mem run (𝓣 .C) (𝓣 .Λ) (fmOf 𝓤 H (W .laws) 𝓣) known-scan known known-tell known-away)
 
 pub act-lent-spec : {M : Type 1} → stated.statement M
 unfolding code.routine tablesOf
@@ -522,4 +561,5 @@ act-lent-spec 𝓤 H 𝓜 𝓖 𝓡 =
     (meets 𝓤 H (𝓖 .A) (givenOf 𝓤 H 𝓜 𝓖) (𝓜 .mem) (𝓡 .run) (tablesOf 𝓤 H 𝓜 (tables 𝓤 H 𝓜 𝓡 code.env))
     (cited 𝓤 H (Scan 𝓤 H (𝓖 .A) (𝓜 .mem) (𝓡 .run)) 𝓜 𝓡 code.env #scan scan-def.routine code.calls-wubraken·table·survey-table (scan-thm.met 𝓤 H 𝓜 𝓖 𝓡))
     (cited 𝓤 H (Turn 𝓤 H (𝓖 .A) (𝓜 .mem) (𝓡 .run)) 𝓜 𝓡 code.env #turn turn-def.routine code.calls-wubraken·records·act-on-record (turn-thm.met 𝓤 H 𝓜 𝓖 𝓡))
+    (cited 𝓤 H (Tell 𝓤 H (𝓖 .A) (𝓜 .mem) (𝓡 .run)) 𝓜 𝓡 code.env #tell tell-def.routine code.calls-wubraken·answers·answer-of (tell-thm.met 𝓤 H 𝓜 𝓖 𝓡))
     (cited 𝓤 H (Away 𝓤 H (𝓖 .A) (𝓜 .mem) (𝓡 .run)) 𝓜 𝓡 code.env #away away-def.routine code.calls-wubraken·records·turn-away (away-thm.met 𝓤 H 𝓜 𝓖 𝓡)))
