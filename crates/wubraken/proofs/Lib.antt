@@ -1,3 +1,4 @@
 pub mod Literal
 pub mod Shared
+pub mod ByValue
 pub mod Passing

@@ -5,13 +5,14 @@
 --     actOn, refused-on, done-on     refused by 1 to 4, or done; by what the gate said
 --     acted, acted-of                what is done on one record and put back is the operation
 --     away-is, away-of               so is the refusal of a worker past the records that were looked at
---     opensWords, open-is            what opening the store gives; with the records cleared it is the opening
+--     recordsOpened, openResponse    an opening by the number that refuses it: how many records it clears, its response
+--     opened-bound, open-is          no more than there are; with the store opened and the records cleared it is the opening
 -- Assumes nothing.
-use mathlib.Core.Path.{_≡_, refl, ap, _∙_, subst}
+use mathlib.Core.Path.{_≡_, refl, sym, ap, _∙_, subst}
 use mathlib.Core.List.{List, _++_}
 use mathlib.Core.Bool.{Bool, true, false, cond}
 use mathlib.Core.Logic.{_≢_}
-use Prim.Native.Nat.{ℕ}
+use Prim.Native.Nat.{ℕ, _≤_}
 use native.Mathlib.Omega.{arith}
 use lib.Dec.{eqb, ltb}
 use lib.ListN.{length, set, drop, replicate}
@@ -20,6 +21,7 @@ use borrow.Author.Tests.{eqb-true, eqb-false, ltb-false, le-ltb, eq-eqb, ne-eqb}
 use Rattle.arrival.specs.declared.Shape.{Shape}
 use Rattle.arrival.specs.declared.Arrival.{Arrival}
 use Rattle.arrival.specs.declared.Worker.{Worker}
+use Rattle.arrival.specs.declared.Response.{Response}
 use Rattle.arrival.specs.declared.Response.the-variants.{Opened, Refused}
 use Rattle.arrival.specs.declared.Action.{Action}
 use Rattle.arrival.specs.declared.Action.the-variants.{Enqueue, Dequeue, Step}
@@ -32,9 +34,8 @@ use Rattle.words.specs.Done.{Done, gives, refused, unlessRefused}
 use Rattle.words.specs.declared.replies.Reply.{Reply}
 use Rattle.operation.specs.LocalAct.{localAct, LowFor, back, act-is}
 use Rattle.admission.specs.Watched.{Watched}
-use Rattle.admission.specs.Gate.{soundOf, sound-watched, shape-tests, usable, refused-is, openGate}
+use Rattle.admission.specs.Gate.{soundOf, sound-watched, shape-tests, usable, refused-is, openGate, open-passed}
 use Rattle.wubraken.specs.declared.table.Survey.{Survey}
-use Rattle.wubraken.specs.declared.records.Opening.{Opening}
 use Rattle.wubraken.specs.declared.answers.Answer.{Answer}
 use Rattle.wubraken.specs.Answers.{answerOf, saidBy, answer-said}
 use Rattle.wubraken.specs.Survey.{surveyed, survey, survey-records, survey-ok-is, survey-low-is}
@@ -159,17 +160,27 @@ module _ (sh : Shape) (s : List ℕ) (t : List Worker) where
       (actor-of kind i x) (away-is (actionOf kind i x))
 
 -- ── opening ──
--- what opening the store gives: how many records are to be cleared, the response, the store
-unfoldable pub opensWords : Shape → List ℕ → ℕ → List ℕ → Opening → Type 0
-opensWords sh s n s′ r =
-    (r .records ≡ cond (eqb (openGate sh (length s) n) 0) (sh .workers) 0)
-    × (r .answer ≡ answerOf (cond (eqb (openGate sh (length s) n) 0) Opened (Refused (openGate sh (length s) n))))
-    × (s′ ≡ cond (eqb (openGate sh (length s) n) 0) (openStore sh s) s)
+-- by the number k that refuses it, or 0: how many records it clears, and its response
+abbrev pub recordsOpened : Shape → ℕ → ℕ
+recordsOpened sh k = cond (eqb k 0) (sh .workers) 0
 
-pub open-is : (sh : Shape) (s : List ℕ) (t : List Worker) (s′ : List ℕ) (r : Opening) → opensWords sh s (length t) s′ r
-    → leaves s′ (replicate (r .records) blank ++ drop (r .records) t) (r .answer) ≡ told (open-pool sh (lent s t))
-unfolding opensWords openGate open-pool openRefusal openTable
-open-is sh s t s′ r e = rw (e .0, e .1, e .2) (go (eqb (openGate sh (length s) (length t)) 0))
+abbrev pub openResponse : ℕ → Response
+openResponse k = cond (eqb k 0) Opened (Refused k)
+
+-- no more than there are
+pub opened-bound : (sh : Shape) (s : List ℕ) (n k : ℕ) → k ≡ openGate sh (length s) n → recordsOpened sh k ≤ n
+opened-bound sh s n k e = go (eqb k 0) refl
+  where
+    go : (b : Bool) → eqb k 0 ≡ b → cond b (sh .workers) 0 ≤ n
+    go true z = open-passed sh (length s) n (sym e ∙ eqb-true k 0 z) .2
+    go false z = omega arith
+
+-- with the store opened and the records cleared it is the opening
+pub open-is : (sh : Shape) (s : List ℕ) (t : List Worker) (k : ℕ) (s′ : List ℕ) → k ≡ openGate sh (length s) (length t)
+    → s′ ≡ cond (eqb (openGate sh (length s) (length t)) 0) (openStore sh s) s
+    → leaves s′ (replicate (recordsOpened sh k) blank ++ drop (recordsOpened sh k) t) (answerOf (openResponse k)) ≡ told (open-pool sh (lent s t))
+unfolding openGate open-pool openRefusal openTable
+open-is sh s t k s′ e w = rw (e, w) (go (eqb (openGate sh (length s) (length t)) 0))
   where
     go : (b : Bool)
         → leaves (cond b (openStore sh s) s) (replicate (cond b (sh .workers) 0) blank ++ drop (cond b (sh .workers) 0) t)

@@ -13,9 +13,11 @@ use answers::answer_of;
 use arrival::Arrival;
 use arrival::Shape;
 use arrival::Worker;
+use operation::open_lent;
 use records::NO_ARRIVAL;
 use records::act_on_record;
-use records::open_words;
+use records::open_answer;
+use records::records_opened;
 use records::turn_away;
 use table::clear_table;
 use table::survey_table;
@@ -42,9 +44,10 @@ pub extern "C" fn wubraken_open(shape: Shape, store: &mut [u64], table: &mut [Wo
     ensures { λ r. ⌜ leaves (now (store .exit)) (now (table .exit)) r ≡ told (open-pool shape (lent (now (store .entry)) (now (table .entry)))) ⌝ }
 {
     let n = table.len();
-    let opened = open_words(shape, n, store);
-    clear_table(table, opened.records);
-    opened.answer
+    let k = open_lent(shape, n, store);
+    let cleared = records_opened(shape, k);
+    clear_table(table, cleared);
+    open_answer(k)
 }
 
 // What is asked of worker i, by its kind: its record is copied out, worked on by value, and stored back.

@@ -1,25 +1,22 @@
-// An operation on one record: refusals 1 to 4, by a look at every field, then `operation::perform`; and opening.
+// An operation on one record: refusals 1 to 4, by a look at every field, then `operation::perform`; and what an opening clears and answers.
 ghost use mathlib.Core.Path.{_≡_};
-ghost use Prim.Native.Nat.{_≤_};
 ghost use Rattle.arrival.specs.declared.Response.the-variants.{Refused};
 ghost use Rattle.wubraken.specs.Answers.{answerOf};
 ghost use Rattle.wubraken.specs.Survey.{Surveyed};
 ghost use Rattle.wubraken.specs.LentGate.{gateOn};
 ghost use Rattle.words.specs.Done.{gives};
-ghost use Rattle.wubraken.specs.Results.{actionOf, actOn, opensWords};
+ghost use Rattle.wubraken.specs.Results.{actionOf, actOn, recordsOpened, openResponse};
 use super::answers::Answer;
 use super::answers::answer_of;
 use super::table::Survey;
 use admission::gate;
 use admission::is_sound;
-use admission::open_gate;
 use arrival::Action;
 use arrival::Arrival;
 use arrival::Response;
 use arrival::Shape;
 use arrival::Worker;
 use operation::perform;
-use starts::opening::open_store;
 use words::replies::Reply;
 use words::replies::refuse;
 
@@ -83,25 +80,22 @@ pub fn act_on_record(
     perform(shape, seen.low, action, w, store)
 }
 
-// How many records opening clears, and its answer.
-pub struct Opening {
-    pub records: usize,
-    pub answer: Answer,
+// How many records an opening clears; k: the number that refuses it, or 0.
+pub fn records_opened(shape: Shape, k: u64) -> usize
+    ensures { λ r. ⌜ r ≡ recordsOpened shape k ⌝ }
+{
+    if k != 0 {
+        return 0;
+    }
+    shape.workers as usize
 }
 
-// Opens the store of a table of n records.
-pub fn open_words(shape: Shape, n: usize, store: &mut [u64]) -> Opening
-    ensures { λ r. ⌜ (opensWords shape (now (store .entry)) n (now (store .exit)) r) × (r .records ≤ n) ⌝ }
+// Its answer.
+pub fn open_answer(k: u64) -> Answer
+    ensures { λ r. ⌜ r ≡ answerOf (openResponse k) ⌝ }
 {
-    let k = open_gate(shape, store.len(), n);
     if k != 0 {
-        let answer = answer_of(Response::Refused(k));
-        return Opening { records: 0, answer };
+        return answer_of(Response::Refused(k));
     }
-    open_store(shape, store);
-    let answer = answer_of(Response::Opened);
-    Opening {
-        records: shape.workers as usize,
-        answer,
-    }
+    answer_of(Response::Opened)
 }

@@ -79,6 +79,7 @@ use Rattle.words.proofs.replies.Reply as U
 use Rattle.words.proofs.replies.Reply.Laws as U′
 use Rattle.wubraken.proofs.table.Survey as Sv
 use Rattle.wubraken.proofs.table.Survey.Laws as Sv′
+use Rattle.wubraken.proofs.ByValue.{calls-value}
 use Rattle.wubraken.proofs.Shared.{LentShared, lends-shared, comes-back-shared}
 use Rattle.wubraken.proofs.table.survey_table as scan
 use Rattle.wubraken.proofs.table.survey_table.Symbol as scan-def
@@ -283,15 +284,6 @@ module _ {M : Type 1} (𝓤 : URA M) (H : Heap 𝓤) (A : Atoms 𝓤) (W : Given
       owned ! usize (Is usize) (uint-makes 𝓤 H A W w64) i _ (refl, i-fits) $ fjoin ! $
       owned ! Sh.the-row (Is Sh.the-row) (LL.makes Sh.the-type Sh′.the-plain 𝓤 H A) sh _ sh-is $ fjoin ! $ move ! (1 ∷ 0 ∷ []) $ join ! $ frame ! $ done !
 
-  -- and for `answer_of`, which owns nothing
-  abbrev to-tell : Response → Tell 𝓤 H A mem run .Ghost
-  to-tell y = ((tt, tt, tt, (y, tt), (vals-a y, tt)), tt)
-
-  goes-tell : (y : Response) → Is Q.the-row y (vals-a y) → ent 𝓤 (emp 𝓤) (Tell 𝓤 H A mem run .pre (to-tell y))
-  goes-tell y y-is =
-      qed W (‵ ftrue ∷ []) ∵ nothing ! $ owned ! Q.the-row (Is Q.the-row) (EL.makes Q.the-type Q′.the-plain 𝓤 H A) y _ y-is $ fjoin ! $
-      move ! (1 ∷ 0 ∷ []) $ join ! $ nothing ! $ move ! (1 ∷ []) $ frame ! $ done !
-
   exits : (w : Worker) (a : Answer) (zs : List ℕ) → Says sh kind i x S ys a zs (set ys i w) → length zs ≡ length S
       → Is R.the-row a (val-r a ∷ [])
       → ent 𝓤 (⋆ 𝓤 H A (‵ (fobs γ′ (codedHoleys T.the-row .code (heres T.the-row (set ys i w))))
@@ -425,15 +417,11 @@ module _ {M : Type 1} (𝓤 : URA M) (H : Heap 𝓤) (A : Atoms 𝓤) (W : Given
         move ! (0 ∷ 5 ∷ 6 ∷ 7 ∷ []) $ closes-slice ! tt T.the-row ys (set ys i (r .worker)) (length-set ys i (r .worker)) b′ o′ $
         -- [obs; the borrow; the table's token; what r owns; the store's token; its last list; true; the table's fact; true; true; the locals]
         -- `answer_of`
-        nothing ! $ use1 W (raw (Tell 𝓤 H A mem run .pre (to-tell (r .response)))) (goes-tell (r .response) (response-is r v is)) $
-        calls-at ! fm (Tell 𝓤 H A mem run) known-tell (to-tell (r .response))
-        (and-then ! (load ! (from ! (fld ! refl (stop !))) (look-in ! 33 (sub ! 1 refl (whole !)))) (no-more !)) (λ v′.
-        use1 W (later (some (λ (a : Answer). (‵ ftrue ⊛ ‵ (R.the-row .own a (v′ ∷ [])))
-        ⊛ raw (ensured 𝓤 H A tell.ended (tell.clauses 𝓤 H A mem run) tt (r .response, tt) tt a)))) (id⊢ 𝓤 _) $ await ! tt $ pick ! (λ a.
-        split ! $ move ! (1 ∷ []) $ use1 W (raw (fact 𝓤 (a ≡ answerOf (r .response)))) (tell-of 𝓤 H A mem run (r .response) a) $
-        heard ! (a ≡ answerOf (r .response)) (λ d. split ! $ drop ! $ peeks ! R.the-row (Is R.the-row) (shows 𝓤 H A R.the-row) a (v′ ∷ []) (λ is′.
-        land ! (from ! (stop !)) (init ! 53 refl (LL.lawful R.the-type R′.the-laws 𝓤 H A W .typed a _ is′ .0)) $
-        rewrite ! 53 (λ (u : Val). ‵ (fat fullShare R′.mir l₀ 0 u)) (ap only (LL.tells R.the-type R′.the-laws a _ is′)) refl $ drop ! $
+        calls-value ! fm (tell.signature .params) (tell.signature .result) (tell.spec 𝓤 H A mem run) known-tell (r .response, tt) (vals-a (r .response), tt) tt
+        (id⊢ 𝓤 (emp 𝓤)) (EL.makes Q.the-type Q′.the-plain 𝓤 H A, tt) (response-is r v is, tt) (λ a. a ≡ answerOf (r .response)) (tell-of 𝓤 H A mem run (r .response))
+        (and-then ! (load ! (from ! (fld ! refl (stop !))) (look-in ! 33 (sub ! 1 refl (whole !)))) (no-more !)) (λ v′ a d is′.
+        land ! (from ! (stop !)) (init ! 52 refl (LL.lawful R.the-type R′.the-laws 𝓤 H A W .typed a _ is′ .0)) $
+        rewrite ! 52 (λ (u : Val). ‵ (fat fullShare R′.mir l₀ 0 u)) (ap only (LL.tells R.the-type R′.the-laws a _ is′)) refl $
         returns-within ! Post refl (look ! 52 refl) $ forget ! 52 refl $ forget ! 50 refl $ forget ! 48 refl $ forget ! 46 refl $ forget ! 44 refl $
         forget ! 42 refl $ forget ! 40 refl $ forget ! 38 refl $ forget ! 36 refl $ forget ! 34 refl $ forget ! 32 refl $ forget ! 30 refl $ forget ! 28 refl $
         forget ! 26 refl $ forget ! 24 refl $ forget ! 22 refl $ forget ! 20 refl $ forget ! 18 refl $ forget ! 16 refl $ forget ! 14 refl $
@@ -444,7 +432,7 @@ module _ {M : Type 1} (𝓤 : URA M) (H : Heap 𝓤) (A : Atoms 𝓤) (W : Given
         move ! (20 ∷ 21 ∷ []) $ free1 ! $ move ! (18 ∷ 19 ∷ []) $ free1 ! $ move ! (16 ∷ 17 ∷ []) $ free1 ! $ move ! (14 ∷ 15 ∷ []) $ free1 ! $
         move ! (12 ∷ 13 ∷ []) $ free1 ! $ move ! (10 ∷ 11 ∷ []) $ free1 ! $ free0 ! $
         keep ! (0 ∷ 1 ∷ 2 ∷ 4 ∷ 5 ∷ []) $ by ! (exits (r .worker) a (zs .1 .1 .1 .1 .1 .1 .1 .0)
-        (says-in sh kind i x S ys r a (zs .1 .1 .1 .1 .1 .1 .1 .0) e d) same (subst (Is R.the-row a) (LL.tells R.the-type R′.the-laws a _ is′) is′))))))))))))))
+        (says-in sh kind i x S ys r a (zs .1 .1 .1 .1 .1 .1 .1 .0) e d) same (subst (Is R.the-row a) (LL.tells R.the-type R′.the-laws a _ is′) is′)))))))))))
         (λ outside.
         assigns ! (addr ! (from ! (fld ! refl (hop ! (look-in ! 38 (sub ! 0 refl (whole !))) (stop !))))) (from ! (stop !)) (init ! 8 refl (tt, tt)) $
         assigns ! (agg ! (and-then ! (load ! (from ! (stop !)) (look ! 8 refl))
