@@ -25,13 +25,13 @@ use Rattle.arrival.specs.declared.Worker.{Worker}
 use Rattle.arrival.specs.declared.Response.the-variants.{Refused}
 use Rattle.arrival.specs.declared.Action.{Action}
 use Rattle.arrival.specs.declared.Action.the-variants.{Step}
-use Rattle.laws.specs.Tests.{parts, neither}
+use Rattle.laws.specs.Tests.{neither}
 use Rattle.calendar.specs.rules.Layout.{layout}
 use Rattle.calendar.specs.rules.Ranges.{worker, shapeInRange, storeInRange, tableInRange}
-use Rattle.calendar.specs.facts.RangeFacts.{Limits, limits, store-ranges, table-ranges}
+use Rattle.calendar.specs.facts.RangeFacts.{Limits, limits}
 use Rattle.calendar.specs.rules.Refusals.{firstOf, badShape, short, tooShort, outOfRange, lengthTests, memoryTests, memoryOf, openRefusal}
 use Rattle.calendar.specs.facts.FirstOf.{None, first-append, first-parts, first-none}
-use Rattle.calendar.specs.facts.Accepted.{Lent, Usable, lent}
+use Rattle.calendar.specs.facts.Accepted.{Lent, Usable, lent, memory-accepted}
 use Rattle.calendar.specs.facts.RefusalParts.{refusal-first}
 pub use Rattle.calendar.specs.facts.RefusalParts.{ownOf}
 use Rattle.calendar.specs.rules.Operations.{Memory, actor, refusal, act}
@@ -55,14 +55,6 @@ module _ (sh : Shape) (m : Memory) (sound : Bool) (watched : Watched sh m sound)
   abbrev gate : ℕ → ℕ
   gate i = gateOf sh (length (m .store)) (length (m .table)) i sound
 
-  -- what no refusal tells
-  pub usable : (i : ℕ) → gateOf sh (length (m .store)) (length (m .table)) i sound ≡ 0 → Usable sh (m .store) (m .table) i
-  usable i e =
-      let (one, (two, (three, (last, tt)))) = gate-none sh (length (m .store)) (length (m .table)) i sound e in
-      let l = lent sh (m .store) (m .table) one two in
-      let (store, table) = parts (storeInRange sh (m .store)) (tableInRange sh (m .table)) (sym (watched l) ∙ not-false sound three) in
-      record { lent = l; store = store-ranges sh (m .store) store; table = table-ranges sh (m .table) table; exists = leb-false (sh .workers) i last }
-
   -- with the flag for 3 the memory's tests give the same
   memory-is : (a b c c′ : Bool) (i : ℕ) → badShape sh ≡ a → (a ≡ false → b ≡ false → c ≡ c′) → firstOf (memoryTests sh b c i) ≡ firstOf (memoryTests sh b c′ i)
   memory-is true b c c′ i e h = rw e
@@ -74,6 +66,10 @@ module _ (sh : Shape) (m : Memory) (sound : Bool) (watched : Watched sh m sound)
   gate-is i =
       memory-is (badShape sh) (tooShort sh (m .store) (m .table)) (outOfRange sh (m .store) (m .table)) (not sound) i refl
       (λ one two. ap not (sym (watched (lent sh (m .store) (m .table) one two))))
+
+  -- what no refusal tells
+  pub usable : (i : ℕ) → gateOf sh (length (m .store)) (length (m .table)) i sound ≡ 0 → Usable sh (m .store) (m .table) i
+  usable i e = memory-accepted sh (m .store) (m .table) i (gate-is i ∙ e)
 
   gate-first : (i : ℕ) (own : List (ℕ × Bool)) → firstOf (memoryOf sh (m .store) (m .table) i ++ own) ≡ cond (eqb (gate i) 0) (firstOf own) (gate i)
   gate-first i own =

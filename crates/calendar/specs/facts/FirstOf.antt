@@ -1,11 +1,11 @@
 -- The first refusal of a list whose numbers rise, as those of every operation do. Assumes nothing.
---     by-numbers                that they rise is computed
---     first-append              the first of a list put together from two
---     first-parts               where there is none, neither of the two has one
---     first-behind              the second matters only where the first has none
---     first-front               whatever comes behind, what the first has is the answer
---     first-above               the answer is above what the numbers rise from
---     first-none                where there is none, no test holds
+--     by-numbers      that they rise is computed
+--     first-append    the first of a list put together from two
+--     first-parts     where there is none, neither of the two has one
+--     first-behind    the second matters only where the first has none
+--     first-front     whatever comes behind, what the first has is the answer
+--     first-above     the answer is above what the numbers rise from
+--     first-none      where there is none, no test holds
 use mathlib.Core.Path.{_≡_, refl, sym, ap, _∙_}
 use mathlib.Core.List.{List, [], _∷_, _++_, append-nil}
 use mathlib.Core.Bool.{Bool, true, false, cond, _&&_}
