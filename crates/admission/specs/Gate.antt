@@ -1,6 +1,6 @@
 -- Refusals 1 to 4 by the flag, before the worker's record is looked at: an action is refused by one of them, or by the first of its own.
+--     ownOf                          an action's own refusals, handed on
 --     gateOf, gate-passed            the first of 1 to 4; where there is none the flag is up and the worker exists
---     ownOf                          an action's own refusals
 --     usable                         what an action that the gate lets pass may count on
 --     refusal-is, refused-is         the gate's refusal, or the first of its own, is the action's; what the gate refuses does nothing
 --     turn-at-3                      nothing else refuses a turn at stage 3
@@ -17,22 +17,23 @@ use mathlib.Core.Logic.{_≢_}
 use Prim.Native.Nat.{ℕ, zero, suc, _≤_, _<_}
 use native.Mathlib.Omega.{arith}
 use lib.Dec.{eqb, ltb}
-use lib.ListN.{length, set}
+use lib.ListN.{length, drop}
 use borrow.Author.Tests.{not-false, eqb-true, ltb-false, leb-false, le-leb, lt-leb, le-ltb, eq-eqb, ne-eqb}
 use Rattle.arrival.specs.declared.Shape.{Shape}
 use Rattle.arrival.specs.declared.Arrival.{Arrival}
 use Rattle.arrival.specs.declared.Worker.{Worker}
 use Rattle.arrival.specs.declared.Response.the-variants.{Refused}
 use Rattle.arrival.specs.declared.Action.{Action}
-use Rattle.arrival.specs.declared.Action.the-variants.{Enqueue, Dequeue, Step}
-use Rattle.laws.specs.Tests.{parts, neither}
+use Rattle.arrival.specs.declared.Action.the-variants.{Step}
+use Rattle.laws.specs.Tests.{neither}
 use Rattle.calendar.specs.rules.Layout.{layout}
 use Rattle.calendar.specs.rules.Ranges.{worker, shapeInRange, storeInRange, tableInRange}
-use Rattle.calendar.specs.facts.RangeFacts.{Limits, limits, store-ranges, table-ranges}
-use Rattle.calendar.specs.rules.Refusals.{firstOf, badShape, short, tooShort, outOfRange, noWorker, noNode, lengthTests, memoryTests, memoryOf, ownTests}
-use Rattle.calendar.specs.rules.Refusals.{openRefusal, enqueueRefusal, dequeueRefusal, stepRefusal}
-use Rattle.calendar.specs.facts.FirstOf.{None, first-append, first-none}
-use Rattle.calendar.specs.facts.Accepted.{Lent, Usable}
+use Rattle.calendar.specs.facts.RangeFacts.{Limits, limits}
+use Rattle.calendar.specs.rules.Refusals.{firstOf, badShape, short, tooShort, outOfRange, lengthTests, memoryTests, memoryOf, openRefusal}
+use Rattle.calendar.specs.facts.FirstOf.{None, first-append, first-parts, first-none}
+use Rattle.calendar.specs.facts.Accepted.{Lent, Usable, lent, memory-accepted}
+use Rattle.calendar.specs.facts.RefusalParts.{refusal-first}
+pub use Rattle.calendar.specs.facts.RefusalParts.{ownOf}
 use Rattle.calendar.specs.rules.Operations.{Memory, actor, refusal, act}
 use Rattle.admission.specs.Watched.{Watched}
 
@@ -50,26 +51,9 @@ gate-passed sh words records i sound e =
     let (one, (two, (three, (last, tt)))) = gate-none sh words records i sound e in
     (not-false sound three, leb-false (sh .workers) i last)
 
-lent : (sh : Shape) (m : Memory) → badShape sh ≡ false → tooShort sh (m .store) (m .table) ≡ false → Lent sh (m .store) (m .table)
-lent sh m one two =
-    let (store, table) = neither _ _ two in
-    record { limits = limits sh (not-false _ one); store = ltb-false _ _ store; table = ltb-false _ _ table }
-
--- an action's own refusals
-abbrev pub ownOf : Shape → Memory → Action → List (ℕ × Bool)
-ownOf sh m a = ownTests sh (m .store) (noNode sh (m .store) (m .table)) a (worker (m .table) (actor a))
-
 module _ (sh : Shape) (m : Memory) (sound : Bool) (watched : Watched sh m sound) where
   abbrev gate : ℕ → ℕ
   gate i = gateOf sh (length (m .store)) (length (m .table)) i sound
-
-  -- what no refusal tells
-  pub usable : (i : ℕ) → gateOf sh (length (m .store)) (length (m .table)) i sound ≡ 0 → Usable sh (m .store) (m .table) i
-  usable i e =
-      let (one, (two, (three, (last, tt)))) = gate-none sh (length (m .store)) (length (m .table)) i sound e in
-      let l = lent sh m one two in
-      let (store, table) = parts (storeInRange sh (m .store)) (tableInRange sh (m .table)) (sym (watched l) ∙ not-false sound three) in
-      record { lent = l; store = store-ranges sh (m .store) store; table = table-ranges sh (m .table) table; exists = leb-false (sh .workers) i last }
 
   -- with the flag for 3 the memory's tests give the same
   memory-is : (a b c c′ : Bool) (i : ℕ) → badShape sh ≡ a → (a ≡ false → b ≡ false → c ≡ c′) → firstOf (memoryTests sh b c i) ≡ firstOf (memoryTests sh b c′ i)
@@ -81,7 +65,11 @@ module _ (sh : Shape) (m : Memory) (sound : Bool) (watched : Watched sh m sound)
   unfolding gateOf
   gate-is i =
       memory-is (badShape sh) (tooShort sh (m .store) (m .table)) (outOfRange sh (m .store) (m .table)) (not sound) i refl
-      (λ one two. ap not (sym (watched (lent sh m one two))))
+      (λ one two. ap not (sym (watched (lent sh (m .store) (m .table) one two))))
+
+  -- what no refusal tells
+  pub usable : (i : ℕ) → gateOf sh (length (m .store)) (length (m .table)) i sound ≡ 0 → Usable sh (m .store) (m .table) i
+  usable i e = memory-accepted sh (m .store) (m .table) i (gate-is i ∙ e)
 
   gate-first : (i : ℕ) (own : List (ℕ × Bool)) → firstOf (memoryOf sh (m .store) (m .table) i ++ own) ≡ cond (eqb (gate i) 0) (firstOf own) (gate i)
   gate-first i own =
@@ -89,10 +77,7 @@ module _ (sh : Shape) (m : Memory) (sound : Bool) (watched : Watched sh m sound)
       ∙ ap (λ (k : ℕ). cond (eqb k 0) (firstOf own) k) (gate-is i)
 
   pub refusal-is : (a : Action) → refusal sh m a ≡ cond (eqb (gate (actor a)) 0) (firstOf (ownOf sh m a)) (gate (actor a))
-  unfolding enqueueRefusal dequeueRefusal stepRefusal
-  refusal-is (Enqueue i a) = gate-first i (ownOf sh m (Enqueue i a))
-  refusal-is (Dequeue i) = gate-first i (ownOf sh m (Dequeue i))
-  refusal-is (Step i) = gate-first i (ownOf sh m (Step i))
+  refusal-is a = refusal-first sh m a ∙ gate-first (actor a) (ownOf sh m a)
 
   pub refused-is : (a : Action) → gateOf sh (length (m .store)) (length (m .table)) (actor a) sound ≢ 0
       → record { memory = m; response = Refused (gateOf sh (length (m .store)) (length (m .table)) (actor a) sound) } ≡ act sh m a
@@ -135,8 +120,9 @@ Tight sh words records sound = sound ≡ true → openGate sh words records ≡ 
 pub gate-opens : (sh : Shape) (words records i : ℕ) (sound : Bool) → gateOf sh words records i sound ≡ 0 → openGate sh words records ≡ 0
 unfolding gateOf openGate
 gate-opens sh words records i sound e =
-    let (one, (short-of, (three, (last, tt)))) = gate-none sh words records i sound e in
-    rw (one, short-of)
+    let tests = memoryTests sh (short sh words records) (not sound) i in
+    let opens = lengthTests sh (short sh words records) in
+    first-parts opens (drop (length opens) tests) refl e .0
 
 -- a worker that exists passes where the flag is up and 1 and 2 do not apply
 pub passes : (sh : Shape) (words records i : ℕ) (sound : Bool) → openGate sh words records ≡ 0 → sound ≡ true → i < sh .workers

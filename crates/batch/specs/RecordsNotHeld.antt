@@ -18,15 +18,14 @@ use borrow.Author.Tests.{eqb-true, eqb-false, ne-eqb, ltb-true, ltb-false}
 use Rattle.arrival.specs.declared.Shape.{Shape}
 use Rattle.arrival.specs.declared.Worker.{Worker}
 use Rattle.arrival.specs.declared.Action.{Action}
-use Rattle.arrival.specs.declared.Action.the-variants.{Enqueue, Dequeue, Step}
 use Rattle.arrival.specs.declared.Response.the-variants as response
 use Rattle.calendar.specs.rules.Ranges.{shapeInRange, blank}
 use Rattle.calendar.specs.facts.RangeFacts.{limits}
-use Rattle.calendar.specs.rules.Refusals.{firstOf, badShape, tooShort, enqueueTests, dequeueTests, stepTests, openRefusal, enqueueRefusal, dequeueRefusal}
-use Rattle.calendar.specs.rules.Refusals.{stepRefusal}
+use Rattle.calendar.specs.rules.Refusals.{openRefusal}
 use Rattle.calendar.specs.facts.Accepted.{open-accepted}
+use Rattle.calendar.specs.facts.RefusalParts.{refused-first}
 use Rattle.calendar.specs.rules.Opening.{openStore, openTable}
-use Rattle.calendar.specs.rules.Operations.{Result, refusal, act, open-pool}
+use Rattle.calendar.specs.rules.Operations.{Result, act, open-pool}
 use Rattle.calendar.specs.facts.Untouched.{act-same-size, open-same-size}
 use Rattle.calendar.specs.facts.RecordsBeyond.{keeping, act-same}
 use Rattle.admission.specs.Gate.{shape-tests}
@@ -110,19 +109,6 @@ drop-over (suc k) (suc h) (x ∷ t) [] i j l = absurd (omega arith)
 drop-over (suc k) (suc h) (x ∷ t) (y ∷ u) i j l = drop-over k h t u (omega arith) (omega arith) (omega arith)
 
 -- ── one record of the file ──
-first-two : (a b : Bool) (rest : List (ℕ × Bool)) → firstOf ((1, a) ∷ (2, b) ∷ []) ≢ 0 → firstOf ((1, a) ∷ (2, b) ∷ rest) ≡ firstOf ((1, a) ∷ (2, b) ∷ [])
-first-two true b rest n = refl
-first-two false true rest n = refl
-first-two false false rest n = absurd (n refl)
-
--- 1 and 2 are what an opening is refused by, and come first
-refused-first : (sh : Shape) (s : List ℕ) (t : List Worker) → openRefusal sh s t ≢ 0 → (a : Action)
-    → refusal sh (record { store = s; table = t }) a ≡ openRefusal sh s t
-unfolding openRefusal enqueueRefusal dequeueRefusal stepRefusal
-refused-first sh s t n (Enqueue i x) = first-two (badShape sh) (tooShort sh s t) (drop 2 (enqueueTests sh s t i x)) n
-refused-first sh s t n (Dequeue i) = first-two (badShape sh) (tooShort sh s t) (drop 2 (dequeueTests sh s t i)) n
-refused-first sh s t n (Step i) = first-two (badShape sh) (tooShort sh s t) (drop 2 (stepTests sh s t i)) n
-
 module _ {k : ℕ} {t u : List Worker} (A : Alike k t u) (sh : Shape) (s : List ℕ) where
   abbrev keeps : ℕ → Result → Result
   keeps h r = record { memory = record { store = r .memory .store; table = over h (r .memory .table) u }; response = r .response }

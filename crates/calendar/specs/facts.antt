@@ -4,6 +4,7 @@ pub mod FirstOf
 pub mod Views
 pub mod RangeFacts
 pub mod Accepted
+pub mod RefusalParts
 pub mod Changes
 pub mod Inside
 pub mod FirstFree

@@ -14,7 +14,7 @@ use mathlib.Core.Logic.{_≢_}
 use Prim.Native.Nat.{ℕ, _≤_, _<_}
 use native.Mathlib.Omega.{arith}
 use lib.Dec.{eqb}
-use lib.ListN.{length}
+use lib.ListN.{length, drop}
 use lib.Seq.{getD-set-same}
 use borrow.Author.Tests.{eqb-true, le-leb, le-ltb}
 use Rattle.arrival.specs.declared.Shape.{Shape}
@@ -30,8 +30,7 @@ use Rattle.calendar.specs.rules.Ranges.{blank, worker, storeInRange, tableInRan
 use Rattle.calendar.specs.rules.Reclaim.{firstFree}
 use Rattle.calendar.specs.rules.Opening.{openStore, openTable}
 use Rattle.calendar.specs.rules.Starts.{enqueueStart}
-use Rattle.calendar.specs.rules.Refusals.{badShape, tooShort, outOfRange, noWorker, badArrival, tooLate, busy, idle, noTicket, noEpoch, noNode, openRefusal}
-use Rattle.calendar.specs.rules.Refusals.{enqueueRefusal, dequeueRefusal, stepRefusal}
+use Rattle.calendar.specs.rules.Refusals.{badShape, tooShort, outOfRange, openRefusal, enqueueRefusal}
 use Rattle.calendar.specs.rules.Snapshot.{holds}
 use Rattle.calendar.specs.rules.Ledger.{new}
 use Rattle.calendar.specs.rules.Operations.{Memory, Result, perform, open-pool, actor, refusal, outcome, act, run}
@@ -39,6 +38,8 @@ use Rattle.calendar.specs.facts.Views.{View, view, itemIn}
 use Rattle.calendar.specs.facts.RangeFacts.{store-tests, table-tests}
 use Rattle.calendar.specs.facts.FirstFree.{first-free-node, first-free-free}
 use Rattle.calendar.specs.facts.Accepted.{Lent, open-accepted, enqueue-accepted, dequeue-accepted, step-accepted}
+use Rattle.calendar.specs.facts.FirstOf.{by-numbers, first-above}
+use Rattle.calendar.specs.facts.RefusalParts.{testsOf, refusal-first, tests-rise}
 use Rattle.calendar.specs.facts.Changes.{step-is}
 use Rattle.calendar.specs.facts.Untouched.{open-same-size, outcome-said}
 use Rattle.calendar.specs.facts.Acting.{by-act}
@@ -134,24 +135,11 @@ module _ (sh : Shape) (m : Memory) (ch : Chains) (K : Reached sh m ch) where
   ranged : outOfRange sh (m .store) (m .table) ≡ false
   ranged = let (p, q) = reached-in-range sh m ch K in rw (p, q)
 
-  later : (k n : ℕ) → k ≤ 3 → (b : Bool) → 4 ≤ n → {rest : ℕ} → rest ≢ k → cond b n rest ≢ k
-  later k n h true l r e = omega arith
-  later k n h false l r e = r e
-
   -- nothing but 4 and more is left
   pub not-1-to-3 : (a : Action) (k : ℕ) → 1 ≤ k → k ≤ 3 → refusal sh m a ≢ k
-  unfolding enqueueRefusal dequeueRefusal stepRefusal
-  not-1-to-3 (Enqueue i x) k lo hi =
-      rw (in-shape, long, ranged)
-      (later k 4 hi (noWorker sh i) (omega arith) (later k 5 hi (badArrival x) (omega arith) (later k 6 hi (tooLate sh x) (omega arith)
-      (later k 9 hi (busy (worker (m .table) i)) (omega arith)
-      (later k 11 hi (noTicket sh (m .store)) (omega arith) (later k 12 hi (noNode sh (m .store) (m .table)) (omega arith) {rest = 0} (λ e. omega arith)))))))
-  not-1-to-3 (Dequeue i) k lo hi =
-      rw (in-shape, long, ranged) (later k 4 hi (noWorker sh i) (omega arith) (later k 9 hi (busy (worker (m .table) i)) (omega arith)
-      (later k 11 hi (noTicket sh (m .store)) (omega arith) {rest = 0} (λ e. omega arith))))
-  not-1-to-3 (Step i) k lo hi =
-      rw (in-shape, long, ranged) (later k 4 hi (noWorker sh i) (omega arith) (later k 10 hi (idle (worker (m .table) i)) (omega arith)
-      (later k 11 hi (noEpoch sh (m .store) (worker (m .table) i)) (omega arith) {rest = 0} (λ e. omega arith))))
+  not-1-to-3 a k lo hi =
+      let (one, (two, (three, rise))) = by-numbers 0 (testsOf sh m a) (tests-rise sh m a) in
+      rw (refusal-first sh m a, in-shape, long, ranged) (first-above 3 (drop 3 (testsOf sh m a)) rise k lo hi)
 
 -- a refusal's number is the one of the list
 pub refused-by : (sh : Shape) (m : Memory) (a : Action) (k : ℕ) → 1 ≤ k → act sh m a .response ≡ Refused k → refusal sh m a ≡ k

@@ -1,7 +1,7 @@
 -- A start on one record: which refusals it can get after 1 to 4, and what it does otherwise. Assumes nothing.
 use mathlib.Core.Path.{_≡_, refl, sym, ap, _∙_}
 use mathlib.Core.Bool.{Bool, true, false, cond}
-use mathlib.Core.List.{List, [], _∷_}
+use mathlib.Core.List.{List}
 use mathlib.Core.Logic.{_≢_}
 use Prim.Native.Nat.{ℕ}
 use native.Mathlib.Omega.{arith}
@@ -12,7 +12,7 @@ use Rattle.arrival.specs.declared.Arrival.{Arrival}
 use Rattle.arrival.specs.declared.Worker.{Worker}
 use Rattle.arrival.specs.declared.Response.the-variants.{Refused}
 use Rattle.calendar.specs.rules.Layout.{started}
-use Rattle.calendar.specs.rules.Refusals.{firstOf, noTicket, earlyOwn, enqueueOwn, dequeueOwn}
+use Rattle.calendar.specs.rules.Refusals.{firstOf, noTicket, earlyOwn, lateOwn, enqueueOwn, dequeueOwn}
 use Rattle.calendar.specs.facts.FirstOf.{first-append}
 use Rattle.calendar.specs.rules.Starts.{enqueueStart, dequeueStart}
 use Rattle.words.specs.Done.{Done, done, refused, unlessRefused}
@@ -35,9 +35,9 @@ localDequeue sh s w = unlessRefused (firstOf (dequeueOwn w (noTicket sh s))) s w
 
 -- 12 comes last: a node is looked for only where nothing refuses before.
 late : (sh : Shape) (a : Arrival) (w : Worker) (spent none : Bool)
-    → firstOf (enqueueOwn sh a w spent none) ≡ cond (eqb (firstOf (earlyOwn sh a w spent)) 0) (cond none 12 0) (firstOf (earlyOwn sh a w spent))
+    → firstOf (enqueueOwn sh a w spent none) ≡ cond (eqb (firstOf (earlyOwn sh a w spent)) 0) (firstOf (lateOwn none)) (firstOf (earlyOwn sh a w spent))
 late sh a w spent none =
-    first-append (earlyOwn sh a w spent) ((12, none) ∷ []) refl
+    first-append (earlyOwn sh a w spent) (lateOwn none) refl
 
 -- by what the code has read: word 1 is x, the refusal before 12 is k, the node n
 module _ (sh : Shape) (low : ℕ) (s : List ℕ) (a : Arrival) (w : Worker) (x k n : ℕ) (word : x ≡ started sh s) (early : k ≡ earlyRefusal sh a w x) where

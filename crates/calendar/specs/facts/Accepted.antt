@@ -1,7 +1,8 @@
 -- What an operation that is not refused may count on.
 --     Lent, Usable                                          without refusals 1 and 2; and without 3 and 4
 --     EnqueueAccepted, DequeueAccepted, StepAccepted        and without those of a put, of a take, of a turn
---     open-accepted                                         an opening that is not refused has the first
+--     lent, open-accepted                                   an opening that is not refused has the first
+--     memory-accepted                                       an action that the memory's tests let pass has the second
 --     enqueue-accepted, dequeue-accepted, step-accepted     an action that is not refused has its own
 -- Assumes nothing.
 use mathlib.Core.Path.{_≡_, refl, sym, ap, _∙_}
@@ -22,10 +23,9 @@ use Rattle.calendar.specs.rules.Ranges.{worker, pathInRange, orderInRang
 use Rattle.calendar.specs.facts.RangeFacts.{Limits, limits, StoreRanges, store-ranges, RecordRanges, table-ranges}
 use Rattle.calendar.specs.facts.Views.{view}
 use Rattle.calendar.specs.rules.Reclaim.{firstFree}
-use Rattle.calendar.specs.rules.Refusals.{badShape, tooShort, outOfRange, noWorker, badArrival, tooLate, busy, idle, noTicket, noEpoch, noNode}
+use Rattle.calendar.specs.rules.Refusals.{badShape, tooShort, noTicket, noEpoch, noNode, firstOf, openTests, memoryOf, enqueueOwn, dequeueOwn, stepOwn}
 use Rattle.calendar.specs.rules.Refusals.{openRefusal, enqueueRefusal, dequeueRefusal, stepRefusal}
-use Rattle.calendar.specs.rules.Refusals.{openTests, enqueueTests, dequeueTests, stepTests}
-use Rattle.calendar.specs.facts.FirstOf.{first-none}
+use Rattle.calendar.specs.facts.FirstOf.{first-parts, first-none}
 
 -- shape and lengths: refusals 1 and 2
 pub record Lent (sh : Shape) (s : List ℕ) (t : List Worker) : Type 0 where
@@ -61,16 +61,10 @@ pub record StepAccepted (sh : Shape) (s : List ℕ) (t : List Worker) (i : ℕ) 
   pub busy : worker t i .stage ≢ 0
   pub epoch : noEpoch sh s (worker t i) ≡ false
 
-lent : (sh : Shape) (s : List ℕ) (t : List Worker) → badShape sh ≡ false → tooShort sh s t ≡ false → Lent sh s t
+pub lent : (sh : Shape) (s : List ℕ) (t : List Worker) → badShape sh ≡ false → tooShort sh s t ≡ false → Lent sh s t
 lent sh s t one two =
     let (p, q) = neither _ _ two in
     record { limits = limits sh (not-false _ one); store = ltb-false _ _ p; table = ltb-false _ _ q }
-
-usable : (sh : Shape) (s : List ℕ) (t : List Worker) (i : ℕ) → badShape sh ≡ false → tooShort sh s t ≡ false → outOfRange sh s t ≡ false → noWorker sh i ≡ false
-    → Usable sh s t i
-usable sh s t i one two three four =
-    let (p, q) = parts (storeInRange sh s) (tableInRange sh t) (not-false _ three) in
-    record { lent = lent sh s t one two; store = store-ranges sh s p; table = table-ranges sh t q; exists = leb-false _ _ four }
 
 pub open-accepted : (sh : Shape) (s : List ℕ) (t : List Worker) → openRefusal sh s t ≡ 0 → Lent sh s t
 unfolding openRefusal
@@ -78,15 +72,23 @@ open-accepted sh s t e =
     let (one, (two, last)) = first-none (openTests sh s t) refl e in
     lent sh s t one two
 
+pub memory-accepted : (sh : Shape) (s : List ℕ) (t : List Worker) (i : ℕ) → firstOf (memoryOf sh s t i) ≡ 0 → Usable sh s t i
+memory-accepted sh s t i e =
+    let (one, (two, (three, (four, last)))) = first-none (memoryOf sh s t i) refl e in
+    let (p, q) = parts (storeInRange sh s) (tableInRange sh t) (not-false _ three) in
+    record { lent = lent sh s t one two; store = store-ranges sh s p; table = table-ranges sh t q; exists = leb-false _ _ four }
+
 pub enqueue-accepted : (sh : Shape) (s : List ℕ) (t : List Worker) (i : ℕ) (a : Arrival) → enqueueRefusal sh s t i a ≡ 0 → EnqueueAccepted sh s t i a
 unfolding enqueueRefusal
 enqueue-accepted sh s t i a e =
-    let (one, (two, (three, (four, (five, (six, (nine, (eleven, (twelve, last))))))))) = first-none (enqueueTests sh s t i a) refl e in
+    let own = enqueueOwn sh a (worker t i) (noTicket sh s) (noNode sh s t) in
+    let (z, none) = first-parts (memoryOf sh s t i) own refl e in
+    let (five, (six, (nine, (eleven, (twelve, last))))) = first-none own refl none in
     let (p, far) = parts _ _ (not-false _ five) in
     let (path, order) = parts _ _ p in
     let (some-distance, distance) = parts _ _ far in
     record {
-      usable = usable sh s t i one two three four;
+      usable = memory-accepted sh s t i z;
       path = leb-true _ _ path;
       order = leb-true _ _ order;
       some-distance = leb-true _ _ some-distance;
@@ -100,11 +102,15 @@ enqueue-accepted sh s t i a e =
 pub dequeue-accepted : (sh : Shape) (s : List ℕ) (t : List Worker) (i : ℕ) → dequeueRefusal sh s t i ≡ 0 → DequeueAccepted sh s t i
 unfolding dequeueRefusal
 dequeue-accepted sh s t i e =
-    let (one, (two, (three, (four, (nine, (eleven, last)))))) = first-none (dequeueTests sh s t i) refl e in
-    record { usable = usable sh s t i one two three four; idle = eqb-true _ _ (not-false _ nine); ticket = eqb-false _ _ eleven }
+    let own = dequeueOwn (worker t i) (noTicket sh s) in
+    let (z, none) = first-parts (memoryOf sh s t i) own refl e in
+    let (nine, (eleven, last)) = first-none own refl none in
+    record { usable = memory-accepted sh s t i z; idle = eqb-true _ _ (not-false _ nine); ticket = eqb-false _ _ eleven }
 
 pub step-accepted : (sh : Shape) (s : List ℕ) (t : List Worker) (i : ℕ) → stepRefusal sh s t i ≡ 0 → StepAccepted sh s t i
 unfolding stepRefusal
 step-accepted sh s t i e =
-    let (one, (two, (three, (four, (ten, (eleven, last)))))) = first-none (stepTests sh s t i) refl e in
-    record { usable = usable sh s t i one two three four; busy = eqb-false _ _ (not-true _ (not-false _ ten)); epoch = eleven }
+    let own = stepOwn sh s (worker t i) in
+    let (z, none) = first-parts (memoryOf sh s t i) own refl e in
+    let (ten, (eleven, last)) = first-none own refl none in
+    record { usable = memory-accepted sh s t i z; busy = eqb-false _ _ (not-true _ (not-false _ ten)); epoch = eleven }

@@ -1,14 +1,19 @@
 -- The first refusal of a list whose numbers rise, as those of every operation do. Assumes nothing.
 --     by-numbers      that they rise is computed
 --     first-append    the first of a list put together from two
+--     first-parts     where there is none, neither of the two has one
+--     first-behind    the second matters only where the first has none
+--     first-front     whatever comes behind, what the first has is the answer
+--     first-above     the answer is above what the numbers rise from
 --     first-none      where there is none, no test holds
 use mathlib.Core.Path.{_≡_, refl, sym, ap, _∙_}
-use mathlib.Core.List.{List, [], _∷_, _++_}
+use mathlib.Core.List.{List, [], _∷_, _++_, append-nil}
 use mathlib.Core.Bool.{Bool, true, false, cond, _&&_}
-use Prim.Native.Nat.{ℕ, zero, suc, _<_}
+use mathlib.Core.Logic.{_≢_}
+use Prim.Native.Nat.{ℕ, zero, suc, _<_, _≤_}
 use native.Mathlib.Omega.{arith}
 use lib.Dec.{eqb, ltb}
-use borrow.Author.Tests.{ltb-true, ne-eqb}
+use borrow.Author.Tests.{eqb-true, eqb-false, ltb-true, ne-eqb}
 use Rattle.laws.specs.Tests.{parts}
 use Rattle.calendar.specs.rules.Refusals.{firstOf}
 
@@ -36,6 +41,34 @@ first-of-two k (x ∷ xs) ys r = go (x .1) (first-of-two (x .0) xs ys (r .1))
 
 pub first-append : (xs ys : List (ℕ × Bool)) → rises 0 xs ≡ true → firstOf (xs ++ ys) ≡ cond (eqb (firstOf xs) 0) (firstOf ys) (firstOf xs)
 first-append xs ys e = first-of-two 0 xs ys (by-numbers 0 xs e)
+
+pub first-parts : (xs ys : List (ℕ × Bool)) → rises 0 xs ≡ true → firstOf (xs ++ ys) ≡ 0 → (firstOf xs ≡ 0) × (firstOf ys ≡ 0)
+first-parts xs ys up e = go (eqb (firstOf xs) 0) refl (sym (first-append xs ys up) ∙ e)
+  where
+    go : (b : Bool) → eqb (firstOf xs) 0 ≡ b → cond b (firstOf ys) (firstOf xs) ≡ 0 → (firstOf xs ≡ 0) × (firstOf ys ≡ 0)
+    go true q z = (eqb-true (firstOf xs) 0 q, z)
+    go false q z = absurd (eqb-false (firstOf xs) 0 q z)
+
+pub first-behind : (xs ys zs : List (ℕ × Bool)) → (firstOf xs ≡ 0 → firstOf ys ≡ firstOf zs) → firstOf (xs ++ ys) ≡ firstOf (xs ++ zs)
+first-behind [] ys zs h = h refl
+first-behind (x ∷ xs) ys zs h = go (x .1) h (first-behind xs ys zs)
+  where
+    go : (b : Bool) → (cond b (x .0) (firstOf xs) ≡ 0 → firstOf ys ≡ firstOf zs)
+        → ((firstOf xs ≡ 0 → firstOf ys ≡ firstOf zs) → firstOf (xs ++ ys) ≡ firstOf (xs ++ zs))
+        → cond b (x .0) (firstOf (xs ++ ys)) ≡ cond b (x .0) (firstOf (xs ++ zs))
+    go true h rest = refl
+    go false h rest = rest h
+
+pub first-front : (xs ys : List (ℕ × Bool)) → firstOf xs ≢ 0 → firstOf (xs ++ ys) ≡ firstOf xs
+first-front xs ys n = first-behind xs ys [] (λ e. absurd (n e)) ∙ ap firstOf (append-nil xs)
+
+pub first-above : (k : ℕ) (xs : List (ℕ × Bool)) → Rising k xs → (n : ℕ) → 1 ≤ n → n ≤ k → firstOf xs ≢ n
+first-above k [] r n lo hi e = omega arith
+first-above k (x ∷ xs) r n lo hi e = go (x .1) e (first-above (x .0) xs (r .1) n lo (omega (arith, r .0)))
+  where
+    go : (b : Bool) → cond b (x .0) (firstOf xs) ≡ n → firstOf xs ≢ n → ⊥
+    go true z rest = omega (arith, r .0)
+    go false z rest = rest z
 
 -- no test holds
 abbrev pub None : List (ℕ × Bool) → Type 0

@@ -1,44 +1,37 @@
 -- Records beyond the workers are not read: on a longer table an operation does the same, and keeps the rest.
 --     longer, keeping                                  records behind the table; a result that keeps them
 --     act-same, open-same                              where the table has a record for each worker they do not matter, and are kept
---     act-beyond, open-refusal-beyond, open-beyond     so it is with 64 records, for any shape
+--     open-refusal-beyond, act-beyond, open-beyond     so it is with 64 records, for any shape
 -- Assumes nothing.
 use mathlib.Core.Path.{_≡_, refl, sym, ap, _∙_}
-use mathlib.Core.List.{List, [], _∷_, _++_, append-assoc}
+use mathlib.Core.List.{List, _++_, append-assoc}
 use mathlib.Core.Bool.{Bool, true, false, cond, not}
 use Prim.Native.Nat.{ℕ, zero, suc, _<_, _≤_, _-_}
 use native.Mathlib.Omega.{arith}
 use lib.Dec.{eqb, ltb}
 use lib.ListN.{length, drop, replicate, length-append, List·getD-append}
 use lib.Seq.{set-append-left, drop-append-le}
-use borrow.Author.Tests.{eqb-true, leb-false, le-ltb}
+use borrow.Author.Tests.{eqb-true, eqb-false, le-ltb}
 use Rattle.arrival.specs.declared.Shape.{Shape}
 use Rattle.arrival.specs.declared.Worker.{Worker}
 use Rattle.arrival.specs.declared.Action.{Action}
-use Rattle.arrival.specs.declared.Action.the-variants.{Enqueue, Dequeue, Step}
 use Rattle.arrival.specs.declared.Response.the-variants.{Opened, Refused}
 use Rattle.laws.specs.Counting.{every-same}
 use Rattle.calendar.specs.rules.Ranges.{shapeInRange, blank, worker, recordInRange, tableInRange}
 use Rattle.calendar.specs.rules.Reclaim.{startedBy, isFree, nodeAfter, firstFreeOf, firstFree}
 use Rattle.calendar.specs.rules.Layout.{standing}
 use Rattle.calendar.specs.rules.Opening.{openStore, openTable}
-use Rattle.calendar.specs.rules.Refusals.{firstOf, badShape, tooShort, outOfRange, noWorker, badArrival, tooLate, busy, idle, noTicket, noEpoch, noNode}
-use Rattle.calendar.specs.rules.Refusals.{openRefusal, enqueueRefusal, dequeueRefusal, stepRefusal}
+use Rattle.calendar.specs.rules.Refusals.{memoryOf, openRefusal}
 use Rattle.calendar.specs.rules.Operations.{Memory, Result, perform, actor, refusal, outcome, act, open-pool}
 use Rattle.calendar.specs.facts.RangeFacts.{limits}
-use Rattle.calendar.specs.facts.Accepted.{enqueue-accepted, dequeue-accepted, step-accepted}
+use Rattle.calendar.specs.facts.Accepted.{open-accepted}
+use Rattle.calendar.specs.facts.RefusalParts.{ownOf, act-accepted, refused-first, refusal-alike}
 
 abbrev pub longer : Memory → List Worker → Memory
 longer m u = record { store = m .store; table = m .table ++ u }
 
 abbrev pub keeping : Result → List Worker → Result
 keeping r u = record { memory = longer (r .memory) u; response = r .response }
-
--- what follows 4 matters only where there is the worker
-after-4 : (a b c d : Bool) (rest : Worker → List (ℕ × Bool)) (w w′ : Worker) → (d ≡ false → w ≡ w′)
-    → firstOf ((1, a) ∷ (2, b) ∷ (3, c) ∷ (4, d) ∷ rest w) ≡ firstOf ((1, a) ∷ (2, b) ∷ (3, c) ∷ (4, d) ∷ rest w′)
-after-4 a b c true rest w w′ h = refl
-after-4 a b c false rest w w′ h = ap (λ x. cond a 1 (cond b 2 (cond c 3 (firstOf (rest x))))) (h refl)
 
 -- ── a table with a record for each worker ──
 module _ (sh : Shape) (s : List ℕ) (t u : List Worker) (long : sh .workers ≤ length t) where
@@ -70,30 +63,17 @@ module _ (sh : Shape) (s : List ℕ) (t u : List Worker) (long : sh .workers ≤
   unfolding firstFree
   first-same = first-of-same (sh .nodes) _
 
-  refusal-same : (a : Action) → refusal sh (record { store = s; table = t ++ u }) a ≡ refusal sh (record { store = s; table = t }) a
-  unfolding enqueueRefusal dequeueRefusal stepRefusal
-  refusal-same (Enqueue i x) =
-      rw (long-enough, table-same, first-same)
-      (after-4 (badShape sh) (tooShort sh s t) (outOfRange sh s t) (noWorker sh i) (λ w. (5, badArrival x) ∷ (6, tooLate sh x) ∷ (9, busy w)
-      ∷ (11, noTicket sh s) ∷ (12, noNode sh s t) ∷ []) _ _ (λ h. same i (leb-false (sh .workers) i h)))
-  refusal-same (Dequeue i) =
-      rw (long-enough, table-same)
-      (after-4 (badShape sh) (tooShort sh s t) (outOfRange sh s t) (noWorker sh i) (λ w. (9, busy w) ∷ (11, noTicket sh s) ∷ []) _ _
-      (λ h. same i (leb-false (sh .workers) i h)))
-  refusal-same (Step i) =
-      rw (long-enough, table-same)
-      (after-4 (badShape sh) (tooShort sh s t) (outOfRange sh s t) (noWorker sh i) (λ w. (10, idle w) ∷ (11, noEpoch sh s w) ∷ []) _ _
-      (λ h. same i (leb-false (sh .workers) i h)))
+  memory-same : (i : ℕ) → memoryOf sh s (t ++ u) i ≡ memoryOf sh s t i
+  memory-same i = rw (long-enough, table-same)
 
-  exists : (a : Action) → refusal sh (record { store = s; table = t }) a ≡ 0 → actor a < sh .workers
-  exists (Enqueue i x) e = enqueue-accepted sh s t i x e .usable .exists
-  exists (Dequeue i) e = dequeue-accepted sh s t i e .usable .exists
-  exists (Step i) e = step-accepted sh s t i e .usable .exists
+  own-same : (a : Action) → actor a < sh .workers → ownOf sh (record { store = s; table = t ++ u }) a ≡ ownOf sh (record { store = s; table = t }) a
+  own-same a h = rw (same (actor a) h, first-same)
+
+  refusal-same : (a : Action) → refusal sh (record { store = s; table = t ++ u }) a ≡ refusal sh (record { store = s; table = t }) a
+  refusal-same a = refusal-alike sh (longer m u) m a (memory-same (actor a)) (λ U. own-same a (U .exists))
 
   outcome-same : (a : Action) → actor a < sh .workers → outcome sh (record { store = s; table = t ++ u }) a ≡ outcome sh (record { store = s; table = t }) a
-  outcome-same (Enqueue i x) h = rw (same i h, first-same)
-  outcome-same (Dequeue i) h = rw (same i h)
-  outcome-same (Step i) h = rw (same i h)
+  outcome-same a h = rw (same (actor a) h, first-same)
 
   pub act-same : (a : Action) → act sh (record { store = s; table = t ++ u }) a ≡ keeping (act sh (record { store = s; table = t }) a) u
   unfolding act
@@ -105,7 +85,7 @@ module _ (sh : Shape) (s : List ℕ) (t u : List Worker) (long : sh .workers ≤
           ≡ keeping (cond b (perform sh (record { store = s; table = t }) (actor a) (outcome sh (record { store = s; table = t }) a))
           (record { memory = record { store = s; table = t }; response = Refused (refusal sh (record { store = s; table = t }) a) })) u
       go true e =
-          let h = exists a (eqb-true (refusal sh m a) 0 e) in
+          let h = act-accepted sh m a (eqb-true (refusal sh m a) 0 e) .exists in
           ap (λ o. perform sh (record { store = s; table = t ++ u }) (actor a) o) (outcome-same a h)
           ∙ ap (λ (x : List Worker). record {
             memory = record { store = perform sh m (actor a) (outcome sh m a) .memory .store; table = x };
@@ -134,23 +114,9 @@ module _ (sh : Shape) (s : List ℕ) (t u : List Worker) (long : sh .workers ≤
       go false = refl
 
 -- ── any shape: one within its limits has at most 64 workers ──
-refused-1 : (sh : Shape) (m : Memory) → shapeInRange sh ≡ false → (a : Action) → refusal sh m a ≡ 1
-unfolding enqueueRefusal dequeueRefusal stepRefusal
-refused-1 sh m e (Enqueue i x) = rw e
-refused-1 sh m e (Dequeue i) = rw e
-refused-1 sh m e (Step i) = rw e
-
 module _ (sh : Shape) (m : Memory) (u : List Worker) (long : 64 ≤ length (m .table)) where
   enough : shapeInRange sh ≡ true → sh .workers ≤ length (m .table)
   enough e = omega (arith, limits sh e .workers, long)
-
-  pub act-beyond : (a : Action) → act sh (longer m u) a ≡ keeping (act sh m a) u
-  unfolding act
-  act-beyond a = go (shapeInRange sh) refl
-    where
-      go : (b : Bool) → shapeInRange sh ≡ b → act sh (longer m u) a ≡ keeping (act sh m a) u
-      go true e = act-same sh (m .store) (m .table) u (enough e) a
-      go false e = rw (refused-1 sh (longer m u) e a, refused-1 sh m e a)
 
   pub open-refusal-beyond : openRefusal sh (m .store) (m .table ++ u) ≡ openRefusal sh (m .store) (m .table)
   unfolding openRefusal
@@ -159,6 +125,22 @@ module _ (sh : Shape) (m : Memory) (u : List Worker) (long : 64 ≤ length (m .t
       go : (b : Bool) → shapeInRange sh ≡ b → openRefusal sh (m .store) (m .table ++ u) ≡ openRefusal sh (m .store) (m .table)
       go true e = rw (long-enough sh (m .store) (m .table) u (enough e))
       go false e = rw e
+
+  pub act-beyond : (a : Action) → act sh (longer m u) a ≡ keeping (act sh m a) u
+  unfolding act
+  act-beyond a = go (eqb (openRefusal sh (m .store) (m .table)) 0) refl
+    where
+      go : (b : Bool) → eqb (openRefusal sh (m .store) (m .table)) 0 ≡ b → act sh (longer m u) a ≡ keeping (act sh m a) u
+      go true e =
+          let L = open-accepted sh (m .store) (m .table) (eqb-true (openRefusal sh (m .store) (m .table)) 0 e) in
+          act-same sh (m .store) (m .table) u (L .table) a
+      go false e =
+          let n = eqb-false (openRefusal sh (m .store) (m .table)) 0 e in
+          rw (
+            refused-first sh (m .store) (m .table ++ u) (λ z. n (sym open-refusal-beyond ∙ z)) a ∙ open-refusal-beyond,
+            refused-first sh (m .store) (m .table) n a,
+            e,
+          )
 
   pub open-beyond : open-pool sh (longer m u) ≡ keeping (open-pool sh m) u
   unfolding open-pool openRefusal

@@ -28,12 +28,13 @@ use Rattle.calendar.specs.rules.Reclaim.{isFree, nodeAfter, firstFreeOf,
 use Rattle.calendar.specs.rules.Opening.{openWord, openStore, openTable}
 use Rattle.calendar.specs.rules.Outcome.{Outcome}
 use Rattle.calendar.specs.rules.Starts.{enqueueStart, dequeueStart}
-use Rattle.calendar.specs.rules.Refusals.{openRefusal, enqueueRefusal, dequeueRefusal, stepRefusal}
+use Rattle.calendar.specs.rules.Refusals.{memoryOf, openRefusal}
 use Rattle.calendar.specs.rules.Operations.{Memory, Result, perform, actor, refusal, outcome, act, open-pool, run, responses}
 use Rattle.calendar.specs.facts.Places.{word-inside, cell-inside, field-inside, length-write}
 use Rattle.calendar.specs.facts.RangeFacts.{RecordRanges}
 use Rattle.calendar.specs.facts.FirstFree.{after-below}
 use Rattle.calendar.specs.facts.Accepted.{step-accepted}
+use Rattle.calendar.specs.facts.RefusalParts.{ownOf, refusal-alike}
 use Rattle.calendar.specs.facts.Views.{AllInside}
 use Rattle.calendar.specs.facts.Untouched.{act-same-size, outcome-inside}
 use Rattle.calendar.specs.facts.OneWord.{current-word, head-word, left-word, right-link, sharedWords, sharedWord, SameSeen, one-shared-word}
@@ -114,11 +115,16 @@ module _ (sh : Shape) (s v : List ℕ) (long : layout sh ≤ length s) where
     unfolding firstFree
     first-same = ap (firstFreeOf sh (s ++ v) t (sh .nodes)) (same-word 2 (lit< tt)) ∙ first-of-same (sh .nodes) _ (omega arith)
 
+    memory-same : (i : ℕ) → memoryOf sh (s ++ v) t i ≡ memoryOf sh s t i
+    memory-same i = rw (long-enough, store-same)
+
+    own-same : (a : Action) → ownOf sh (longer (record { store = s; table = t }) v) a ≡ ownOf sh (record { store = s; table = t }) a
+    own-same (Enqueue i x) = rw (same-word 1 (lit< tt), first-same)
+    own-same (Dequeue i) = rw (same-word 1 (lit< tt))
+    own-same (Step i) = rw (same-word 0 (lit< tt))
+
     refusal-same : (a : Action) → refusal sh (longer (record { store = s; table = t }) v) a ≡ refusal sh (record { store = s; table = t }) a
-    unfolding enqueueRefusal dequeueRefusal stepRefusal
-    refusal-same (Enqueue i x) = rw (long-enough, store-same, same-word 1 (lit< tt), first-same)
-    refusal-same (Dequeue i) = rw (long-enough, store-same, same-word 1 (lit< tt))
-    refusal-same (Step i) = rw (long-enough, store-same, same-word 0 (lit< tt))
+    refusal-same a = refusal-alike sh (longer m v) m a (memory-same (actor a)) (λ U. own-same a)
 
     -- ── what is done ──
     -- the shared word of a record in range lies in the layout

@@ -76,8 +76,11 @@ memoryTests sh isShort isOut i = lengthTests sh isShort ++ (3, isOut) ∷ (4, no
 abbrev pub earlyOwn : Shape → Arrival → Worker → Bool → List (ℕ × Bool)
 earlyOwn sh a w spent = (5, badArrival a) ∷ (6, tooLate sh a) ∷ (9, busy w) ∷ (11, spent) ∷ []
 
+abbrev pub lateOwn : Bool → List (ℕ × Bool)
+lateOwn none = (12, none) ∷ []
+
 abbrev pub enqueueOwn : Shape → Arrival → Worker → Bool → Bool → List (ℕ × Bool)
-enqueueOwn sh a w spent none = earlyOwn sh a w spent ++ (12, none) ∷ []
+enqueueOwn sh a w spent none = earlyOwn sh a w spent ++ lateOwn none
 
 -- of a take
 abbrev pub dequeueOwn : Worker → Bool → List (ℕ × Bool)
