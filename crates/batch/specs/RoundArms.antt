@@ -154,10 +154,10 @@ module _ {bytes : List ℕ} {p₀ : Progress} {h₀ words records space : ℕ} {
         }
 
     -- refused by 1 to 4
-    pub turned-away : (a : Action) (i : ℕ) → i ≡ actor a → Act a next ≡ recordAt bytes at → (k : ℕ) → k ≡ gateOf sh words records i sound → k ≢ 0
-        → l ≡ Refused k → Round bytes p₀ h₀ words records space sh s t next lines′ to′ sound h
-    turned-away a i named e k is n said =
-        let g = is ∙ ap (λ (j : ℕ). gateOf sh words records j sound) named ∙ gate-here (actor a) in
+    pub turned-away : (a : Action) → Act a next ≡ recordAt bytes at → (k : ℕ) → k ≡ gateOf sh words records (actor a) sound → k ≢ 0 → l ≡ Refused k
+        → Round bytes p₀ h₀ words records space sh s t next lines′ to′ sound h
+    turned-away a e k is n said =
+        let g = is ∙ gate-here (actor a) in
         let r = refused-is sh m sound W a (λ z. n (g ∙ z)) in
         acted a e s t (R .array) (ap (λ (x : Response). record { memory = m; response = x }) (said ∙ ap Refused g) ∙ r) sound
         (subst (λ (x : Result). Watched sh (x .memory) sound) r W) (R .tight)

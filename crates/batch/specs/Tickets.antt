@@ -64,11 +64,15 @@ tickets-at [] n h = absurd (omega arith)
 tickets-at (w ∷ t) zero h = refl
 tickets-at (w ∷ t) (suc n) h = tickets-at t n (omega arith)
 
-pub tickets-set : (t : List Worker) (i : ℕ) (w : Worker) → ticketsOf (set t i w) ≡ set (ticketsOf t) i (ticketOf w)
+tickets-set : (t : List Worker) (i : ℕ) (w : Worker) → ticketsOf (set t i w) ≡ set (ticketsOf t) i (ticketOf w)
 unfolding ticketsOf
 tickets-set [] i w = refl
 tickets-set (v ∷ t) zero w = refl
 tickets-set (v ∷ t) (suc i) w = ap (λ (ts : List ℕ). ticketOf v ∷ ts) (tickets-set t i w)
+
+-- beside the record w, stored at i, its ticket x
+pub stored-ticket : (t : List Worker) (i : ℕ) (w : Worker) {ts : List ℕ} → ts ≡ ticketsOf t → (x : ℕ) → x ≡ ticketOf w → set ts i x ≡ ticketsOf (set t i w)
+stored-ticket t i w {ts} is x e = ap (set ts i) e ∙ ap (λ (us : List ℕ). set us i (ticketOf w)) is ∙ sym (tickets-set t i w)
 
 -- with 2^32 in place of no ticket the test of a call in progress is not needed
 one-more : (busy : Bool) (ticket low : ℕ) → low ≤ 4294967296
