@@ -1,8 +1,11 @@
 -- The tickets of the calls in progress, as a list beside the workers' records, and the least of them. Assumes nothing.
---     ticketsOf          the list; 2^32 where no call is in progress
---     least-is           its least is the least ticket in progress
---     tickets-set        a record stored, its ticket stored
---     low-is             where an action asks for it, `lowFor` is that least one
+--     ticketOf, ticketsOf                     a record's ticket, 2^32 where no call is in progress; the list
+--     least, least-at-most                    the lesser of two, and its bound
+--     leastOf, least-of-none, least-of-more   the least of the first n, one by one
+--     stored-ticket                           a record stored, its ticket stored
+--     least-is                                the least of the list is the least ticket in progress
+--     lowFor, low-is                          the least where an action asks for it; it is that of the records
+--     tickets-more, tickets-all               a loop that stores ticket after ticket; at its end
 use mathlib.Core.Path.{_≡_, refl, sym, ap, _∙_}
 use mathlib.Core.List.{List, [], _∷_, _++_, append-nil}
 use mathlib.Core.Bool.{Bool, true, false, cond, _&&_}
@@ -53,12 +56,12 @@ pub least-of-more : (ts : List ℕ) (n low r : ℕ) → low ≡ leastOf ts n →
 unfolding leastOf
 least-of-more ts n low r so-far e = e ∙ rw (add-one, so-far)
 
-pub tickets-length : (t : List Worker) → length (ticketsOf t) ≡ length t
+tickets-length : (t : List Worker) → length (ticketsOf t) ≡ length t
 unfolding ticketsOf
 tickets-length [] = refl
 tickets-length (w ∷ t) = ap suc (tickets-length t)
 
-pub tickets-at : (t : List Worker) (n : ℕ) → n < length t → getD (ticketsOf t) n 0 ≡ ticketOf (worker t n)
+tickets-at : (t : List Worker) (n : ℕ) → n < length t → getD (ticketsOf t) n 0 ≡ ticketOf (worker t n)
 unfolding ticketsOf
 tickets-at [] n h = absurd (omega arith)
 tickets-at (w ∷ t) zero h = refl

@@ -11,7 +11,7 @@ ghost use Rattle.batch.specs.Held.{heldAll};
 ghost use Rattle.batch.specs.CodeView.{begins, ends, Sound, heldOf, stoppedOf};
 ghost use Rattle.batch.specs.Tickets.{ticketsOf};
 ghost use Rattle.batch.specs.RoundArms.{Line};
-ghost use Rattle.batch.specs.Openings.{openingAnswer};
+ghost use Rattle.batch.specs.OpeningRounds.{openingAnswer};
 ghost use Rattle.batch.specs.ActHeld.{heldAct, soundAfter, placeOf};
 ghost use Rattle.operation.specs.LocalAct.{Admitted};
 use admission::gate;
@@ -131,7 +131,7 @@ fn act_held(
     perform(shape, low, action, w, store)
 }
 
-// Where the record of an action's worker stands; the last place, if there is none.
+// Where the record of an action's worker stands; the last place, for a number past the array.
 fn place_of(action: Action) -> usize
     ensures { λ r. ⌜ (r ≡ placeOf action) × (r < 64) ⌝ }
 {

@@ -1,4 +1,4 @@
--- Each arm of the loop is a round of the definition, by its lemma in specs/Openings, specs/ActHeld and specs/Stopping. Assumes nothing.
+-- Each arm of the loop is a round of the definition, by its lemma in specs/OpeningRounds, specs/ActHeld and specs/Stopping. Assumes nothing.
 use mathlib.Core.Path.{_≡_, refl, sym, ap, _∙_}
 use Prim.Native.Nat.{_-_}
 use native.Mathlib.Omega.{arith}
@@ -8,7 +8,7 @@ use Rattle.batch.specs.declared.Stop.the-variants.{Full}
 use Rattle.batch.specs.BatchLoop.{at-work}
 use Rattle.batch.specs.Tickets.{ticketsOf, stored-ticket}
 use Rattle.batch.specs.RoundArms.{Round, lent-to, settled, first-round, known-open, known-act, nearer-open, nearer-act}
-use Rattle.batch.specs.Openings.{opening-round}
+use Rattle.batch.specs.OpeningRounds.{opening-round}
 use Rattle.batch.specs.ActHeld.{admits, held-round}
 use Rattle.batch.specs.Stopping.{stopped}
 use borrow.Author.Needs.{needs}

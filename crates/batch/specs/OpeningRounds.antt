@@ -1,4 +1,6 @@
 -- An opening in a batch, refused or not, as the code has it, is a round of the definition. Assumes nothing.
+--     openingAnswer    what `write_opening` writes the line of
+--     opening-round    past both ways of the code it is one record more
 use mathlib.Core.Path.{_≡_, refl, sym, ap, _∙_, subst⁻¹}
 use mathlib.Core.List.{List, _++_}
 use mathlib.Core.Bool.{Bool, true, cond}
@@ -21,7 +23,7 @@ use Rattle.batch.specs.Held.{greater}
 use Rattle.batch.specs.Tickets.{ticketsOf}
 use Rattle.batch.specs.RoundArms.{Round, Line, opened, not-opened}
 
--- what is answered where the gate of an opening gives k
+-- the answer where an opening is refused by k, or k is 0
 abbrev pub openingAnswer : ℕ → Response
 openingAnswer k = cond (eqb k 0) Opened (Refused k)
 
