@@ -1,4 +1,5 @@
 -- Refused or performed, by the test of the code. Assumes nothing.
+use native.Mathlib.Omega.{arith}
 use borrow.Author.Tests.{eq-eqb, ne-eqb}
 use borrow.Author.Needs.{needs}
 use Rattle.batch.proofs.act_held.Statement.{statement}
@@ -11,7 +12,7 @@ returns : tie.Need-returns
 returns c = rw (ne-eqb _ _ (c .before .if1 .taken), c .refuse .ensures)
 
 low-for-requires : tie.Need-low-for-requires
-low-for-requires c κs = c .before .before .pre (c .if1 .left) .limits .workers
+low-for-requires c κs = omega (arith, c .before .before .pre (c .if1 .left) .limits .workers)
 
 perform-requires : tie.Need-perform-requires
 perform-requires c κs = (c .before .before .before .before .pre (c .before .before .if1 .left), c .before .low-for .ensures .1)
