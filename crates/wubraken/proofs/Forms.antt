@@ -66,12 +66,12 @@ module _ {M : Type 1} (𝓤 : URA M) (H : Heap 𝓤) (A : Atoms 𝓤) (claim : C
         (now (e .1 .1 .1 .1 .0)) (now (e .1 .1 .1 .1 .1 .0))));
   }
 
-  module _ (kind : ℕ) where
+  module _ (asked : ℕ) where
     abbrev pub Bare : Spec 𝓤 bare
     Bare κs a = record {
       ghost = Unit {0};
       requires = λ _. emp 𝓤;
-      ensures = λ _ r. exits 𝓤 H A bare (yes, (yes, (yes, (yes, tt)))) κs a (λ e. fact 𝓤 (claim (a .0) kind (a .1 .0) noArrival
+      ensures = λ _ r. exits 𝓤 H A bare (yes, (yes, (yes, (yes, tt)))) κs a (λ e. fact 𝓤 (claim (a .0) asked (a .1 .0) noArrival
           (now (a .1 .1 .0)) (now (a .1 .1 .1 .0)) r (now (e .1 .1 .0)) (now (e .1 .1 .1 .0))));
     }
 
@@ -79,7 +79,7 @@ module _ {M : Type 1} (𝓤 : URA M) (H : Heap 𝓤) (A : Atoms 𝓤) (claim : C
     WithArrival κs a = record {
       ghost = Unit {0};
       requires = λ _. emp 𝓤;
-      ensures = λ _ r. exits 𝓤 H A with-arrival (yes, (yes, (yes, (yes, (yes, tt))))) κs a (λ e. fact 𝓤 (claim (a .0) kind (a .1 .0) (a .1 .1 .0)
+      ensures = λ _ r. exits 𝓤 H A with-arrival (yes, (yes, (yes, (yes, (yes, tt))))) κs a (λ e. fact 𝓤 (claim (a .0) asked (a .1 .0) (a .1 .1 .0)
           (now (a .1 .1 .1 .0)) (now (a .1 .1 .1 .1 .0)) r (now (e .1 .1 .1 .0)) (now (e .1 .1 .1 .1 .0))));
     }
 
@@ -103,13 +103,13 @@ again s t rest =
 
 -- and goes to f, behind the number and the arrival in local x
 abbrev hands : Name → ℕ → ℕ → Body
-hands f kind x =
-    seq (call f (copy (place 1 []) ∷ int w64 kind ∷ copy (place 2 []) ∷ copy (place x []) ∷ copy (place 7 []) ∷ copy (place 9 []) ∷ []) (place 0 [])) return
+hands f asked x =
+    seq (call f (copy (place 1 []) ∷ int w64 asked ∷ copy (place 2 []) ∷ copy (place x []) ∷ copy (place 7 []) ∷ copy (place 9 []) ∷ []) (place 0 [])) return
 
 abbrev borrowed : List Local
 borrowed = local (tyRef erased mut word) valueLocal ∷ slice erased word ∷ local (tyRef erased mut record-name) valueLocal ∷ slice erased record-name ∷ []
 
-module _ (f : Name) (kind : ℕ) where
+module _ (f : Name) (asked : ℕ) where
   abbrev pub bare-code : Fn
   bare-code = record {
     lifetimes = 2;
@@ -117,7 +117,7 @@ module _ (f : Name) (kind : ℕ) where
     params = 4;
     locals = local R′.mir valueLocal ∷ local Sh′.mir valueLocal ∷ local word valueLocal ∷ slice (named 0) word ∷ slice (named 1) record-name
         ∷ local Ar′.mir valueLocal ∷ borrowed;
-    body = seq (assign (place 5 []) (aggregate (int w32 0 ∷ int w32 0 ∷ int w32 0 ∷ int w32 0 ∷ []))) (again 3 4 (hands f kind 5));
+    body = seq (assign (place 5 []) (aggregate (int w32 0 ∷ int w32 0 ∷ int w32 0 ∷ int w32 0 ∷ []))) (again 3 4 (hands f asked 5));
   }
 
   abbrev pub with-arrival-code : Fn
@@ -127,5 +127,5 @@ module _ (f : Name) (kind : ℕ) where
     params = 5;
     locals = local R′.mir valueLocal ∷ local Sh′.mir valueLocal ∷ local word valueLocal ∷ local Ar′.mir valueLocal ∷ slice (named 0) word
         ∷ slice (named 1) record-name ∷ borrowed;
-    body = again 4 5 (hands f kind 3);
+    body = again 4 5 (hands f asked 3);
   }

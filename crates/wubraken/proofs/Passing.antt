@@ -76,7 +76,7 @@ module _ {M : Type 1} (𝓤 : URA M) (H : Heap 𝓤) (A : Atoms 𝓤) (P : SProp
   abbrev Answers : Val → SProp 𝓤
   Answers v = H .⇛ (ex 𝓤 (λ (r : Answer). sep 𝓤 (sep 𝓤 P (sem 𝓤 H A (R.the-row .own r (v ∷ [])))) (E r)))
 
-  module _ (W : Given 𝓤 H A) (C : Calls 𝓤 H) (Λ : Loops 𝓤 H) (fm : FmC 𝓤 H (W .laws) C) (f : Name) (kind : ℕ) (kind-fits : Holds (ltb kind (2 ^ 64)))
+  module _ (W : Given 𝓤 H A) (C : Calls 𝓤 H) (Λ : Loops 𝓤 H) (fm : FmC 𝓤 H (W .laws) C) (f : Name) (asked : ℕ) (asked-fits : Holds (ltb asked (2 ^ 64)))
       (sh : Shape) (i b o n b′ o′ n′ : ℕ) (sh-is : Is Sh.the-row sh (vals-sh sh)) (i-fits : i < 2 ^ 64) (n-fits : n < 2 ^ 64) (n′-fits : n′ < 2 ^ 64) where
     typed-sh : Holds (hasTy Sh′.mir (val-sh sh)) × WT (val-sh sh)
     typed-sh = LL.lawful Sh.the-type Sh′.the-laws 𝓤 H A W .typed sh _ sh-is .0
@@ -91,12 +91,12 @@ module _ {M : Type 1} (𝓤 : URA M) (H : Heap 𝓤) (A : Atoms 𝓤) (P : SProp
     tv = sliceVal (b′, o′) n′
 
     abbrev calls : Arrival → SProp 𝓤
-    calls x = C f (val-sh sh ∷ vint w64 kind ∷ vint w64 i ∷ val-ar x ∷ sv ∷ tv ∷ []) Answers
+    calls x = C f (val-sh sh ∷ vint w64 asked ∷ vint w64 i ∷ val-ar x ∷ sv ∷ tv ∷ []) Answers
 
     -- the locals, the last first, stand behind what is at the head
-    pub bare-goes : ent 𝓤 (calls noArrival) (WpFn 𝓤 H C Λ (bare-code f kind) (val-sh sh ∷ vint w64 i ∷ sv ∷ tv ∷ []) Answers)
+    pub bare-goes : ent 𝓤 (calls noArrival) (WpFn 𝓤 H C Λ (bare-code f asked) (val-sh sh ∷ vint w64 i ∷ sv ∷ tv ∷ []) Answers)
     bare-goes =
-        qed W (raw (calls noArrival) ∷ []) ∵ enter ! C Λ (bare-code f kind) (val-sh sh ∷ vint w64 i ∷ sv ∷ tv ∷ []) _ $
+        qed W (raw (calls noArrival) ∷ []) ∵ enter ! C Λ (bare-code f asked) (val-sh sh ∷ vint w64 i ∷ sv ∷ tv ∷ []) _ $
         alloc1 ! (λ l₀. alloc1 ! (λ l₁. alloc1 ! (λ l₂. alloc1 ! (λ l₃. alloc1 ! (λ l₄. alloc1 ! (λ l₅. alloc1 ! (λ l₆. alloc1 ! (λ l₇. alloc1 ! (λ l₈.
         alloc1 ! (λ l₉. alloc0 ! $ params1 ! $
         pass1 ! (init ! 16 refl typed-sh) $ pass1 ! (init ! 14 refl (tt, record { fits = i-fits })) $
@@ -113,7 +113,7 @@ module _ {M : Type 1} (𝓤 : URA M) (H : Heap 𝓤) (A : Atoms 𝓤) (P : SProp
         (init ! 0 refl (tt, (tt, (record { fits = n′-fits }, tt)))) $
         move ! (20 ∷ []) $ calls-from ! fm (raw (calls noArrival)) _ Answers (id⊢ 𝓤 _)
         (and-then ! (load ! (from ! (stop !)) (look ! 17 refl))
-        (and-then ! (lit ! kind-fits) (and-then ! (load ! (from ! (stop !)) (look ! 15 refl)) (and-then ! (load ! (from ! (stop !)) (look ! 9 refl))
+        (and-then ! (lit ! asked-fits) (and-then ! (load ! (from ! (stop !)) (look ! 15 refl)) (and-then ! (load ! (from ! (stop !)) (look ! 9 refl))
         (and-then ! (load ! (from ! (stop !)) (look ! 5 refl)) (and-then ! (load ! (from ! (stop !)) (look ! 1 refl)) (no-more !))))))) (λ v.
         use1 W (later (some (λ (r : Answer). (raw P ⊛ ‵ (R.the-row .own r (v ∷ []))) ⊛ raw (E r)))) (id⊢ 𝓤 _) $ await ! tt $ pick ! (λ r.
         split ! $ split ! $ move ! (1 ∷ []) $ peeks ! R.the-row (Is R.the-row) (shows 𝓤 H A R.the-row) r (v ∷ []) (λ is.
@@ -127,9 +127,9 @@ module _ {M : Type 1} (𝓤 : URA M) (H : Heap 𝓤) (A : Atoms 𝓤) (P : SProp
         show ! (λ (y : Answer). sep 𝓤 (sep 𝓤 P (sem 𝓤 H A (R.the-row .own y (v ∷ [])))) (E y)) r $ move ! (1 ∷ 0 ∷ []) $ join ! $ frame ! $ done !)))))))))))))
 
     pub with-arrival-goes : (x : Arrival) → Is Ar.the-row x (vals-ar x)
-        → ent 𝓤 (calls x) (WpFn 𝓤 H C Λ (with-arrival-code f kind) (val-sh sh ∷ vint w64 i ∷ val-ar x ∷ sv ∷ tv ∷ []) Answers)
+        → ent 𝓤 (calls x) (WpFn 𝓤 H C Λ (with-arrival-code f asked) (val-sh sh ∷ vint w64 i ∷ val-ar x ∷ sv ∷ tv ∷ []) Answers)
     with-arrival-goes x x-is =
-        qed W (raw (calls x) ∷ []) ∵ enter ! C Λ (with-arrival-code f kind) (val-sh sh ∷ vint w64 i ∷ val-ar x ∷ sv ∷ tv ∷ []) _ $
+        qed W (raw (calls x) ∷ []) ∵ enter ! C Λ (with-arrival-code f asked) (val-sh sh ∷ vint w64 i ∷ val-ar x ∷ sv ∷ tv ∷ []) _ $
         alloc1 ! (λ l₀. alloc1 ! (λ l₁. alloc1 ! (λ l₂. alloc1 ! (λ l₃. alloc1 ! (λ l₄. alloc1 ! (λ l₅. alloc1 ! (λ l₆. alloc1 ! (λ l₇. alloc1 ! (λ l₈.
         alloc1 ! (λ l₉. alloc0 ! $ params1 ! $
         pass1 ! (init ! 16 refl typed-sh) $ pass1 ! (init ! 14 refl (tt, record { fits = i-fits })) $ pass1 ! (init ! 12 refl (typed-ar x x-is)) $
@@ -144,7 +144,7 @@ module _ {M : Type 1} (𝓤 : URA M) (H : Heap 𝓤) (A : Atoms 𝓤) (P : SProp
         (init ! 0 refl (tt, (tt, (record { fits = n′-fits }, tt)))) $
         move ! (20 ∷ []) $ calls-from ! fm (raw (calls x)) _ Answers (id⊢ 𝓤 _)
         (and-then ! (load ! (from ! (stop !)) (look ! 17 refl))
-        (and-then ! (lit ! kind-fits) (and-then ! (load ! (from ! (stop !)) (look ! 15 refl)) (and-then ! (load ! (from ! (stop !)) (look ! 13 refl))
+        (and-then ! (lit ! asked-fits) (and-then ! (load ! (from ! (stop !)) (look ! 15 refl)) (and-then ! (load ! (from ! (stop !)) (look ! 13 refl))
         (and-then ! (load ! (from ! (stop !)) (look ! 5 refl)) (and-then ! (load ! (from ! (stop !)) (look ! 1 refl)) (no-more !))))))) (λ v.
         use1 W (later (some (λ (r : Answer). (raw P ⊛ ‵ (R.the-row .own r (v ∷ []))) ⊛ raw (E r)))) (id⊢ 𝓤 _) $ await ! tt $ pick ! (λ r.
         split ! $ split ! $ move ! (1 ∷ []) $ peeks ! R.the-row (Is R.the-row) (shows 𝓤 H A R.the-row) r (v ∷ []) (λ is.
@@ -162,7 +162,7 @@ module _ {M : Type 1} (𝓤 : URA M) (H : Heap 𝓤) (A : Atoms 𝓤) (W : Given
   abbrev Called : Contract 𝓤
   Called = tripleOf 𝓤 H A callee (Acts 𝓤 H A claim)
 
-  module _ (κ κ′ : Lft) (q q′ : Share) (sh : Shape) (kind i : ℕ) (x : Arrival) (s : RefT (List ℕ)) (t : RefT (List Worker)) where
+  module _ (κ κ′ : Lft) (q q′ : Share) (sh : Shape) (asked i : ℕ) (x : Arrival) (s : RefT (List ℕ)) (t : RefT (List Worker)) where
     -- what the callee's triple binds outside, and that it has what it asks
     abbrev handed : Called .Ghost
     handed = (
@@ -170,8 +170,8 @@ module _ {M : Type 1} (𝓤 : URA M) (H : Heap 𝓤) (A : Atoms 𝓤) (W : Given
         (κ, (κ′, tt)),
         (q, (q′, tt)),
         tt,
-        (sh, (kind, (i, (x, (s, (t, tt)))))),
-        (vals-sh sh, (vint w64 kind ∷ [], (vint w64 i ∷ [], (vals-ar x, (slice-vals s, (slice-vals t, tt)))))),
+        (sh, (asked, (i, (x, (s, (t, tt)))))),
+        (vals-sh sh, (vint w64 asked ∷ [], (vint w64 i ∷ [], (vals-ar x, (slice-vals s, (slice-vals t, tt)))))),
       ),
       tt,
     )
@@ -180,19 +180,19 @@ module _ {M : Type 1} (𝓤 : URA M) (H : Heap 𝓤) (A : Atoms 𝓤) (W : Given
     lends = sep 𝓤 (alive 𝓤 H A callee (κ, (κ′, tt)) (q, (q′, tt)))
         (sem 𝓤 H A (owns (MutSlice (named 0) κ u64 ∷ MutSlice (named 1) κ′ T.the-row ∷ []) (s, (t, tt)) (slice-vals s, (slice-vals t, tt))))
 
-    goes : Is Sh.the-row sh (vals-sh sh) → kind < 2 ^ 64 → i < 2 ^ 64 → Is Ar.the-row x (vals-ar x) → ent 𝓤 lends (Called .pre handed)
-    goes sh-is kind-fits i-fits x-is =
+    goes : Is Sh.the-row sh (vals-sh sh) → asked < 2 ^ 64 → i < 2 ^ 64 → Is Ar.the-row x (vals-ar x) → ent 𝓤 lends (Called .pre handed)
+    goes sh-is asked-fits i-fits x-is =
         qed W (raw (alive 𝓤 H A callee (κ, (κ′, tt)) (q, (q′, tt)))
         ∷ ‵ (owns (MutSlice (named 0) κ u64 ∷ MutSlice (named 1) κ′ T.the-row ∷ []) (s, (t, tt)) (slice-vals s, (slice-vals t, tt))) ∷ []) ∵ move ! (1 ∷ []) $
         owned ! Ar.the-row (Is Ar.the-row) (LL.makes Ar.the-type Ar′.the-plain 𝓤 H A) x _ x-is $ fjoin ! $
         owned ! usize (Is usize) (uint-makes 𝓤 H A W w64) i _ (refl, i-fits) $ fjoin ! $
-        owned ! u64 (Is u64) (uint-makes 𝓤 H A W w64) kind _ (refl, kind-fits) $ fjoin ! $
+        owned ! u64 (Is u64) (uint-makes 𝓤 H A W w64) asked _ (refl, asked-fits) $ fjoin ! $
         owned ! Sh.the-row (Is Sh.the-row) (LL.makes Sh.the-type Sh′.the-plain 𝓤 H A) sh _ sh-is $ fjoin ! $
         move ! (1 ∷ 0 ∷ []) $ join ! $ nothing ! $ move ! (1 ∷ []) $ frame ! $ done !
 
     -- what it says of the last store and table is what the entry says: of the other parameters there is nothing to say
     abbrev Ends : Fml → Answer → List ℕ → List Worker → SProp 𝓤
-    Ends P r zs ws = sep 𝓤 (sem 𝓤 H A P) (fact 𝓤 (claim sh kind i x (now s) (now t) r zs ws))
+    Ends P r zs ws = sep 𝓤 (sem 𝓤 H A P) (fact 𝓤 (claim sh asked i x (now s) (now t) r zs ws))
 
     abbrev Last : List ℕ → List Worker → Fml
     Last zs ws = fsep ftrue (fsep ftrue (lastsOf (κ, (κ′, tt)) lent-rows (yes, (yes, tt)) (s, (t, tt)) (zs, (ws, tt))))
@@ -201,12 +201,12 @@ module _ {M : Type 1} (𝓤 : URA M) (H : Heap 𝓤) (A : Atoms 𝓤) (W : Given
     All = Unit {0} × (Unit {0} × (Unit {0} × (Unit {0} × (List ℕ × (List Worker × Unit {0})))))
 
     less : (P : Fml) (r : Answer) (zs : List ℕ) (ws : List Worker) → ent 𝓤 (Ends (fsep ftrue P) r zs ws) (Ends P r zs ws)
-    less P r zs ws = monoL 𝓤 (fact 𝓤 (claim sh kind i x (now s) (now t) r zs ws)) (snd∗ 𝓤 (sem 𝓤 H A ftrue) (sem 𝓤 H A P))
+    less P r zs ws = monoL 𝓤 (fact 𝓤 (claim sh asked i x (now s) (now t) r zs ws)) (snd∗ 𝓤 (sem 𝓤 H A ftrue) (sem 𝓤 H A P))
 
     abbrev Claims : Answer → SProp 𝓤
-    Claims = Acts 𝓤 H A claim (κ, (κ′, tt)) (sh, (kind, (i, (x, (s, (t, tt)))))) .ensures tt
+    Claims = Acts 𝓤 H A claim (κ, (κ′, tt)) (sh, (asked, (i, (x, (s, (t, tt)))))) .ensures tt
 
-    with-arrival-claims : (r : Answer) → ent 𝓤 (Claims r) (WithArrival 𝓤 H A claim kind (κ, (κ′, tt)) (sh, (i, (x, (s, (t, tt))))) .ensures tt r)
+    with-arrival-claims : (r : Answer) → ent 𝓤 (Claims r) (WithArrival 𝓤 H A claim asked (κ, (κ′, tt)) (sh, (i, (x, (s, (t, tt))))) .ensures tt r)
     with-arrival-claims r =
         exE 𝓤 (λ (e : All). Ends (fsep ftrue (fsep ftrue (Last (e .1 .1 .1 .1 .0) (e .1 .1 .1 .1 .1 .0)))) r (e .1 .1 .1 .1 .0) (e .1 .1 .1 .1 .1 .0)) (λ e.
         via 𝓤 (Ends (fsep ftrue (Last (e .1 .1 .1 .1 .0) (e .1 .1 .1 .1 .1 .0))) r (e .1 .1 .1 .1 .0) (e .1 .1 .1 .1 .1 .0))
@@ -217,7 +217,7 @@ module _ {M : Type 1} (𝓤 : URA M) (H : Heap 𝓤) (A : Atoms 𝓤) (W : Given
     bare-claims : (r : Answer) → ent 𝓤 (Claims r)
         (ex 𝓤 (λ (d : Unit {0} × (Unit {0} × (List ℕ × (List Worker × Unit {0})))). Ends (Last (d .1 .1 .0) (d .1 .1 .1 .0)) r (d .1 .1 .0) (d .1 .1 .1 .0)))
     bare-claims r =
-        via 𝓤 (WithArrival 𝓤 H A claim kind (κ, (κ′, tt)) (sh, (i, (x, (s, (t, tt))))) .ensures tt r) (with-arrival-claims r)
+        via 𝓤 (WithArrival 𝓤 H A claim asked (κ, (κ′, tt)) (sh, (i, (x, (s, (t, tt))))) .ensures tt r) (with-arrival-claims r)
         (exE 𝓤 (λ (e : Unit {0} × (Unit {0} × (Unit {0} × (List ℕ × (List Worker × Unit {0}))))).
         Ends (fsep ftrue (Last (e .1 .1 .1 .0) (e .1 .1 .1 .1 .0))) r (e .1 .1 .1 .0) (e .1 .1 .1 .1 .0)) (λ e.
         via 𝓤 (Ends (Last (e .1 .1 .1 .0) (e .1 .1 .1 .1 .0)) r (e .1 .1 .1 .0) (e .1 .1 .1 .1 .0))
@@ -232,25 +232,25 @@ module _ {M : Type 1} (𝓤 : URA M) (H : Heap 𝓤) (A : Atoms 𝓤) (W : Given
       owning : Answer → SProp 𝓤
       owning r = sep 𝓤 P (sem 𝓤 H A (R.the-row .own r (v ∷ [])))
 
-  module _ (𝓣 : Tables 𝓤 H) (f : Name) (kind : ℕ) (kind-fits : Holds (ltb kind (2 ^ 64))) (known : Triple 𝓤 (𝓣 .C f) Called) where
+  module _ (𝓣 : Tables 𝓤 H) (f : Name) (asked : ℕ) (asked-fits : Holds (ltb asked (2 ^ 64))) (known : Triple 𝓤 (𝓣 .C f) Called) where
     module _ (κs : Lfts 2) (qs : Shares 2) (sh : Shape) (i : ℕ) (x : Arrival) (s : RefT (List ℕ)) (t : RefT (List Worker))
         (sh-is : Is Sh.the-row sh (vals-sh sh)) (i-fits : i < 2 ^ 64) (x-is : Is Ar.the-row x (vals-ar x)) where
       abbrev to : Called .Ghost
-      to = handed (κs .0) (κs .1 .0) (qs .0) (qs .1 .0) sh kind i x s t
+      to = handed (κs .0) (κs .1 .0) (qs .0) (qs .1 .0) sh asked i x s t
 
       passes : (code : Fn) (vs : List Val) (E : Answer → SProp 𝓤)
           → ent 𝓤 (𝓣 .C f (Called .args to) (Called .post to)) (WpFn 𝓤 H (𝓣 .C) (𝓣 .Λ) code vs (Called .post to))
-          → ((r : Answer) → ent 𝓤 (Claims (κs .0) (κs .1 .0) (qs .0) (qs .1 .0) sh kind i x s t r) (E r))
-          → ent 𝓤 (lends (κs .0) (κs .1 .0) (qs .0) (qs .1 .0) sh kind i x s t)
+          → ((r : Answer) → ent 𝓤 (Claims (κs .0) (κs .1 .0) (qs .0) (qs .1 .0) sh asked i x s t r) (E r))
+          → ent 𝓤 (lends (κs .0) (κs .1 .0) (qs .0) (qs .1 .0) sh asked i x s t)
           (WpFn 𝓤 H (𝓣 .C) (𝓣 .Λ) code vs (Answers 𝓤 H A (alive 𝓤 H A callee κs qs) E))
       passes code vs E walk claims =
-          via 𝓤 (Called .pre to) (goes (κs .0) (κs .1 .0) (qs .0) (qs .1 .0) sh kind i x s t sh-is (ltb→lt kind (2 ^ 64) kind-fits) i-fits x-is)
+          via 𝓤 (Called .pre to) (goes (κs .0) (κs .1 .0) (qs .0) (qs .1 .0) sh asked i x s t sh-is (ltb→lt asked (2 ^ 64) asked-fits) i-fits x-is)
           (via 𝓤 (𝓣 .C f (Called .args to) (Called .post to)) (known to)
           (via 𝓤 (WpFn 𝓤 H (𝓣 .C) (𝓣 .Λ) code vs (Called .post to)) walk
           (WpFn-mono 𝓤 H (W .laws) 𝓣 code vs (Called .post to) (Answers 𝓤 H A (alive 𝓤 H A callee κs qs) E)
-          (answers (alive 𝓤 H A callee κs qs) (Claims (κs .0) (κs .1 .0) (qs .0) (qs .1 .0) sh kind i x s t) E claims))))
+          (answers (alive 𝓤 H A callee κs qs) (Claims (κs .0) (κs .1 .0) (qs .0) (qs .1 .0) sh asked i x s t) E claims))))
 
-    pub bare-meets : Meets 𝓤 H A bare (WpFn 𝓤 H (𝓣 .C) (𝓣 .Λ) (bare-code f kind)) (Bare 𝓤 H A claim kind)
+    pub bare-meets : Meets 𝓤 H A bare (WpFn 𝓤 H (𝓣 .C) (𝓣 .Λ) (bare-code f asked)) (Bare 𝓤 H A claim asked)
     bare-meets y =
         let κs : Lfts 2 = y .0 .0 in
         let qs : Shares 2 = y .0 .1 in
@@ -261,19 +261,19 @@ module _ {M : Type 1} (𝓤 : URA M) (H : Heap 𝓤) (A : Atoms 𝓤) (W : Given
         via 𝓤 (onEntry 𝓤 H A bare κs qs a (y .0 .4)) (fst∗ 𝓤 (onEntry 𝓤 H A bare κs qs a (y .0 .4)) (emp 𝓤))
         (said 𝓤 H A bare κs qs (vals-sh, (uint-vals w64, (slice-vals, (slice-vals, tt))))
         (LL.tells Sh.the-type Sh′.the-laws, (uint-tells w64, (mut-slice-tells (named 0) (κs .0) u64, (mut-slice-tells (named 1) (κs .1 .0) T.the-row, tt)))) a
-        (λ us. WpFn 𝓤 H (𝓣 .C) (𝓣 .Λ) (bare-code f kind) (flat (typesAt (bare .params) κs) us)
-        (tripleOf 𝓤 H A bare (Bare 𝓤 H A claim kind) .post y)) (y .0 .4) (λ are.
+        (λ us. WpFn 𝓤 H (𝓣 .C) (𝓣 .Λ) (bare-code f asked) (flat (typesAt (bare .params) κs) us)
+        (tripleOf 𝓤 H A bare (Bare 𝓤 H A claim asked) .post y)) (y .0 .4) (λ are.
         via 𝓤 (sep 𝓤 (alive 𝓤 H A bare κs qs) (sem 𝓤 H A own)) (monoR 𝓤 (alive 𝓤 H A bare κs qs)
         (via 𝓤 (sem 𝓤 H A (fsep (usize .own (a .1 .0) (vint w64 (a .1 .0) ∷ [])) own))
         (snd∗ 𝓤 (sem 𝓤 H A (Sh.the-row .own (a .0) (vals-sh (a .0)))) (sem 𝓤 H A (fsep (usize .own (a .1 .0) (vint w64 (a .1 .0) ∷ [])) own)))
         (snd∗ 𝓤 (sem 𝓤 H A (usize .own (a .1 .0) (vint w64 (a .1 .0) ∷ []))) (sem 𝓤 H A own))))
-        (passes κs qs (a .0) (a .1 .0) noArrival s t (are .0) (are .1 .0 .1) none-is (bare-code f kind) _ _
-        (bare-goes 𝓤 H A (alive 𝓤 H A callee κs qs) (Claims (κs .0) (κs .1 .0) (qs .0) (qs .1 .0) (a .0) kind (a .1 .0) noArrival s t) W (𝓣 .C) (𝓣 .Λ)
-        (fmOf 𝓤 H (W .laws) 𝓣) f kind kind-fits (a .0) (a .1 .0) (s .ptr .0) (s .ptr .1) (length (now s)) (t .ptr .0) (t .ptr .1) (length (now t))
+        (passes κs qs (a .0) (a .1 .0) noArrival s t (are .0) (are .1 .0 .1) none-is (bare-code f asked) _ _
+        (bare-goes 𝓤 H A (alive 𝓤 H A callee κs qs) (Claims (κs .0) (κs .1 .0) (qs .0) (qs .1 .0) (a .0) asked (a .1 .0) noArrival s t) W (𝓣 .C) (𝓣 .Λ)
+        (fmOf 𝓤 H (W .laws) 𝓣) f asked asked-fits (a .0) (a .1 .0) (s .ptr .0) (s .ptr .1) (length (now s)) (t .ptr .0) (t .ptr .1) (length (now t))
         (are .0) (are .1 .0 .1) (are .1 .1 .0 .0 .1 .0) (are .1 .1 .1 .0 .0 .1 .0))
-        (bare-claims (κs .0) (κs .1 .0) (qs .0) (qs .1 .0) (a .0) kind (a .1 .0) noArrival s t))))
+        (bare-claims (κs .0) (κs .1 .0) (qs .0) (qs .1 .0) (a .0) asked (a .1 .0) noArrival s t))))
 
-    pub with-arrival-meets : Meets 𝓤 H A with-arrival (WpFn 𝓤 H (𝓣 .C) (𝓣 .Λ) (with-arrival-code f kind)) (WithArrival 𝓤 H A claim kind)
+    pub with-arrival-meets : Meets 𝓤 H A with-arrival (WpFn 𝓤 H (𝓣 .C) (𝓣 .Λ) (with-arrival-code f asked)) (WithArrival 𝓤 H A claim asked)
     with-arrival-meets y =
         let κs : Lfts 2 = y .0 .0 in
         let qs : Shares 2 = y .0 .1 in
@@ -294,14 +294,14 @@ module _ {M : Type 1} (𝓤 : URA M) (H : Heap 𝓤) (A : Atoms 𝓤) (W : Given
             ),
           ),
         ) a
-        (λ us. WpFn 𝓤 H (𝓣 .C) (𝓣 .Λ) (with-arrival-code f kind) (flat (typesAt (with-arrival .params) κs) us)
-        (tripleOf 𝓤 H A with-arrival (WithArrival 𝓤 H A claim kind) .post y)) (y .0 .4) (λ are.
+        (λ us. WpFn 𝓤 H (𝓣 .C) (𝓣 .Λ) (with-arrival-code f asked) (flat (typesAt (with-arrival .params) κs) us)
+        (tripleOf 𝓤 H A with-arrival (WithArrival 𝓤 H A claim asked) .post y)) (y .0 .4) (λ are.
         via 𝓤 (sep 𝓤 (alive 𝓤 H A with-arrival κs qs) (sem 𝓤 H A own)) (monoR 𝓤 (alive 𝓤 H A with-arrival κs qs)
         (via 𝓤 (sem 𝓤 H A (fsep i-own (fsep x-own own)))
         (snd∗ 𝓤 (sem 𝓤 H A (Sh.the-row .own (a .0) (vals-sh (a .0)))) (sem 𝓤 H A (fsep i-own (fsep x-own own))))
         (via 𝓤 (sem 𝓤 H A (fsep x-own own)) (snd∗ 𝓤 (sem 𝓤 H A i-own) (sem 𝓤 H A (fsep x-own own))) (snd∗ 𝓤 (sem 𝓤 H A x-own) (sem 𝓤 H A own)))))
-        (passes κs qs (a .0) (a .1 .0) (a .1 .1 .0) s t (are .0) (are .1 .0 .1) (are .1 .1 .0) (with-arrival-code f kind) _ _
-        (with-arrival-goes 𝓤 H A (alive 𝓤 H A callee κs qs) (Claims (κs .0) (κs .1 .0) (qs .0) (qs .1 .0) (a .0) kind (a .1 .0) (a .1 .1 .0) s t) W
-        (𝓣 .C) (𝓣 .Λ) (fmOf 𝓤 H (W .laws) 𝓣) f kind kind-fits (a .0) (a .1 .0) (s .ptr .0) (s .ptr .1) (length (now s)) (t .ptr .0) (t .ptr .1) (length (now t))
+        (passes κs qs (a .0) (a .1 .0) (a .1 .1 .0) s t (are .0) (are .1 .0 .1) (are .1 .1 .0) (with-arrival-code f asked) _ _
+        (with-arrival-goes 𝓤 H A (alive 𝓤 H A callee κs qs) (Claims (κs .0) (κs .1 .0) (qs .0) (qs .1 .0) (a .0) asked (a .1 .0) (a .1 .1 .0) s t) W
+        (𝓣 .C) (𝓣 .Λ) (fmOf 𝓤 H (W .laws) 𝓣) f asked asked-fits (a .0) (a .1 .0) (s .ptr .0) (s .ptr .1) (length (now s)) (t .ptr .0) (t .ptr .1) (length (now t))
         (are .0) (are .1 .0 .1) (are .1 .1 .1 .0 .0 .1 .0) (are .1 .1 .1 .1 .0 .0 .1 .0) (a .1 .1 .0) (are .1 .1 .0))
-        (with-arrival-claims (κs .0) (κs .1 .0) (qs .0) (qs .1 .0) (a .0) kind (a .1 .0) (a .1 .1 .0) s t))))
+        (with-arrival-claims (κs .0) (κs .1 .0) (qs .0) (qs .1 .0) (a .0) asked (a .1 .0) (a .1 .1 .0) s t))))

@@ -1,7 +1,7 @@
 -- What the by-value functions leave, and that it is what the operations of the pool are defined to give.
 --     Told, leaves, told             memory and answer after a call: of what the code left, and of an operation's result
 --     put-back-told                  what is done on one record, put back, is told of the table
---     actionOf, actor-of             the action by the kind that the code hands on, and its worker
+--     actionOf, actor-of             the action by the number that the code hands on, and its worker
 --     actOn, refused-on, done-on     refused by 1 to 4, or done; by what the gate said
 --     acted, acted-of                what is done on one record and put back is the operation
 --     away-is, away-of               so is the refusal of a worker past the records that were looked at
@@ -66,19 +66,19 @@ put-back-told t i s r a d given answer =
     ∙ ap (λ (e : Done). told (back t i e)) given
 
 -- ── the operation on a record ──
--- by the kind that the code hands on: 0 a put, 1 a take, otherwise a turn, of worker i
+-- by the number that the code hands on: 0 a put, 1 a take, otherwise a turn, of worker i
 abbrev pub actionOf : ℕ → ℕ → Arrival → Action
-actionOf kind i x = cond (eqb kind 0) (Enqueue i x) (cond (eqb kind 1) (Dequeue i) (Step i))
+actionOf asked i x = cond (eqb asked 0) (Enqueue i x) (cond (eqb asked 1) (Dequeue i) (Step i))
 
 abbrev pub noArrival : Arrival
 noArrival = record { time = 0; path = 0; order = 0; distance = 0 }
 
--- what a call of that kind claims of its answer and of the last store and table
+-- what a call that is asked for claims of its answer and of the last store and table
 abbrev pub ActsAs : Shape → ℕ → ℕ → Arrival → List ℕ → List Worker → Answer → List ℕ → List Worker → Type 0
-ActsAs sh kind i x s t r s′ t′ = leaves s′ t′ r ≡ told (act sh (lent s t) (actionOf kind i x))
+ActsAs sh asked i x s t r s′ t′ = leaves s′ t′ r ≡ told (act sh (lent s t) (actionOf asked i x))
 
-pub actor-of : (kind i : ℕ) (x : Arrival) → actor (actionOf kind i x) ≡ i
-actor-of kind i x = go (eqb kind 0) (eqb kind 1)
+pub actor-of : (asked i : ℕ) (x : Arrival) → actor (actionOf asked i x) ≡ i
+actor-of asked i x = go (eqb asked 0) (eqb asked 1)
   where
     go : (a b : Bool) → actor (cond a (Enqueue i x) (cond b (Dequeue i) (Step i))) ≡ i
     go true b = refl
@@ -90,14 +90,14 @@ unfoldable pub actOn : Shape → Action → ℕ → Survey → List ℕ → Work
 actOn sh a n seen s w = unlessRefused (gateOn sh s (actor a) n (seen .ok)) s w (localAct sh (seen .low) s a w)
 
 -- by what the gate said of worker i
-module _ (sh : Shape) (kind i : ℕ) (x : Arrival) (n : ℕ) (seen : Survey) (s : List ℕ) (w : Worker) (k : ℕ) (is : k ≡ gateOn sh s i n (seen .ok)) where
-  pub refused-on : k ≢ 0 → refused s w k ≡ actOn sh (actionOf kind i x) n seen s w
+module _ (sh : Shape) (asked i : ℕ) (x : Arrival) (n : ℕ) (seen : Survey) (s : List ℕ) (w : Worker) (k : ℕ) (is : k ≡ gateOn sh s i n (seen .ok)) where
+  pub refused-on : k ≢ 0 → refused s w k ≡ actOn sh (actionOf asked i x) n seen s w
   unfolding actOn
-  refused-on h = rw (actor-of kind i x, ← is, ne-eqb k 0 h)
+  refused-on h = rw (actor-of asked i x, ← is, ne-eqb k 0 h)
 
-  pub done-on : k ≡ 0 → localAct sh (seen .low) s (actionOf kind i x) w ≡ actOn sh (actionOf kind i x) n seen s w
+  pub done-on : k ≡ 0 → localAct sh (seen .low) s (actionOf asked i x) w ≡ actOn sh (actionOf asked i x) n seen s w
   unfolding actOn
-  done-on z = rw (actor-of kind i x, ← is, eq-eqb k 0 z)
+  done-on z = rw (actor-of asked i x, ← is, eq-eqb k 0 z)
 
 module _ (sh : Shape) (s : List ℕ) (t : List Worker) where
   abbrev found : Survey
@@ -145,19 +145,19 @@ module _ (sh : Shape) (s : List ℕ) (t : List Worker) where
       omega (arith, ltb-false (actor a) (survey sh t .records) beyond, survey-records sh t (surveyed sh (length t)) (surveyed sh (length t)), all, p .exists)))
 
   -- both, of worker i
-  pub acted-of : (kind i : ℕ) (x : Arrival)
-      → back t i (actOn sh (actionOf kind i x) (length t) (survey sh t) s (worker t i)) ≡ act sh (lent s t) (actionOf kind i x)
-  acted-of kind i x =
-      subst (λ (j : ℕ). back t j (actOn sh (actionOf kind i x) (length t) (survey sh t) s (worker t j)) ≡ act sh (lent s t) (actionOf kind i x))
-      (actor-of kind i x)
-      (acted (actionOf kind i x))
+  pub acted-of : (asked i : ℕ) (x : Arrival)
+      → back t i (actOn sh (actionOf asked i x) (length t) (survey sh t) s (worker t i)) ≡ act sh (lent s t) (actionOf asked i x)
+  acted-of asked i x =
+      subst (λ (j : ℕ). back t j (actOn sh (actionOf asked i x) (length t) (survey sh t) s (worker t j)) ≡ act sh (lent s t) (actionOf asked i x))
+      (actor-of asked i x)
+      (acted (actionOf asked i x))
 
-  pub away-of : (kind i : ℕ) (x : Arrival) → ltb i (survey sh t .records) ≡ false
-      → leaves s t (answerOf (Refused (gateOn sh s i (length t) (survey sh t .ok)))) ≡ told (act sh (lent s t) (actionOf kind i x))
-  away-of kind i x =
+  pub away-of : (asked i : ℕ) (x : Arrival) → ltb i (survey sh t .records) ≡ false
+      → leaves s t (answerOf (Refused (gateOn sh s i (length t) (survey sh t .ok)))) ≡ told (act sh (lent s t) (actionOf asked i x))
+  away-of asked i x =
       subst (λ (j : ℕ). ltb j (survey sh t .records) ≡ false
-      → leaves s t (answerOf (Refused (gateOn sh s j (length t) (survey sh t .ok)))) ≡ told (act sh (lent s t) (actionOf kind i x)))
-      (actor-of kind i x) (away-is (actionOf kind i x))
+      → leaves s t (answerOf (Refused (gateOn sh s j (length t) (survey sh t .ok)))) ≡ told (act sh (lent s t) (actionOf asked i x)))
+      (actor-of asked i x) (away-is (actionOf asked i x))
 
 -- ── opening ──
 -- by the number k that refuses it, or 0: how many records it clears, and its response

@@ -24,6 +24,7 @@ use table::survey_table;
 use words::layout_words;
 
 pub mod answers;
+pub mod asked;
 pub mod records;
 pub mod table;
 
@@ -50,23 +51,23 @@ pub extern "C" fn wubraken_open(shape: Shape, store: &mut [u64], table: &mut [Wo
     open_answer(k)
 }
 
-// What is asked of worker i, by its kind: its record is copied out, worked on by value, and stored back.
+// What is asked of worker i, by number: its record is copied out, worked on by value, and stored back.
 pub fn act_lent(
     shape: Shape,
-    kind: u64,
+    asked: u64,
     i: usize,
     arrival: Arrival,
     store: &mut [u64],
     table: &mut [Worker],
 ) -> Answer
     ensures { λ r. ⌜ leaves (now (store .exit)) (now (table .exit)) r ≡ told (act shape (lent (now (store .entry)) (now (table .entry)))
-        (actionOf kind i arrival)) ⌝ }
+        (actionOf asked i arrival)) ⌝ }
 {
     let n = table.len();
     let seen = survey_table(shape, table);
     if i < seen.records {
         let w = table[i];
-        let r = act_on_record(shape, kind, i, arrival, n, seen, w, store);
+        let r = act_on_record(shape, asked, i, arrival, n, seen, w, store);
         table[i] = r.worker;
         return answer_of(r.response);
     } else {
@@ -86,7 +87,7 @@ pub extern "C" fn wubraken_enqueue(
     ensures { λ r. ⌜ leaves (now (store .exit)) (now (table .exit)) r ≡ told (act shape (lent (now (store .entry)) (now (table .entry)))
         (Enqueue i arrival)) ⌝ }
 {
-    act_lent(shape, 0, i, arrival, store, table)
+    act_lent(shape, asked::ENQUEUE, i, arrival, store, table)
 }
 
 // A take start of worker i.
@@ -99,7 +100,7 @@ pub extern "C" fn wubraken_dequeue(
 ) -> Answer
     ensures { λ r. ⌜ leaves (now (store .exit)) (now (table .exit)) r ≡ told (act shape (lent (now (store .entry)) (now (table .entry))) (Dequeue i)) ⌝ }
 {
-    act_lent(shape, 1, i, NO_ARRIVAL, store, table)
+    act_lent(shape, asked::DEQUEUE, i, NO_ARRIVAL, store, table)
 }
 
 // A turn of worker i.
@@ -112,5 +113,5 @@ pub extern "C" fn wubraken_step(
 ) -> Answer
     ensures { λ r. ⌜ leaves (now (store .exit)) (now (table .exit)) r ≡ told (act shape (lent (now (store .entry)) (now (table .entry))) (Step i)) ⌝ }
 {
-    act_lent(shape, 2, i, NO_ARRIVAL, store, table)
+    act_lent(shape, asked::STEP, i, NO_ARRIVAL, store, table)
 }

@@ -8,6 +8,7 @@ ghost use Rattle.words.specs.Done.{gives};
 ghost use Rattle.wubraken.specs.Results.{actionOf, actOn, recordsOpened, openResponse};
 use super::answers::Answer;
 use super::answers::answer_of;
+use super::asked;
 use super::table::Survey;
 use admission::gate;
 use admission::is_sound;
@@ -45,14 +46,14 @@ pub const NO_ARRIVAL: Arrival = Arrival {
     distance: 0,
 };
 
-// What is asked of worker i, by its kind: 0 a put, 1 a take, otherwise a turn.
-fn action_of(kind: u64, i: usize, arrival: Arrival) -> Action
-    ensures { λ r. ⌜ r ≡ actionOf kind i arrival ⌝ }
+// What is asked of worker i, by number; a turn, where it is neither start.
+fn action_of(asked: u64, i: usize, arrival: Arrival) -> Action
+    ensures { λ r. ⌜ r ≡ actionOf asked i arrival ⌝ }
 {
-    if kind == 0 {
+    if asked == asked::ENQUEUE {
         return Action::Enqueue(i as u64, arrival);
     }
-    if kind == 1 {
+    if asked == asked::DEQUEUE {
         return Action::Dequeue(i as u64);
     }
     Action::Step(i as u64)
@@ -61,7 +62,7 @@ fn action_of(kind: u64, i: usize, arrival: Arrival) -> Action
 // The same of worker i's record w.
 pub fn act_on_record(
     shape: Shape,
-    kind: u64,
+    asked: u64,
     i: usize,
     arrival: Arrival,
     n: usize,
@@ -70,13 +71,13 @@ pub fn act_on_record(
     store: &mut [u64],
 ) -> Reply
     requires { ⌜ Surveyed shape i seen w ⌝ }
-    ensures { λ r. ⌜ gives (now (store .exit)) r ≡ actOn shape (actionOf kind i arrival) n seen (now (store .entry)) w ⌝ }
+    ensures { λ r. ⌜ gives (now (store .exit)) r ≡ actOn shape (actionOf asked i arrival) n seen (now (store .entry)) w ⌝ }
 {
     let k = gate_on(shape, i, n, seen, store);
     if k != 0 {
         return refuse(w, k);
     }
-    let action = action_of(kind, i, arrival);
+    let action = action_of(asked, i, arrival);
     perform(shape, seen.low, action, w, store)
 }
 

@@ -177,28 +177,28 @@ tell-of : {M : Type 1} (𝓤 : URA M) (H : Heap 𝓤) (A : Atoms 𝓤) (mem : Me
 tell-of 𝓤 H A mem run y a = exE 𝓤 _ (λ ws. snd∗ 𝓤 (sem 𝓤 H A (lasts tell.ended tt (y, tt) ws)) (fact 𝓤 (a ≡ answerOf y)))
 
 -- what the callees said, and what the contract says of it
-module _ (sh : Shape) (kind i : ℕ) (x : Arrival) (S : List ℕ) (ys : List Worker) where
+module _ (sh : Shape) (asked i : ℕ) (x : Arrival) (S : List ℕ) (ys : List Worker) where
   abbrev elem : Worker
   elem = getD ys i blank
 
   abbrev Said : Reply → List ℕ → Type 0
-  Said r zs = gives zs r ≡ actOn sh (actionOf kind i x) (length ys) (survey sh ys) S elem
+  Said r zs = gives zs r ≡ actOn sh (actionOf asked i x) (length ys) (survey sh ys) S elem
 
   abbrev SaidAway : Answer → List ℕ → Type 0
   SaidAway r zs = (r ≡ answerOf (Refused (gateOn sh S i (length ys) (survey sh ys .ok)))) × (zs ≡ S)
 
   abbrev Says : Answer → List ℕ → List Worker → Type 0
-  Says v zs ws = leaves zs ws v ≡ told (act sh (lent S ys) (actionOf kind i x))
+  Says v zs ws = leaves zs ws v ≡ told (act sh (lent S ys) (actionOf asked i x))
 
   says-in : (r : Reply) (a : Answer) (zs : List ℕ) → Said r zs → a ≡ answerOf (r .response) → Says a zs (set ys i (r .worker))
-  says-in r a zs e d = put-back-told ys i zs r a (actOn sh (actionOf kind i x) (length ys) (survey sh ys) S elem) e d ∙ ap told (acted-of sh S ys kind i x)
+  says-in r a zs e d = put-back-told ys i zs r a (actOn sh (actionOf asked i x) (length ys) (survey sh ys) S elem) e d ∙ ap told (acted-of sh S ys asked i x)
 
   says-out : ltb i (survey sh ys .records) ≡ false → (r : Answer) (zs : List ℕ) → SaidAway r zs → Says r zs ys
-  says-out beyond r zs e = (λ k. leaves (e .1 k) ys (e .0 k)) ∙ away-of sh S ys kind i x beyond
+  says-out beyond r zs e = (λ k. leaves (e .1 k) ys (e .0 k)) ∙ away-of sh S ys asked i x beyond
 
 module _ {M : Type 1} (𝓤 : URA M) (H : Heap 𝓤) (A : Atoms 𝓤) (W : Given 𝓤 H A) (mem : Memory → SProp 𝓤) (run : Routine → Fun 𝓤) (κ κ′ : Lft) (q q′ : Share)
-    (sh : Shape) (kind i : ℕ) (x : Arrival) (b o : ℕ) (γ : GName) (S : List ℕ) (b′ o′ : ℕ) (γ′ : GName) (ys : List Worker)
-    (sh-is : Is Sh.the-row sh (vals-sh sh)) (kind-fits : kind < 2 ^ 64) (i-fits : i < 2 ^ 64) (x-is : Is Ar.the-row x (vals-ar x))
+    (sh : Shape) (asked i : ℕ) (x : Arrival) (b o : ℕ) (γ : GName) (S : List ℕ) (b′ o′ : ℕ) (γ′ : GName) (ys : List Worker)
+    (sh-is : Is Sh.the-row sh (vals-sh sh)) (asked-fits : asked < 2 ^ 64) (i-fits : i < 2 ^ 64) (x-is : Is Ar.the-row x (vals-ar x))
     (room-s : Room u64 (length S)) (room : Room T.the-row (length ys)) where
   -- the store, and the table at the list l
   abbrev s : RefT (List ℕ)
@@ -211,7 +211,7 @@ module _ {M : Type 1} (𝓤 : URA M) (H : Heap 𝓤) (A : Atoms 𝓤) (W : Given
   t l = at-name γ′ l
 
   abbrev args : (Shape × (ℕ × (ℕ × (Arrival × (RefT (List ℕ) × (RefT (List Worker) × Unit {0}))))))
-  args = (sh, (kind, (i, (x, (s, (t ys, tt))))))
+  args = (sh, (asked, (i, (x, (s, (t ys, tt))))))
 
   abbrev sv : Val
   sv = sliceVal (b, o) (length S)
@@ -220,10 +220,10 @@ module _ {M : Type 1} (𝓤 : URA M) (H : Heap 𝓤) (A : Atoms 𝓤) (W : Given
   tv = sliceVal (b′, o′) (length ys)
 
   abbrev at : Vals f.signature (κ, (κ′, tt))
-  at = (vals-sh sh, (vint w64 kind ∷ [], (vint w64 i ∷ [], (vals-ar x, (sv ∷ [], (tv ∷ [], tt))))))
+  at = (vals-sh sh, (vint w64 asked ∷ [], (vint w64 i ∷ [], (vals-ar x, (sv ∷ [], (tv ∷ [], tt))))))
 
   abbrev wk : Worker
-  wk = elem sh kind i x S ys
+  wk = elem sh asked i x S ys
 
   abbrev all : Survey
   all = survey sh ys
@@ -250,8 +250,8 @@ module _ {M : Type 1} (𝓤 : URA M) (H : Heap 𝓤) (A : Atoms 𝓤) (W : Given
       (κ, tt),
       (q, tt),
       tt,
-      (sh, (kind, (i, (x, (length ys, (all, (wk, (s, tt)))))))),
-      (vals-sh sh, (vint w64 kind ∷ [], (vint w64 i ∷ [], (vals-ar x, (vint w64 (length ys) ∷ [], (vals-s all, (vals wk, (sv ∷ [], tt)))))))),
+      (sh, (asked, (i, (x, (length ys, (all, (wk, (s, tt)))))))),
+      (vals-sh sh, (vint w64 asked ∷ [], (vint w64 i ∷ [], (vals-ar x, (vint w64 (length ys) ∷ [], (vals-s all, (vals wk, (sv ∷ [], tt)))))))),
     ),
     tt,
   )
@@ -265,7 +265,7 @@ module _ {M : Type 1} (𝓤 : URA M) (H : Heap 𝓤) (A : Atoms 𝓤) (W : Given
       owned ! Sv.the-row (Is Sv.the-row) (LL.makes Sv.the-type Sv′.the-plain 𝓤 H A) all _ all-is $ fjoin ! $
       owned ! usize (Is usize) (uint-makes 𝓤 H A W w64) (length ys) _ (refl, room .0) $ fjoin ! $
       owned ! Ar.the-row (Is Ar.the-row) (LL.makes Ar.the-type Ar′.the-plain 𝓤 H A) x _ x-is $ fjoin ! $
-      owned ! usize (Is usize) (uint-makes 𝓤 H A W w64) i _ (refl, i-fits) $ fjoin ! $ owned ! u64 (Is u64) (uint-makes 𝓤 H A W w64) kind _ (refl, kind-fits) $
+      owned ! usize (Is usize) (uint-makes 𝓤 H A W w64) i _ (refl, i-fits) $ fjoin ! $ owned ! u64 (Is u64) (uint-makes 𝓤 H A W w64) asked _ (refl, asked-fits) $
       fjoin ! $ owned ! Sh.the-row (Is Sh.the-row) (LL.makes Sh.the-type Sh′.the-plain 𝓤 H A) sh _ sh-is $ fjoin ! $ done !
 
   -- and for `turn_away`
@@ -284,7 +284,7 @@ module _ {M : Type 1} (𝓤 : URA M) (H : Heap 𝓤) (A : Atoms 𝓤) (W : Given
       owned ! usize (Is usize) (uint-makes 𝓤 H A W w64) i _ (refl, i-fits) $ fjoin ! $
       owned ! Sh.the-row (Is Sh.the-row) (LL.makes Sh.the-type Sh′.the-plain 𝓤 H A) sh _ sh-is $ fjoin ! $ move ! (1 ∷ 0 ∷ []) $ join ! $ frame ! $ done !
 
-  exits : (w : Worker) (a : Answer) (zs : List ℕ) → Says sh kind i x S ys a zs (set ys i w) → length zs ≡ length S
+  exits : (w : Worker) (a : Answer) (zs : List ℕ) → Says sh asked i x S ys a zs (set ys i w) → length zs ≡ length S
       → Is R.the-row a (val-r a ∷ [])
       → ent 𝓤 (⋆ 𝓤 H A (‵ (fobs γ′ (codedHoleys T.the-row .code (heres T.the-row (set ys i w))))
       ∷ ‵ (fbor κ′ (Held T.the-row (length (set ys i w)) b′ o′ γ′)) ∷ ‵ (flft κ′ q′) ∷ (‵ (flft κ q) ⊛ ‵ ftrue) ∷ ‵ (finally u64 γ zs) ∷ []))
@@ -302,12 +302,12 @@ module _ {M : Type 1} (𝓤 : URA M) (H : Heap 𝓤) (A : Atoms 𝓤) (W : Given
       ) $ fjoin ! $
       nothing ! $ move ! (1 ∷ 0 ∷ []) $ fjoin ! $ move ! (1 ∷ 0 ∷ []) $ fjoin ! $
       owned ! Ar.the-row (Is Ar.the-row) (LL.makes Ar.the-type Ar′.the-plain 𝓤 H A) x _ x-is $ fjoin ! $
-      owned ! usize (Is usize) (uint-makes 𝓤 H A W w64) i _ (refl, i-fits) $ fjoin ! $ owned ! u64 (Is u64) (uint-makes 𝓤 H A W w64) kind _ (refl, kind-fits) $
+      owned ! usize (Is usize) (uint-makes 𝓤 H A W w64) i _ (refl, i-fits) $ fjoin ! $ owned ! u64 (Is u64) (uint-makes 𝓤 H A W w64) asked _ (refl, asked-fits) $
       fjoin ! $ owned ! Sh.the-row (Is Sh.the-row) (LL.makes Sh.the-type Sh′.the-plain 𝓤 H A) sh _ sh-is $ fjoin ! $
       frame ! $ owned ! R.the-row (Is R.the-row) (LL.makes R.the-type R′.the-plain 𝓤 H A) a _ is $ done !
 
   -- where worker i has no record the table is as it was
-  exits-out : (r : Answer) (zs : List ℕ) → Says sh kind i x S ys r zs ys → length zs ≡ length S → Is R.the-row r (val-r r ∷ [])
+  exits-out : (r : Answer) (zs : List ℕ) → Says sh asked i x S ys r zs ys → length zs ≡ length S → Is R.the-row r (val-r r ∷ [])
       → ent 𝓤 (⋆ 𝓤 H A ((‵ (flft κ q) ⊛ ‵ ftrue) ∷ ‵ (finally u64 γ zs) ∷ ‵ (MutSlice (named 1) κ′ T.the-row .own (t ys) (tv ∷ [])) ∷ ‵ (flft κ′ q′) ∷ []))
       (Post (val-r r))
   exits-out r zs e same is =
@@ -318,7 +318,7 @@ module _ {M : Type 1} (𝓤 : URA M) (H : Heap 𝓤) (A : Atoms 𝓤) (W : Given
       -- [the store's last list; the table]
       nothing ! $ move ! (2 ∷ 0 ∷ []) $ fjoin ! $ move ! (1 ∷ 0 ∷ []) $ fjoin ! $
       owned ! Ar.the-row (Is Ar.the-row) (LL.makes Ar.the-type Ar′.the-plain 𝓤 H A) x _ x-is $ fjoin ! $
-      owned ! usize (Is usize) (uint-makes 𝓤 H A W w64) i _ (refl, i-fits) $ fjoin ! $ owned ! u64 (Is u64) (uint-makes 𝓤 H A W w64) kind _ (refl, kind-fits) $
+      owned ! usize (Is usize) (uint-makes 𝓤 H A W w64) i _ (refl, i-fits) $ fjoin ! $ owned ! u64 (Is u64) (uint-makes 𝓤 H A W w64) asked _ (refl, asked-fits) $
       fjoin ! $ owned ! Sh.the-row (Is Sh.the-row) (LL.makes Sh.the-type Sh′.the-plain 𝓤 H A) sh _ sh-is $ fjoin ! $
       frame ! $ owned ! R.the-row (Is R.the-row) (LL.makes R.the-type R′.the-plain 𝓤 H A) r _ is $ done !
 
@@ -326,15 +326,15 @@ module _ {M : Type 1} (𝓤 : URA M) (H : Heap 𝓤) (A : Atoms 𝓤) (W : Given
       (known : Triple 𝓤 (C #turn) (Turn 𝓤 H A mem run)) (known-tell : Triple 𝓤 (C #tell) (Tell 𝓤 H A mem run))
       (known-away : Triple 𝓤 (C #away) (Away 𝓤 H A mem run)) where
     walk : ent 𝓤 (onEntry 𝓤 H A f.signature (κ, (κ′, tt)) (q, (q′, tt)) args at)
-        (WpFn 𝓤 H C Λ code.function (val-sh sh ∷ vint w64 kind ∷ vint w64 i ∷ val-ar x ∷ sv ∷ tv ∷ []) Post)
+        (WpFn 𝓤 H C Λ code.function (val-sh sh ∷ vint w64 asked ∷ vint w64 i ∷ val-ar x ∷ sv ∷ tv ∷ []) Post)
     walk =
         qed W ((‵ (flft κ q) ⊛ ‵ (flft κ′ q′) ⊛ ‵ ftrue)
         ∷ ‵ (owns (Sh.the-row ∷ u64 ∷ usize ∷ Ar.the-row ∷ MutSlice (named 0) κ u64 ∷ MutSlice (named 1) κ′ T.the-row ∷ []) args at) ∷ []) ∵
-        enter ! C Λ code.function (val-sh sh ∷ vint w64 kind ∷ vint w64 i ∷ val-ar x ∷ sv ∷ tv ∷ []) _ $
+        enter ! C Λ code.function (val-sh sh ∷ vint w64 asked ∷ vint w64 i ∷ val-ar x ∷ sv ∷ tv ∷ []) _ $
         alloc1 ! (λ l₀. alloc1 ! (λ l₁. alloc1 ! (λ l₂. alloc1 ! (λ l₃. alloc1 ! (λ l₄. alloc1 ! (λ l₅. alloc1 ! (λ l₆. alloc1 ! (λ l₇. alloc1 ! (λ l₈.
         alloc1 ! (λ l₉. alloc1 ! (λ l₁₀. alloc1 ! (λ l₁₁. alloc1 ! (λ l₁₂. alloc1 ! (λ l₁₃. alloc1 ! (λ l₁₄. alloc1 ! (λ l₁₅. alloc1 ! (λ l₁₆. alloc1 ! (λ l₁₇.
         alloc1 ! (λ l₁₈. alloc1 ! (λ l₁₉. alloc1 ! (λ l₂₀. alloc1 ! (λ l₂₁. alloc0 ! $ params1 ! $
-        pass1 ! (init ! 40 refl typed-sh) $ pass1 ! (init ! 38 refl (tt, record { fits = kind-fits })) $
+        pass1 ! (init ! 40 refl typed-sh) $ pass1 ! (init ! 38 refl (tt, record { fits = asked-fits })) $
         pass1 ! (init ! 36 refl (tt, record { fits = i-fits })) $ pass1 ! (init ! 34 refl typed-x) $
         pass1 ! (init ! 32 refl (tt, (tt, (record { fits = room-s .0 }, tt)))) $ pass1 ! (init ! 30 refl (tt, (tt, (record { fits = room .0 }, tt)))) $
         pass0 ! $
@@ -392,13 +392,13 @@ module _ {M : Type 1} (𝓤 : URA M) (H : Heap 𝓤) (A : Atoms 𝓤) (W : Given
         (and-then ! (load ! (from ! (stop !)) (look ! 38 refl)) (and-then ! (load ! (from ! (stop !)) (look ! 36 refl))
         (and-then ! (load ! (from ! (stop !)) (look ! 34 refl)) (and-then ! (load ! (from ! (stop !)) (look ! 16 refl)) (no-more !))))))))) (λ v.
         use1 W (later (some (λ (r : Reply). ((‵ (flft κ q) ⊛ ‵ ftrue) ⊛ ‵ (U.the-row .own r (v ∷ [])))
-        ⊛ raw (ensured 𝓤 H A turn.ended (turn.clauses 𝓤 H A mem run) (κ, tt) (sh, (kind, (i, (x, (length ys, (all, (wk, (s, tt)))))))) tt r)))) (id⊢ 𝓤 _) $
+        ⊛ raw (ensured 𝓤 H A turn.ended (turn.clauses 𝓤 H A mem run) (κ, tt) (sh, (asked, (i, (x, (length ys, (all, (wk, (s, tt)))))))) tt r)))) (id⊢ 𝓤 _) $
         await ! tt $ pick ! (λ r.
         split ! $ move ! (1 ∷ []) $ use1 W
         (some (λ (zs : (Unit {0} × (Unit {0} × (Unit {0} × (Unit {0} × (Unit {0} × (Unit {0} × (Unit {0} × (List ℕ × Unit {0}))))))))).
-        ‵ (lasts turn.ended (κ, tt) (sh, (kind, (i, (x, (length ys, (all, (wk, (s, tt)))))))) zs)
-        ⊛ raw (fact 𝓤 (Said sh kind i x S ys r (zs .1 .1 .1 .1 .1 .1 .1 .0))))) (id⊢ 𝓤 _) $ pick ! (λ zs.
-        split ! $ move ! (1 ∷ []) $ heard ! (Said sh kind i x S ys r (zs .1 .1 .1 .1 .1 .1 .1 .0)) (λ e. fsplit ! $ drop ! $ fsplit ! $ drop ! $ fsplit ! $
+        ‵ (lasts turn.ended (κ, tt) (sh, (asked, (i, (x, (length ys, (all, (wk, (s, tt)))))))) zs)
+        ⊛ raw (fact 𝓤 (Said sh asked i x S ys r (zs .1 .1 .1 .1 .1 .1 .1 .0))))) (id⊢ 𝓤 _) $ pick ! (λ zs.
+        split ! $ move ! (1 ∷ []) $ heard ! (Said sh asked i x S ys r (zs .1 .1 .1 .1 .1 .1 .1 .0)) (λ e. fsplit ! $ drop ! $ fsplit ! $ drop ! $ fsplit ! $
         drop ! $ fsplit ! $ drop ! $ fsplit ! $ drop ! $ fsplit ! $ drop ! $ fsplit ! $ drop ! $ fsplit ! $ fsplit ! $ move ! (1 ∷ []) $ feqL ! (λ same.
         move ! (2 ∷ []) $ split ! $ move ! (1 ∷ []) $ peeks ! U.the-row (Is U.the-row) (shows 𝓤 H A U.the-row) r (v ∷ []) (λ is.
         land ! (from ! (stop !)) (init ! 35 refl (LL.lawful U.the-type U′.the-laws 𝓤 H A W .typed r _ is .0)) $
@@ -433,7 +433,7 @@ module _ {M : Type 1} (𝓤 : URA M) (H : Heap 𝓤) (A : Atoms 𝓤) (W : Given
         move ! (20 ∷ 21 ∷ []) $ free1 ! $ move ! (18 ∷ 19 ∷ []) $ free1 ! $ move ! (16 ∷ 17 ∷ []) $ free1 ! $ move ! (14 ∷ 15 ∷ []) $ free1 ! $
         move ! (12 ∷ 13 ∷ []) $ free1 ! $ move ! (10 ∷ 11 ∷ []) $ free1 ! $ free0 ! $
         keep ! (0 ∷ 1 ∷ 2 ∷ 4 ∷ 5 ∷ []) $ by ! (exits (r .worker) a (zs .1 .1 .1 .1 .1 .1 .1 .0)
-        (says-in sh kind i x S ys r a (zs .1 .1 .1 .1 .1 .1 .1 .0) e d) same (subst (Is R.the-row a) (LL.tells R.the-type R′.the-laws a _ is′) is′)))))))))))
+        (says-in sh asked i x S ys r a (zs .1 .1 .1 .1 .1 .1 .1 .0) e d) same (subst (Is R.the-row a) (LL.tells R.the-type R′.the-laws a _ is′) is′)))))))))))
         (λ outside.
         assigns ! (addr ! (from ! (fld ! refl (hop ! (look-in ! 38 (sub ! 0 refl (whole !))) (stop !))))) (from ! (stop !)) (init ! 8 refl (tt, tt)) $
         assigns ! (agg ! (and-then ! (load ! (from ! (stop !)) (look ! 8 refl))
@@ -450,8 +450,8 @@ module _ {M : Type 1} (𝓤 : URA M) (H : Heap 𝓤) (A : Atoms 𝓤) (W : Given
         pick ! (λ r.
         split ! $ move ! (1 ∷ []) $ use1 W
         (some (λ (zs : (Unit {0} × (Unit {0} × (Unit {0} × (Unit {0} × (List ℕ × Unit {0})))))). ‵ (lasts away.ended (κ, tt)
-        (sh, (i, (length ys, (all, (s, tt))))) zs) ⊛ raw (fact 𝓤 (SaidAway sh kind i x S ys r (zs .1 .1 .1 .1 .0))))) (id⊢ 𝓤 _) $ pick ! (λ zs.
-        split ! $ move ! (1 ∷ []) $ heard ! (SaidAway sh kind i x S ys r (zs .1 .1 .1 .1 .0)) (λ e. fsplit ! $ drop ! $ fsplit ! $ drop ! $ fsplit ! $ drop ! $
+        (sh, (i, (length ys, (all, (s, tt))))) zs) ⊛ raw (fact 𝓤 (SaidAway sh asked i x S ys r (zs .1 .1 .1 .1 .0))))) (id⊢ 𝓤 _) $ pick ! (λ zs.
+        split ! $ move ! (1 ∷ []) $ heard ! (SaidAway sh asked i x S ys r (zs .1 .1 .1 .1 .0)) (λ e. fsplit ! $ drop ! $ fsplit ! $ drop ! $ fsplit ! $ drop ! $
         fsplit ! $ drop ! $ fsplit ! $ fsplit ! $ move ! (1 ∷ []) $ feqL ! (λ same.
         move ! (2 ∷ []) $ split ! $ move ! (1 ∷ []) $ peeks ! R.the-row (Is R.the-row) (shows 𝓤 H A R.the-row) r (v ∷ []) (λ is.
         land ! (from ! (stop !)) (init ! 50 refl (LL.lawful R.the-type R′.the-laws 𝓤 H A W .typed r _ is .0)) $
@@ -466,7 +466,7 @@ module _ {M : Type 1} (𝓤 : URA M) (H : Heap 𝓤) (A : Atoms 𝓤) (W : Given
         move ! (26 ∷ 27 ∷ []) $ free1 ! $ move ! (24 ∷ 25 ∷ []) $ free1 ! $ move ! (22 ∷ 23 ∷ []) $ free1 ! $ move ! (20 ∷ 21 ∷ []) $ free1 ! $
         move ! (18 ∷ 19 ∷ []) $ free1 ! $ move ! (16 ∷ 17 ∷ []) $ free1 ! $ move ! (14 ∷ 15 ∷ []) $ free1 ! $ move ! (12 ∷ 13 ∷ []) $ free1 ! $
         move ! (10 ∷ 11 ∷ []) $ free1 ! $ move ! (8 ∷ 9 ∷ []) $ free1 ! $ free0 ! $
-        keep ! (1 ∷ 2 ∷ 4 ∷ 5 ∷ []) $ by ! (exits-out r (zs .1 .1 .1 .1 .0) (says-out sh kind i x S ys (fails _ outside) r (zs .1 .1 .1 .1 .0) e) same
+        keep ! (1 ∷ 2 ∷ 4 ∷ 5 ∷ []) $ by ! (exits-out r (zs .1 .1 .1 .1 .0) (says-out sh asked i x S ys (fails _ outside) r (zs .1 .1 .1 .1 .0) e) same
         (subst (Is R.the-row r) (LL.tells R.the-type R′.the-laws r _ is) is)))))))))))))))))))))))))))))))))))))
       where
         typed : (w : Worker) → Is T.the-row w (vals w) → Holds (hasTy T′.mir (val w)) × WT (val w)

@@ -1,4 +1,4 @@
--- `wubraken_enqueue` meets its contract: it hands on to `act_lent`, as kind 0. Assumes nothing.
+-- `wubraken_enqueue` meets its contract: it hands on to `act_lent`, asked for 0. Assumes nothing.
 use contract.Running.{givenOf, tables, tablesOf}
 use denote.Triple.Spec.{tripleOf}
 use denote.Triple.Table.{entered, cited}

@@ -1,4 +1,4 @@
--- `wubraken_step` meets its contract: it hands on to `act_lent`, as kind 2. Assumes nothing.
+-- `wubraken_step` meets its contract: it hands on to `act_lent`, asked for 2. Assumes nothing.
 use contract.Running.{givenOf, tables, tablesOf}
 use denote.Triple.Spec.{tripleOf}
 use denote.Triple.Table.{entered, cited}

@@ -25,7 +25,7 @@ returns : tie.Need-returns
 returns c =
     let a = c .before .before .before .before .before .args in
     ap (λ (r : Reply). gives (a .store .now) r) (c .refuse .ensures)
-    ∙ refused-on _ (a .kind) _ (a .arrival) _ _ _ (a .w) _ (c .before .before .gate-on .ensures) (c .before .if1 .taken)
+    ∙ refused-on _ (a .asked) _ (a .arrival) _ _ _ (a .w) _ (c .before .before .gate-on .ensures) (c .before .if1 .taken)
 
 action-of-requires : tie.Need-action-of-requires
 action-of-requires c κs = search needs
@@ -49,7 +49,7 @@ returns-2 c =
     let a = c .before .before .before .before .before .before .before .before .before .args in
     c .before .before .perform .ensures
     ∙ ap (λ (x : Action). localAct (a .shape) (a .seen .low) (a .store .now) x (a .w)) (c .before .before .before .before .action-of .ensures)
-    ∙ done-on _ (a .kind) _ (a .arrival) _ _ _ (a .w) _ (c .before .before .before .before .before .before .gate-on .ensures)
+    ∙ done-on _ (a .asked) _ (a .arrival) _ _ _ (a .w) _ (c .before .before .before .before .before .before .gate-on .ensures)
     (c .before .before .before .before .before .if1 .left)
 
 pub act-on-record-spec : {M : Type 1} → statement M

@@ -1,4 +1,4 @@
--- What is asked, by its kind. Assumes nothing.
+-- What is asked, by its asked. Assumes nothing.
 use borrow.Author.Tests.{eq-eqb, ne-eqb}
 use borrow.Author.Needs.{needs}
 use Rattle.wubraken.proofs.records.action_of.Statement.{statement}
