@@ -5,33 +5,44 @@ use crate::find_order;
 /// One call. Its moments count whatever happens in the history.
 #[derive(Clone, Copy, Debug, PartialEq, Eq)]
 pub struct Call<T> {
+    /// Whose call it is.
     pub worker: usize,
+    /// Its number among the calls.
     pub ticket: u64,
+    /// A put or a take.
     pub kind: Kind<T>,
+    /// The moment of its start.
     pub start: usize,
     /// None while the call is unfinished.
     pub end: Option<End<T>>,
 }
 
+/// What a call is.
 #[derive(Clone, Copy, Debug, PartialEq, Eq)]
 pub enum Kind<T> {
     /// Of an arrival at a time, and what a take shows of it.
     Put(u32, T),
+    /// Of the earliest arrival.
     Take,
 }
 
 /// How a call ended.
 #[derive(Clone, Copy, Debug, PartialEq, Eq)]
 pub struct End<T> {
+    /// The moment of its last turn.
     pub at: usize,
+    /// What that turn answered.
     pub answer: Answer<T>,
 }
 
+/// What ends a call.
 #[derive(Clone, Copy, Debug, PartialEq, Eq)]
 pub enum Answer<T> {
     /// The put with this ticket has ended.
     Stored(u64),
+    /// A take got this arrival.
     Took(T),
+    /// A take found none.
     Empty,
 }
 
@@ -56,6 +67,7 @@ impl<T> Default for History<T> {
 }
 
 impl<T: Copy + PartialEq> History<T> {
+    /// All calls, by their start.
     pub fn calls(&self) -> &[Call<T>] {
         &self.calls
     }
@@ -79,6 +91,7 @@ impl<T: Copy + PartialEq> History<T> {
         call.end = Some(End { at, answer });
     }
 
+    /// Whether a worker has a call in progress.
     pub fn is_busy(&self, worker: usize) -> bool {
         let last = self.calls.iter().rfind(|call| call.worker == worker);
         last.map_or(false, |call| call.end.is_none())

@@ -3,6 +3,7 @@
 //!
 //! `T` is what a take shows of its arrival: its ticket, or what is printed of it.
 #![forbid(unsafe_code)]
+#![warn(missing_docs)]
 
 mod history;
 mod search;

@@ -1,14 +1,18 @@
 //! A small generator of random numbers: splitmix64.
 #![forbid(unsafe_code)]
+#![warn(missing_docs)]
 
+/// A generator; it draws the same numbers from the same seed.
 #[derive(Clone)]
 pub struct Random(u64);
 
 impl Random {
+    /// Any seed will do.
     pub fn new(seed: u64) -> Self {
         Self(seed)
     }
 
+    /// Any number.
     pub fn draw(&mut self) -> u64 {
         self.0 = self.0.wrapping_add(0x9E37_79B9_7F4A_7C15);
         let mut z = self.0;
@@ -32,6 +36,7 @@ impl Random {
         self.below(times) == 0
     }
 
+    /// One of these, of which there must be some.
     pub fn choose<T: Copy>(&mut self, from: &[T]) -> T {
         from[self.below(from.len() as u32) as usize]
     }

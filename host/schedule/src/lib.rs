@@ -20,6 +20,17 @@ pub use generator::{Generator, Options};
 pub use random::Random;
 pub use script::Script;
 
+/// Takes turns to the end of a call, past those answered `on`: how many, and the last answer.
+pub fn to_the_end<A: PartialEq>(on: A, mut turn: impl FnMut() -> A) -> (usize, A) {
+    for turns in 1..=100_000 {
+        let answer = turn();
+        if answer != on {
+            return (turns, answer);
+        }
+    }
+    panic!("no end after 100,000 turns");
+}
+
 /// The lines that the second program prints for an input.
 pub fn lines(input: impl Read) -> String {
     let mut output = Vec::new();

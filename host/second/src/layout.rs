@@ -23,11 +23,11 @@ pub mod field {
     pub const RECLAMATION: usize = 7;
 }
 
-pub fn head_at(bucket: usize) -> usize {
+pub const fn head_at(bucket: usize) -> usize {
     HEADS + bucket
 }
 
 /// The first word of a node; that of the node behind the last is the length.
-pub fn node_at(buckets: usize, node: usize) -> usize {
+pub const fn node_at(buckets: usize, node: usize) -> usize {
     HEADS + buckets + NODE_WORDS * node
 }

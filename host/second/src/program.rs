@@ -2,6 +2,7 @@
 
 use std::io::{self, Read, Write};
 
+use crate::layout::node_at;
 use crate::lines::Lines;
 use crate::pool::{self, Pool};
 use crate::response::{Answer, Refusal};
@@ -9,8 +10,8 @@ use crate::shape::Shape;
 use crate::turn_file::{Record, Records};
 use crate::worker::Worker;
 
-/// Words and records that the program lends.
-pub const LENT_WORDS: usize = 4_355;
+/// Words and records that the program lends: 256 buckets and 512 nodes fit.
+pub const LENT_WORDS: usize = node_at(256, 512);
 pub const LENT_RECORDS: usize = 64;
 
 /// [`run`] from standard input to standard output. It is compiled here, together

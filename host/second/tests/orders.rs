@@ -8,7 +8,7 @@ mod common;
 use common::*;
 use order::{History, Kind};
 use schedule::script::{put, take, turn};
-use schedule::{orders, Script};
+use schedule::{orders, to_the_end, Script};
 use second::layout::{field, CURRENT};
 use second::{word, Answer, Record, Response};
 
@@ -69,12 +69,7 @@ impl Noted {
 
     /// Turns to the end of a call.
     fn finish(&mut self, worker: u8) -> Answer {
-        loop {
-            let answer = self.apply(turn(worker));
-            if answer != ON {
-                return answer;
-            }
-        }
+        to_the_end(ON, || self.apply(turn(worker))).1
     }
 
     fn take_whole(&mut self, worker: u8) -> Answer {

@@ -12,7 +12,8 @@ use second::{word, Worker};
 const WORKERS: usize = 3;
 const NODES: u64 = 4;
 const BUCKETS: u64 = 2;
-const COUNT: u64 = 1 << 32;
+/// One past the largest count.
+const COUNT: u64 = word::MAX_COUNT + 1;
 
 /// Two arrivals stored, one taken, three idle workers that have seen something.
 fn base() -> Lent {
@@ -62,13 +63,13 @@ fn the_base_and_a_fresh_pool_pass() {
 
 #[test]
 fn fixed_words() {
-    let last = word::current(BUCKETS - 1, COUNT - 1);
+    let last = word::current(BUCKETS - 1, word::MAX_COUNT);
     check(
-        &[0, COUNT - 1, COUNT, last],
+        &[0, word::MAX_COUNT, COUNT, last],
         &[last + 1, u64::MAX],
         |lent, value| lent.store[CURRENT] = value,
     );
-    check(&[0, COUNT - 1], &[COUNT, u64::MAX], |lent, value| {
+    check(&[0, word::MAX_COUNT], &[COUNT, u64::MAX], |lent, value| {
         // At the largest count every start is refused by 11, which 3 precedes.
         lent.store[STARTED] = value
     });
@@ -97,12 +98,12 @@ fn node_words() {
                 &[0, 1, 2 * NODES, 2 * NODES + 1],
                 &[2 * NODES + 2, 2 * NODES + 3, u64::MAX],
             ),
-            (field::TIME, &[0, 20, COUNT - 1], &[COUNT, u64::MAX]),
-            (field::TICKET, &[0, COUNT - 1], &[COUNT, u64::MAX]),
+            (field::TIME, &[0, 20, word::MAX_COUNT], &[COUNT, u64::MAX]),
+            (field::TICKET, &[0, word::MAX_COUNT], &[COUNT, u64::MAX]),
             (field::PATH, &[0, 65_535], &[65_536, u64::MAX]),
             (field::ORDER, &[0, 63], &[64, u64::MAX]),
             (field::DISTANCE, &[1, 1_024], &[1_025, u64::MAX]),
-            (field::EPOCH, &[0, COUNT - 1], &[COUNT, u64::MAX]),
+            (field::EPOCH, &[0, word::MAX_COUNT], &[COUNT, u64::MAX]),
         ];
         for (field, good, bad) in words {
             check(good, bad, |lent, value| {
@@ -175,7 +176,7 @@ fn kinds_by_stage() {
 
 #[test]
 fn record_fields_at_every_stage() {
-    let last = word::current(BUCKETS - 1, COUNT - 1);
+    let last = word::current(BUCKETS - 1, word::MAX_COUNT);
     for stage in 0..=13 {
         check_record(
             stage,
@@ -196,13 +197,13 @@ fn record_fields_at_every_stage() {
         );
         check_record(
             stage,
-            &[0, COUNT - 1, last],
+            &[0, word::MAX_COUNT, last],
             &[last + 1, u64::MAX],
             |record, value| record.current_seen = value,
         );
         check_record(
             stage,
-            &[0, COUNT - 1],
+            &[0, word::MAX_COUNT],
             &[COUNT, u64::MAX],
             |record, value| record.ticket = value,
         );
@@ -246,12 +247,12 @@ fn nothing_else_is_looked_at() {
     *lent.head(1) = 0;
     for node in 0..NODES as usize {
         *lent.node_word(node, field::LINK) = 0;
-        *lent.node_word(node, field::TIME) = COUNT - 1;
-        *lent.node_word(node, field::TICKET) = COUNT - 1;
+        *lent.node_word(node, field::TIME) = word::MAX_COUNT;
+        *lent.node_word(node, field::TICKET) = word::MAX_COUNT;
         *lent.node_word(node, field::DISTANCE) = 1;
         *lent.node_word(node, field::RECLAMATION) = 1;
     }
-    lent.workers[2].ticket = COUNT - 1;
+    lent.workers[2].ticket = word::MAX_COUNT;
     assert!(passes(&lent));
 }
 

@@ -6,9 +6,8 @@ mod common;
 use common::*;
 use schedule::script::shape;
 use second::layout::{field, CURRENT, LAST_ALLOCATED, STARTED};
-use second::{word, Answer, Arrival, Response, Shape};
-
-const MAX: u64 = (1 << 32) - 1;
+use second::word::{self, MAX_COUNT};
+use second::{Answer, Arrival, Response, Shape};
 
 /// The answers of the four entry points on copies of the same memory.
 fn all_entries(lent: &Lent) -> [Answer; 4] {
@@ -164,18 +163,18 @@ fn refusals_9_and_10_at_every_stage() {
 #[test]
 fn refusal_11_at_a_start() {
     let mut lent = Lent::open(shape(2, 4, 2, 10));
-    lent.store[STARTED] = MAX - 1;
-    assert_eq!(lent.put(0, 5), begun(MAX));
-    assert_eq!(lent.store[STARTED], MAX);
+    lent.store[STARTED] = MAX_COUNT - 1;
+    assert_eq!(lent.put(0, 5), begun(MAX_COUNT));
+    assert_eq!(lent.store[STARTED], MAX_COUNT);
     assert_eq!(lent.put(1, 5), refused(11));
     assert_eq!(lent.take(1), refused(11));
-    assert_eq!(lent.finish(0), (5, stored(MAX)));
+    assert_eq!(lent.finish(0), (5, stored(MAX_COUNT)));
 }
 
 /// A put at stage 7 that saw (1, 2^32 - 1), wanting bucket 0.
 fn lowering_at_the_largest_epoch() -> Lent {
     let mut lent = Lent::open(shape(2, 4, 2, 10));
-    lent.store[CURRENT] = word::current(1, MAX);
+    lent.store[CURRENT] = word::current(1, MAX_COUNT);
     lent.put(0, 5).unwrap();
     lent.turns_to(0, 7);
     lent
@@ -188,7 +187,7 @@ fn refusal_11_at_stage_7_only_if_the_swap_would_succeed() {
         assert_eq!(lent.turn(0), refused(11));
     }
     // Another bucket, another epoch: the swap fails and the put reads again.
-    for other in [word::current(0, MAX), word::current(1, MAX - 1)] {
+    for other in [word::current(0, MAX_COUNT), word::current(1, MAX_COUNT - 1)] {
         let mut lent = lowering_at_the_largest_epoch();
         lent.store[CURRENT] = other;
         assert_eq!(lent.turn(0), ON);
@@ -197,15 +196,15 @@ fn refusal_11_at_stage_7_only_if_the_swap_would_succeed() {
     }
     // One epoch below the largest is still lowered.
     let mut lent = lowering_at_the_largest_epoch();
-    lent.store[CURRENT] = word::current(1, MAX - 1);
+    lent.store[CURRENT] = word::current(1, MAX_COUNT - 1);
     assert_eq!(lent.finish(0), (3, stored(1)));
-    assert_eq!(lent.current(), (0, MAX));
+    assert_eq!(lent.current(), (0, MAX_COUNT));
 }
 
 #[test]
 fn the_arrival_of_a_refused_put_can_be_taken() {
     let mut lent = Lent::open(shape(2, 4, 1, 10));
-    lent.store[CURRENT] = word::current(0, MAX);
+    lent.store[CURRENT] = word::current(0, MAX_COUNT);
     lent.put(0, 5).unwrap();
     lent.turns_to(0, 7);
     assert_eq!(lent.turn(0), refused(11));
@@ -239,9 +238,9 @@ fn provoke(number: u8, lent: &mut Lent, call: &mut (usize, Arrival)) {
         9 => lent.workers[0].stage = 7,
         10 => lent.workers[0].stage = 0,
         11 => {
-            lent.store[CURRENT] = word::current(1, MAX);
-            lent.store[STARTED] = MAX;
-            lent.workers[0].current_seen = word::current(1, MAX);
+            lent.store[CURRENT] = word::current(1, MAX_COUNT);
+            lent.store[STARTED] = MAX_COUNT;
+            lent.workers[0].current_seen = word::current(1, MAX_COUNT);
         }
         12 => {
             for node in 0..4 {
@@ -292,7 +291,7 @@ fn the_lowest_number_wins() {
 #[test]
 fn each_applies_on_its_condition_only() {
     let mut lent = Lent::with_stored(shape(2, 1, 2, 10), &[5]);
-    lent.store[STARTED] = MAX;
+    lent.store[STARTED] = MAX_COUNT;
     lent.workers[0] = record_at(8);
     assert_eq!(lent.turn(0), ON); // 11 and 12 would hold for a put.
     lent.store[STARTED] = 1;

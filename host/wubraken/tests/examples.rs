@@ -7,6 +7,7 @@ mod batches;
 mod threads;
 
 use schedule::{write_damaged, Options};
+use wubraken::{Pool, Shape, Stop};
 
 #[test]
 fn threads_take_what_they_have_put() {
@@ -23,4 +24,22 @@ fn batches_print_the_lines_of_a_file() {
         let expected = schedule::lines(&file[..]);
         assert!(lines == expected.as_bytes(), "seed {seed}");
     }
+}
+
+#[test]
+fn a_batch_by_hand() {
+    let shape = Shape {
+        workers: 1,
+        nodes: 4,
+        buckets: 2,
+        width: 10,
+    };
+    let (batch, mut out) = (batches::by_hand(), [0; 1_000]);
+    let end = Pool::new(shape).unwrap().run_batch(&batch, &mut out);
+    assert_eq!((end.read, end.stop), (batch.len(), Stop::Drained));
+    let (on, late) = ("on\n", "no 10\n");
+    let (put, take) = (on.repeat(4), on.repeat(6));
+    let expected =
+        format!("begun 1\n{put}stored 1\n{late}{late}begun 2\n{take}took 5 7 1 1864135\n");
+    assert_eq!(&out[..end.written], expected.as_bytes());
 }

@@ -5,7 +5,9 @@ mod common;
 use std::collections::HashSet;
 
 use common::{shape, ARRIVAL};
+use schedule::to_the_end;
 use second::layout::STARTED;
+use second::word::MAX_COUNT;
 use wubraken::{Arrival, BatchEnd, Pool, Refusal, Shape, Step, Stop, Taken, Worker};
 
 const SHAPE: Shape = shape(2, 2, 2, 10);
@@ -15,12 +17,7 @@ fn open() -> Pool {
 }
 
 fn finish(pool: &mut Pool, worker: u64) -> Step {
-    loop {
-        match pool.step(worker).unwrap() {
-            Step::On => {}
-            end => return end,
-        }
-    }
+    to_the_end(Ok(Step::On), || pool.step(worker)).1.unwrap()
 }
 
 #[test]
@@ -89,11 +86,11 @@ fn every_refusal_by_name() {
     );
 
     let (mut store, table) = pool.into_parts();
-    store[STARTED] = (1 << 32) - 1;
+    store[STARTED] = MAX_COUNT;
     let mut pool = Pool::resume(SHAPE, store, table);
     assert_eq!(pool.dequeue(1), Err(Refusal::Exhausted));
     let (mut store, table) = pool.into_parts();
-    store[STARTED] = 1 << 32;
+    store[STARTED] = MAX_COUNT + 1;
     let mut pool = Pool::resume(SHAPE, store, table);
     assert_eq!(pool.dequeue(1), Err(Refusal::OutOfRange));
     assert_eq!(pool.reopen(SHAPE), Ok(()));

@@ -4,6 +4,7 @@
 use std::collections::{BTreeMap, BTreeSet};
 
 use order::{End, History, Kind};
+use schedule::to_the_end;
 use second::layout::{field, head_at, node_at, NODE_WORDS, STARTED};
 use second::{
     in_range, kind, stage, word, Answer, Arrival, Program, Reclamation, Record, Response, Worker,
@@ -156,22 +157,17 @@ impl Observer {
     }
 
     fn finish(&mut self, program: &mut Program, worker: u8) {
-        let nodes = program.shape().nodes;
-        let most = 20 * (nodes + program.shape().buckets + 10);
-        for _ in 0..most {
-            if !program.workers()[usize::from(worker)].is_busy() {
-                return;
-            }
-            self.apply(program, Record::Step { worker });
+        if program.workers()[usize::from(worker)].is_busy() {
+            let step = Record::Step { worker };
+            to_the_end(Response::On, || self.apply(program, step));
         }
-        panic!("a call alone does not end");
     }
 
-    fn apply(&mut self, program: &mut Program, record: Record) {
+    fn apply(&mut self, program: &mut Program, record: Record) -> Response {
         let before = Before::new(program);
-        let answer = program.apply(record);
-        assert!(answer.is_ok());
-        self.watch(&before, program, record, answer);
+        let response = program.apply(record).expect("nothing is refused");
+        self.watch(&before, program, record, Ok(response));
+        response
     }
 }
 

@@ -8,7 +8,7 @@ use std::ops::{Deref, DerefMut};
 
 pub use schedule::lent::{Memory, GARBAGE, GARBAGE_RECORD};
 pub use schedule::script::arrival;
-use schedule::Script;
+use schedule::{to_the_end, Script};
 use second::layout::{field, CURRENT};
 use second::{push_line, stage, word, Answer, Arrival, Record, Refusal, Response, Shape, Worker};
 
@@ -150,13 +150,7 @@ impl Lent {
 
     /// Turns to the end of the call: how many, and the last answer.
     pub fn finish(&mut self, worker: usize) -> (usize, Answer) {
-        for turns in 1..1_000 {
-            let answer = self.turn(worker);
-            if answer != ON {
-                return (turns, answer);
-            }
-        }
-        panic!("no end after 1,000 turns");
+        to_the_end(ON, || self.turn(worker))
     }
 
     /// A whole put.
