@@ -1,14 +1,14 @@
 -- What the by-value functions leave, and that it is what the operations of the pool are defined to give.
 --     Told, leaves, told             memory and answer after a call: of what the code left, and of an operation's result
 --     put-back-told                  what is done on one record, put back, is told of the table
---     actionOf, actor-of             the action by the number that the code hands on, and its worker
+--     ActsAs                         the claim of a function that does an action
 --     actOn, refused-on, done-on     refused by 1 to 4, or done; by what the gate said
---     acted, acted-of                what is done on one record and put back is the operation
---     away-is, away-of               so is the refusal of a worker past the records that were looked at
+--     acted                          what is done on one record and put back is the operation
+--     away-is                        so is the refusal of a worker past the records that were looked at
 --     recordsOpened, openResponse    an opening by the number that refuses it: how many records it clears, its response
 --     opened-bound, open-is          no more than there are; with the store opened and the records cleared it is the opening
 -- Assumes nothing.
-use mathlib.Core.Path.{_≡_, refl, sym, ap, _∙_, subst}
+use mathlib.Core.Path.{_≡_, refl, sym, ap, _∙_}
 use mathlib.Core.List.{List, _++_}
 use mathlib.Core.Bool.{Bool, true, false, cond}
 use mathlib.Core.Logic.{_≢_}
@@ -19,7 +19,6 @@ use lib.ListN.{length, set, drop, replicate}
 use lib.Seq.{set-getD}
 use borrow.Author.Tests.{eqb-true, eqb-false, ltb-false, le-ltb, eq-eqb, ne-eqb}
 use Rattle.arrival.specs.declared.Shape.{Shape}
-use Rattle.arrival.specs.declared.Arrival.{Arrival}
 use Rattle.arrival.specs.declared.Worker.{Worker}
 use Rattle.arrival.specs.declared.Response.{Response}
 use Rattle.arrival.specs.declared.Response.the-variants.{Opened, Refused}
@@ -66,38 +65,23 @@ put-back-told t i s r a d given answer =
     ∙ ap (λ (e : Done). told (back t i e)) given
 
 -- ── the operation on a record ──
--- by the number that the code hands on: 0 a put, 1 a take, otherwise a turn, of worker i
-abbrev pub actionOf : ℕ → ℕ → Arrival → Action
-actionOf asked i x = cond (eqb asked 0) (Enqueue i x) (cond (eqb asked 1) (Dequeue i) (Step i))
-
-abbrev pub noArrival : Arrival
-noArrival = record { time = 0; path = 0; order = 0; distance = 0 }
-
--- what a call that is asked for claims of its answer and of the last store and table
-abbrev pub ActsAs : Shape → ℕ → ℕ → Arrival → List ℕ → List Worker → Answer → List ℕ → List Worker → Type 0
-ActsAs sh asked i x s t r s′ t′ = leaves s′ t′ r ≡ told (act sh (lent s t) (actionOf asked i x))
-
-pub actor-of : (asked i : ℕ) (x : Arrival) → actor (actionOf asked i x) ≡ i
-actor-of asked i x = go (eqb asked 0) (eqb asked 1)
-  where
-    go : (a b : Bool) → actor (cond a (Enqueue i x) (cond b (Dequeue i) (Step i))) ≡ i
-    go true b = refl
-    go false true = refl
-    go false false = refl
+-- what a function that does the action a claims of its answer and of the last store and table
+abbrev pub ActsAs : Shape → Action → List ℕ → List Worker → Answer → List ℕ → List Worker → Type 0
+ActsAs sh a s t r s′ t′ = leaves s′ t′ r ≡ told (act sh (lent s t) a)
 
 -- refused by 1 to 4, or done, with n records lent
 unfoldable pub actOn : Shape → Action → ℕ → Survey → List ℕ → Worker → Done
 actOn sh a n seen s w = unlessRefused (gateOn sh s (actor a) n (seen .ok)) s w (localAct sh (seen .low) s a w)
 
--- by what the gate said of worker i
-module _ (sh : Shape) (asked i : ℕ) (x : Arrival) (n : ℕ) (seen : Survey) (s : List ℕ) (w : Worker) (k : ℕ) (is : k ≡ gateOn sh s i n (seen .ok)) where
-  pub refused-on : k ≢ 0 → refused s w k ≡ actOn sh (actionOf asked i x) n seen s w
+-- by what the gate said
+module _ (sh : Shape) (a : Action) (n : ℕ) (seen : Survey) (s : List ℕ) (w : Worker) (k : ℕ) (is : k ≡ gateOn sh s (actor a) n (seen .ok)) where
+  pub refused-on : k ≢ 0 → refused s w k ≡ actOn sh a n seen s w
   unfolding actOn
-  refused-on h = rw (actor-of asked i x, ← is, ne-eqb k 0 h)
+  refused-on h = rw (← is, ne-eqb k 0 h)
 
-  pub done-on : k ≡ 0 → localAct sh (seen .low) s (actionOf asked i x) w ≡ actOn sh (actionOf asked i x) n seen s w
+  pub done-on : k ≡ 0 → localAct sh (seen .low) s a w ≡ actOn sh a n seen s w
   unfolding actOn
-  done-on z = rw (actor-of asked i x, ← is, eq-eqb k 0 z)
+  done-on z = rw (← is, eq-eqb k 0 z)
 
 module _ (sh : Shape) (s : List ℕ) (t : List Worker) where
   abbrev found : Survey
@@ -143,21 +127,6 @@ module _ (sh : Shape) (s : List ℕ) (t : List Worker) where
       let p = usable sh m sound W (actor a) z in
       let all : surveyed sh (length t) ≡ sh .workers = rw (shape-tests sh (p .lent .limits), le-ltb (length t) (sh .workers) (p .lent .table)) in
       omega (arith, ltb-false (actor a) (survey sh t .records) beyond, survey-records sh t (surveyed sh (length t)) (surveyed sh (length t)), all, p .exists)))
-
-  -- both, of worker i
-  pub acted-of : (asked i : ℕ) (x : Arrival)
-      → back t i (actOn sh (actionOf asked i x) (length t) (survey sh t) s (worker t i)) ≡ act sh (lent s t) (actionOf asked i x)
-  acted-of asked i x =
-      subst (λ (j : ℕ). back t j (actOn sh (actionOf asked i x) (length t) (survey sh t) s (worker t j)) ≡ act sh (lent s t) (actionOf asked i x))
-      (actor-of asked i x)
-      (acted (actionOf asked i x))
-
-  pub away-of : (asked i : ℕ) (x : Arrival) → ltb i (survey sh t .records) ≡ false
-      → leaves s t (answerOf (Refused (gateOn sh s i (length t) (survey sh t .ok)))) ≡ told (act sh (lent s t) (actionOf asked i x))
-  away-of asked i x =
-      subst (λ (j : ℕ). ltb j (survey sh t .records) ≡ false
-      → leaves s t (answerOf (Refused (gateOn sh s j (length t) (survey sh t .ok)))) ≡ told (act sh (lent s t) (actionOf asked i x)))
-      (actor-of asked i x) (away-is (actionOf asked i x))
 
 -- ── opening ──
 -- by the number k that refuses it, or 0: how many records it clears, and its response

@@ -6,17 +6,18 @@ ghost use Rattle.arrival.specs.declared.Action.the-variants.{Enqueue, Dequeue, 
 ghost use Rattle.calendar.specs.rules.Layout.{layout};
 ghost use Rattle.calendar.specs.rules.Ranges.{shapeInRange};
 ghost use Rattle.calendar.specs.rules.Operations.{act, open-pool};
-ghost use Rattle.wubraken.specs.Results.{lent, leaves, told, actionOf};
+ghost use Rattle.wubraken.specs.Results.{lent, leaves, told};
 use admission::ranges::shape_in_range;
 use answers::Answer;
 use answers::answer_of;
+use arrival::Action;
 use arrival::Arrival;
 use arrival::Shape;
 use arrival::Worker;
 use operation::open_lent;
-use records::NO_ARRIVAL;
 use records::act_on_record;
 use records::open_answer;
+use records::place_of;
 use records::records_opened;
 use records::turn_away;
 use table::clear_table;
@@ -24,7 +25,6 @@ use table::survey_table;
 use words::layout_words;
 
 pub mod answers;
-pub mod asked;
 pub mod records;
 pub mod table;
 
@@ -51,23 +51,16 @@ pub extern "C" fn wubraken_open(shape: Shape, store: &mut [u64], table: &mut [Wo
     open_answer(k)
 }
 
-// What is asked of worker i, by number: its record is copied out, worked on by value, and stored back.
-pub fn act_lent(
-    shape: Shape,
-    asked: u64,
-    i: usize,
-    arrival: Arrival,
-    store: &mut [u64],
-    table: &mut [Worker],
-) -> Answer
-    ensures { λ r. ⌜ leaves (now (store .exit)) (now (table .exit)) r ≡ told (act shape (lent (now (store .entry)) (now (table .entry)))
-        (actionOf asked i arrival)) ⌝ }
+// A start or turn: its worker's record is copied out, worked on by value, and stored back.
+pub fn act_lent(shape: Shape, action: Action, store: &mut [u64], table: &mut [Worker]) -> Answer
+    ensures { λ r. ⌜ leaves (now (store .exit)) (now (table .exit)) r ≡ told (act shape (lent (now (store .entry)) (now (table .entry))) action) ⌝ }
 {
     let n = table.len();
     let seen = survey_table(shape, table);
+    let i = place_of(action);
     if i < seen.records {
         let w = table[i];
-        let r = act_on_record(shape, asked, i, arrival, n, seen, w, store);
+        let r = act_on_record(shape, action, n, seen, w, store);
         table[i] = r.worker;
         return answer_of(r.response);
     } else {
@@ -87,7 +80,7 @@ pub extern "C" fn wubraken_enqueue(
     ensures { λ r. ⌜ leaves (now (store .exit)) (now (table .exit)) r ≡ told (act shape (lent (now (store .entry)) (now (table .entry)))
         (Enqueue i arrival)) ⌝ }
 {
-    act_lent(shape, asked::ENQUEUE, i, arrival, store, table)
+    act_lent(shape, Action::Enqueue(i as u64, arrival), store, table)
 }
 
 // A take start of worker i.
@@ -100,7 +93,7 @@ pub extern "C" fn wubraken_dequeue(
 ) -> Answer
     ensures { λ r. ⌜ leaves (now (store .exit)) (now (table .exit)) r ≡ told (act shape (lent (now (store .entry)) (now (table .entry))) (Dequeue i)) ⌝ }
 {
-    act_lent(shape, asked::DEQUEUE, i, NO_ARRIVAL, store, table)
+    act_lent(shape, Action::Dequeue(i as u64), store, table)
 }
 
 // A turn of worker i.
@@ -113,5 +106,5 @@ pub extern "C" fn wubraken_step(
 ) -> Answer
     ensures { λ r. ⌜ leaves (now (store .exit)) (now (table .exit)) r ≡ told (act shape (lent (now (store .entry)) (now (table .entry))) (Step i)) ⌝ }
 {
-    act_lent(shape, asked::STEP, i, NO_ARRIVAL, store, table)
+    act_lent(shape, Action::Step(i as u64), store, table)
 }

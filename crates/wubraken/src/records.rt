@@ -5,18 +5,18 @@ ghost use Rattle.wubraken.specs.Answers.{answerOf};
 ghost use Rattle.wubraken.specs.Survey.{Surveyed};
 ghost use Rattle.wubraken.specs.LentGate.{gateOn};
 ghost use Rattle.words.specs.Done.{gives};
-ghost use Rattle.wubraken.specs.Results.{actionOf, actOn, recordsOpened, openResponse};
+ghost use Rattle.calendar.specs.rules.Operations.{actor as actorOf};
+ghost use Rattle.wubraken.specs.Results.{actOn, recordsOpened, openResponse};
 use super::answers::Answer;
 use super::answers::answer_of;
-use super::asked;
 use super::table::Survey;
 use admission::gate;
 use admission::is_sound;
 use arrival::Action;
-use arrival::Arrival;
 use arrival::Response;
 use arrival::Shape;
 use arrival::Worker;
+use operation::actor;
 use operation::perform;
 use words::replies::Reply;
 use words::replies::refuse;
@@ -38,46 +38,30 @@ pub fn turn_away(shape: Shape, i: usize, n: usize, seen: Survey, store: &mut [u6
     answer_of(Response::Refused(k))
 }
 
-// Stands in for the arrival where none is asked for.
-pub const NO_ARRIVAL: Arrival = Arrival {
-    time: 0,
-    path: 0,
-    order: 0,
-    distance: 0,
-};
-
-// What is asked of worker i, by number; a turn, where it is neither start.
-fn action_of(asked: u64, i: usize, arrival: Arrival) -> Action
-    ensures { λ r. ⌜ r ≡ actionOf asked i arrival ⌝ }
+// Where the record of an action's worker stands, if it has one.
+pub fn place_of(action: Action) -> usize
+    ensures { λ r. ⌜ r ≡ actorOf action ⌝ }
 {
-    if asked == asked::ENQUEUE {
-        return Action::Enqueue(i as u64, arrival);
-    }
-    if asked == asked::DEQUEUE {
-        return Action::Dequeue(i as u64);
-    }
-    Action::Step(i as u64)
+    actor(action) as usize
 }
 
-// The same of worker i's record w.
+// An action on its worker's record w.
 pub fn act_on_record(
     shape: Shape,
-    asked: u64,
-    i: usize,
-    arrival: Arrival,
+    action: Action,
     n: usize,
     seen: Survey,
     w: Worker,
     store: &mut [u64],
 ) -> Reply
-    requires { ⌜ Surveyed shape i seen w ⌝ }
-    ensures { λ r. ⌜ gives (now (store .exit)) r ≡ actOn shape (actionOf asked i arrival) n seen (now (store .entry)) w ⌝ }
+    requires { ⌜ Surveyed shape (actorOf action) seen w ⌝ }
+    ensures { λ r. ⌜ gives (now (store .exit)) r ≡ actOn shape action n seen (now (store .entry)) w ⌝ }
 {
+    let i = place_of(action);
     let k = gate_on(shape, i, n, seen, store);
     if k != 0 {
         return refuse(w, k);
     }
-    let action = action_of(asked, i, arrival);
     perform(shape, seen.low, action, w, store)
 }
 

@@ -1,13 +1,14 @@
--- `wubraken_step` meets its contract: it hands on to `act_lent`, asked for 2. Assumes nothing.
+-- `wubraken_step` meets its contract: it hands on to `act_lent`. Assumes nothing.
 use contract.Running.{givenOf, tables, tablesOf}
 use denote.Triple.Spec.{tripleOf}
 use denote.Triple.Table.{entered, cited}
+use Rattle.arrival.specs.declared.Action.the-variants.{Step}
+use Rattle.wubraken.specs.Results.{ActsAs}
+use Rattle.wubraken.proofs.Passing.{step-made, bare-meets}
+use Rattle.wubraken.proofs.act_lent as callee
 use Rattle.wubraken.proofs.act_lent.Symbol as callee-def
 use Rattle.wubraken.proofs.act_lent.Symbol.{name as #callee}
 use Rattle.wubraken.proofs.act_lent.Met as callee-thm
-use Rattle.wubraken.proofs.act_lent as callee
-use Rattle.wubraken.specs.Results.{ActsAs}
-use Rattle.wubraken.proofs.Passing.{bare-meets}
 use Rattle.wubraken.proofs.wubraken_step.Key.{name as #key}
 use Rattle.wubraken.proofs.wubraken_step as f
 use Rattle.wubraken.proofs.wubraken_step.Statement as stated
@@ -18,6 +19,6 @@ unfolding code.routine tablesOf
 wubraken-step-spec 𝓤 H 𝓜 𝓖 𝓡 =
     entered 𝓤 H (tripleOf 𝓤 H (𝓖 .A) f.signature (f.spec 𝓤 H (𝓖 .A) (𝓜 .mem) (𝓡 .run)))
     (tables 𝓤 H 𝓜 𝓡 code.env .C) (tables 𝓤 H 𝓜 𝓡 code.env .Λ) #key code.function (code.unfolded 𝓤 H 𝓜 𝓡)
-    (bare-meets 𝓤 H (𝓖 .A) (givenOf 𝓤 H 𝓜 𝓖) ActsAs (tablesOf 𝓤 H 𝓜 (tables 𝓤 H 𝓜 𝓡 code.env)) #callee 2 tt
+    (bare-meets 𝓤 H (𝓖 .A) (givenOf 𝓤 H 𝓜 𝓖) ActsAs (tablesOf 𝓤 H 𝓜 (tables 𝓤 H 𝓜 𝓡 code.env)) #callee
     (cited 𝓤 H (tripleOf 𝓤 H (𝓖 .A) callee.signature (callee.spec 𝓤 H (𝓖 .A) (𝓜 .mem) (𝓡 .run))) 𝓜 𝓡 code.env #callee callee-def.routine
-    code.calls-wubraken·act-lent (callee-thm.met 𝓤 H 𝓜 𝓖 𝓡)))
+    code.calls-wubraken·act-lent (callee-thm.met 𝓤 H 𝓜 𝓖 𝓡)) 2 Step step-made)
