@@ -6,6 +6,7 @@
 --     turn-at-3                      nothing else refuses a turn at stage 3
 --     openGate, open-gate-is         the first of 1 and 2: an opening's refusal
 --     open-passed                    where there is none: the limits of the shape, and enough words and records
+--     gate-parts                     the gate's refusal is an opening's, or goes by the flag and the worker
 --     Tight, gate-opens, passes      a flag down where 1 or 2 applies; an opening's refusals among the gate's; who passes
 --     soundOf, shape-tests           the flag by a look at every field; a shape within its limits passes its test
 --     sound-opens, sound-watched     where that flag is up 1 and 2 do not apply; it is a flag as `Watched` wants it
@@ -29,7 +30,7 @@ use Rattle.laws.specs.Tests.{neither}
 use Rattle.calendar.specs.rules.Layout.{layout}
 use Rattle.calendar.specs.rules.Ranges.{worker, shapeInRange, storeInRange, tableInRange}
 use Rattle.calendar.specs.facts.RangeFacts.{Limits, limits}
-use Rattle.calendar.specs.rules.Refusals.{firstOf, badShape, short, tooShort, outOfRange, lengthTests, memoryTests, memoryOf, openRefusal}
+use Rattle.calendar.specs.rules.Refusals.{firstOf, badShape, short, tooShort, outOfRange, noWorker, lengthTests, memoryTests, memoryOf, openRefusal}
 use Rattle.calendar.specs.facts.FirstOf.{None, first-append, first-parts, first-none}
 use Rattle.calendar.specs.facts.Accepted.{Lent, Usable, lent, memory-accepted}
 use Rattle.calendar.specs.facts.RefusalParts.{refusal-first}
@@ -111,6 +112,12 @@ open-passed sh words records e =
     let (one, (few, tt)) = open-none sh words records e in
     let (store, table) = neither _ _ few in
     (limits sh (not-false _ one), ltb-false _ _ store, ltb-false _ _ table)
+
+-- the gate's refusal is an opening's, or goes by the flag and the worker
+pub gate-parts : (sh : Shape) (words records i : ℕ) (sound : Bool)
+    → gateOf sh words records i sound ≡ cond (eqb (openGate sh words records) 0) (firstOf ((3, not sound) ∷ (4, noWorker sh i) ∷ [])) (openGate sh words records)
+unfolding gateOf openGate
+gate-parts sh words records i sound = first-append (lengthTests sh (short sh words records)) ((3, not sound) ∷ (4, noWorker sh i) ∷ []) refl
 
 -- a flag that is down where 1 or 2 applies
 abbrev pub Tight : Shape → ℕ → ℕ → Bool → Type 0
