@@ -13,16 +13,14 @@
 -- Assumes nothing.
 use mathlib.Core.Path.{_≡_, refl, sym, ap, _∙_}
 use mathlib.Core.List.{List, [], _∷_, _++_}
-use mathlib.Core.Bool.{Bool, true, false, cond, not, _||_, _&&_}
+use mathlib.Core.Bool.{Bool, true, false, cond, not, _&&_}
 use mathlib.Core.Logic.{_≢_}
-use Prim.Native.Nat.{ℕ, zero, suc, _≤_, _<_}
+use Prim.Native.Nat.{ℕ, _≤_, _<_}
 use native.Mathlib.Omega.{arith}
-use lib.Dec.{eqb, ltb}
+use lib.Dec.{eqb}
 use lib.ListN.{length, drop}
 use borrow.Author.Tests.{not-false, eqb-true, ltb-false, leb-false, le-leb, lt-leb, le-ltb, eq-eqb, ne-eqb}
 use Rattle.arrival.specs.declared.Shape.{Shape}
-use Rattle.arrival.specs.declared.Arrival.{Arrival}
-use Rattle.arrival.specs.declared.Worker.{Worker}
 use Rattle.arrival.specs.declared.Response.the-variants.{Refused}
 use Rattle.arrival.specs.declared.Action.{Action}
 use Rattle.arrival.specs.declared.Action.the-variants.{Step}
@@ -114,8 +112,8 @@ open-passed sh words records e =
     (limits sh (not-false _ one), ltb-false _ _ store, ltb-false _ _ table)
 
 -- the gate's refusal is an opening's, or goes by the flag and the worker
-pub gate-parts : (sh : Shape) (words records i : ℕ) (sound : Bool)
-    → gateOf sh words records i sound ≡ cond (eqb (openGate sh words records) 0) (firstOf ((3, not sound) ∷ (4, noWorker sh i) ∷ [])) (openGate sh words records)
+pub gate-parts : (sh : Shape) (words records i : ℕ) (sound : Bool) → gateOf sh words records i sound
+    ≡ cond (eqb (openGate sh words records) 0) (firstOf ((3, not sound) ∷ (4, noWorker sh i) ∷ [])) (openGate sh words records)
 unfolding gateOf openGate
 gate-parts sh words records i sound = first-append (lengthTests sh (short sh words records)) ((3, not sound) ∷ (4, noWorker sh i) ∷ []) refl
 

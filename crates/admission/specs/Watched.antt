@@ -1,4 +1,9 @@
--- A flag in place of refusal 3's look at every field: set by an opening, cleared by the one turn that leaves the ranges. Assumes nothing.
+-- A flag in place of refusal 3's look at every field: set by an opening, cleared by the one turn that leaves the ranges.
+--     inRange, Watched                  what refusal 3 tests; a flag that says it
+--     opened-sound                      an opening leaves all in range
+--     enqueue-sound, dequeue-sound      so do starts
+--     step-sound                        a turn, but where it leaks
+-- Assumes nothing.
 use mathlib.Core.Path.{_≡_, refl, sym, ap, _∙_, subst, subst⁻¹}
 use mathlib.Core.List.{List}
 use mathlib.Core.Bool.{Bool, true, false, cond, not, _&&_}
