@@ -26,7 +26,13 @@ returns-2 : tie.Need-returns-2
 returns-2 c = rw (← c .before .before .before .before .is-bad .ensures, c .before .before .before .if1 .left, le-leb _ _ (c .if2 .taken))
 
 returns-3 : tie.Need-returns-3
-returns-3 c = rw (← c .before .before .before .before .before .before .is-bad .ensures, c .before .before .before .before .before .if1 .left, lt-leb _ _ (c .before .before .if2 .left), ne-eqb _ _ (c .if3 .taken))
+returns-3 c =
+    rw (
+      ← c .before .before .before .before .before .before .is-bad .ensures,
+      c .before .before .before .before .before .if1 .left,
+      lt-leb _ _ (c .before .before .if2 .left),
+      ne-eqb _ _ (c .if3 .taken),
+    )
 
 returns-4 : tie.Need-returns-4
 returns-4 c =
