@@ -1,8 +1,8 @@
 -- A flag in place of refusal 3's look at every field: set by an opening, cleared by the one turn that leaves the ranges.
---     inRange, Watched                  what refusal 3 tests; a flag that says it
---     opened-sound                      an opening leaves all in range
---     enqueue-sound, dequeue-sound      so do starts
---     step-sound                        a turn, but where it leaks
+--     inRange, Watched                what refusal 3 tests; that the flag says it
+--     opened-sound                    past an opening all is in range
+--     enqueue-sound, dequeue-sound    past a start
+--     step-sound                      past a turn, unless it leaks: just then not
 -- Assumes nothing.
 use mathlib.Core.Path.{_≡_, refl, sym, ap, _∙_, subst, subst⁻¹}
 use mathlib.Core.List.{List}

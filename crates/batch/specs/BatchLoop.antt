@@ -1,9 +1,10 @@
 -- The loop over a batch, round by round: what is still to be worked is what was to be worked at first.
---     at-work, actionLeaks, act-watched     the loop's words; the flag past a start or turn
---     worked-enough, held-enough            as many rounds as there are bytes are enough
---     Going, going, go-on                   what a round keeps; at first; past one record
---     drained, halted, full                 what is left at the three ends
---     room-from                             the test for room, as the code has it
+--     actionLeaks, act-watched       whether an action leaves the ranges; the flag past one that the gate lets in
+--     worked-enough, held-enough     of more rounds than there are bytes left, it does not matter how many
+--     Going, going, go-on            what a round keeps; at first; past one record
+--     drained, halted, full          what is left at the three ends
+--     at-work                        the loop's values as a progress
+--     room-from                      the test for room, as the code has it
 -- Assumes nothing.
 use mathlib.Core.Path.{_≡_, refl, sym, ap, _∙_}
 use mathlib.Core.List.{List}
@@ -82,7 +83,7 @@ act-watched sh m sound w (Step i) z l =
     (λ e. step-sound sh m i (step-accepted sh (m .store) (m .table) i e)) (idle-tight sh m sound w i z)
 
 -- ── rounds ──
--- more rounds than there are bytes left change nothing
+-- there are more rounds than bytes left: it does not matter how many
 module _ (bytes : List ℕ) where
   pub worked-enough : (n m : ℕ) (p : Progress) → length bytes - p .at < n → length bytes - p .at < m → worked n bytes p ≡ worked m bytes p
   unfolding worked

@@ -8,7 +8,7 @@ pub mod LentPart
 pub mod BatchLoop
 pub mod RoundArms
 pub mod CodeView
-pub mod Openings
+pub mod OpeningRounds
 pub mod ActHeld
 pub mod Stopping
 pub mod TurnFile

@@ -1,4 +1,12 @@
--- On any memory every answer's line fits the room that a batch asks for: its values are in range, or it is a refusal. Assumes nothing.
+-- On any memory every answer's line fits the room that a batch asks for: its values are in range, or it is a refusal.
+--     energy-word            an energy is below 2^64
+--     found-words .. change-words
+--                            so are the values that a turn answers, outcome by outcome
+--     outcome-words          and those of any action that is not refused
+--     open-low, act-low      refusals have numbers to 12
+--     either-words           refused or done, the values are words
+--     line-fits              a record's line fits
+-- Assumes nothing.
 use mathlib.Core.Path.{_≡_, refl}
 use mathlib.Core.List.{List, [], _∷_}
 use mathlib.Core.Bool.{Bool, true, false, cond}

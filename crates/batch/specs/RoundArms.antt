@@ -1,11 +1,14 @@
 -- One round of the loop, arm by arm: from what the code has at its end to what is still to be worked.
---     Round                              what the loop keeps
---     in-use, below-64, let-in           what a gate that refuses nothing tells
---     lent-to                            what an opening that is not refused tells
---     turned-away, performed             a start or turn is a round
---     not-opened, opened                 an opening is a round
---     at-drained, at-halted, at-full     the three ends
---     first-round                        before the loop
+--     Round, Line                           what the loop keeps; a line that was written
+--     in-use, below-64, let-in              what a gate that refuses nothing tells
+--     lent-to                               what an opening that is not refused tells
+--     turned-away, performed                a start or turn is a round
+--     not-opened, opened                    an opening is a round
+--     kept, at-drained, at-halted, at-full  what holds at every end; the three ends
+--     settled                               a round, of the lengths as they are then
+--     known-open, known-act                 what was read, by its kind
+--     nearer-open, nearer-act               the next record is nearer to the end
+--     first-round                           before the loop
 -- Assumes nothing.
 use mathlib.Core.Path.{_≡_, refl, sym, ap, _∙_, subst, subst⁻¹}
 use mathlib.Core.List.{List, _++_}
@@ -154,10 +157,10 @@ module _ {bytes : List ℕ} {p₀ : Progress} {h₀ words records space : ℕ} {
         }
 
     -- refused by 1 to 4
-    pub turned-away : (a : Action) (i : ℕ) → i ≡ actor a → Act a next ≡ recordAt bytes at → (k : ℕ) → k ≡ gateOf sh words records i sound → k ≢ 0
-        → l ≡ Refused k → Round bytes p₀ h₀ words records space sh s t next lines′ to′ sound h
-    turned-away a i named e k is n said =
-        let g = is ∙ ap (λ (j : ℕ). gateOf sh words records j sound) named ∙ gate-here (actor a) in
+    pub turned-away : (a : Action) → Act a next ≡ recordAt bytes at → (k : ℕ) → k ≡ gateOf sh words records (actor a) sound → k ≢ 0 → l ≡ Refused k
+        → Round bytes p₀ h₀ words records space sh s t next lines′ to′ sound h
+    turned-away a e k is n said =
+        let g = is ∙ gate-here (actor a) in
         let r = refused-is sh m sound W a (λ z. n (g ∙ z)) in
         acted a e s t (R .array) (ap (λ (x : Response). record { memory = m; response = x }) (said ∙ ap Refused g) ∙ r) sound
         (subst (λ (x : Result). Watched sh (x .memory) sound) r W) (R .tight)
@@ -249,7 +252,7 @@ module _ {bytes : List ℕ} {p₀ : Progress} {h₀ words records space : ℕ} {
       (ap (λ (z : Stop). record { progress = at-work sh s (take records t) at lines to; stop = z }) still ∙ end .0, end .1)
 
 -- a record of what the loop keeps, from what the pool is known for
-pub round-of : {bytes : List ℕ} {p₀ : Progress} {h₀ : ℕ} (sh : Shape) (s : List ℕ) (records : ℕ) (t : List Worker) (at : ℕ) (lines : List ℕ) (to : ℕ)
+round-of : {bytes : List ℕ} {p₀ : Progress} {h₀ : ℕ} (sh : Shape) (s : List ℕ) (records : ℕ) (t : List Worker) (at : ℕ) (lines : List ℕ) (to : ℕ)
     (sound : Bool) (h : ℕ)
     → Going bytes p₀ h₀ (at-work sh s (take records t) at lines to) h sound → length t ≡ 64 → records ≤ 64 → Tight sh (length s) records sound
     → Round bytes p₀ h₀ (length s) records (length lines) sh s t at lines to sound h

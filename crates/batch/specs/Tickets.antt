@@ -1,8 +1,11 @@
 -- The tickets of the calls in progress, as a list beside the workers' records, and the least of them. Assumes nothing.
---     ticketsOf          the list; 2^32 where no call is in progress
---     least-is           its least is the least ticket in progress
---     tickets-set        a record stored, its ticket stored
---     low-is             where an action asks for it, `lowFor` is that least one
+--     ticketOf, ticketsOf                     a record's ticket, 2^32 where no call is in progress; the list
+--     least, least-at-most                    the lesser of two, and its bound
+--     leastOf, least-of-none, least-of-more   the least of the first n, one by one
+--     stored-ticket                           a record stored, its ticket stored
+--     least-is                                the least of the list is the least ticket in progress
+--     lowFor, low-is                          the least where an action asks for it; it is that of the records
+--     tickets-more, tickets-all               a loop that stores ticket after ticket; at its end
 use mathlib.Core.Path.{_≡_, refl, sym, ap, _∙_}
 use mathlib.Core.List.{List, [], _∷_, _++_, append-nil}
 use mathlib.Core.Bool.{Bool, true, false, cond, _&&_}
@@ -53,22 +56,26 @@ pub least-of-more : (ts : List ℕ) (n low r : ℕ) → low ≡ leastOf ts n →
 unfolding leastOf
 least-of-more ts n low r so-far e = e ∙ rw (add-one, so-far)
 
-pub tickets-length : (t : List Worker) → length (ticketsOf t) ≡ length t
+tickets-length : (t : List Worker) → length (ticketsOf t) ≡ length t
 unfolding ticketsOf
 tickets-length [] = refl
 tickets-length (w ∷ t) = ap suc (tickets-length t)
 
-pub tickets-at : (t : List Worker) (n : ℕ) → n < length t → getD (ticketsOf t) n 0 ≡ ticketOf (worker t n)
+tickets-at : (t : List Worker) (n : ℕ) → n < length t → getD (ticketsOf t) n 0 ≡ ticketOf (worker t n)
 unfolding ticketsOf
 tickets-at [] n h = absurd (omega arith)
 tickets-at (w ∷ t) zero h = refl
 tickets-at (w ∷ t) (suc n) h = tickets-at t n (omega arith)
 
-pub tickets-set : (t : List Worker) (i : ℕ) (w : Worker) → ticketsOf (set t i w) ≡ set (ticketsOf t) i (ticketOf w)
+tickets-set : (t : List Worker) (i : ℕ) (w : Worker) → ticketsOf (set t i w) ≡ set (ticketsOf t) i (ticketOf w)
 unfolding ticketsOf
 tickets-set [] i w = refl
 tickets-set (v ∷ t) zero w = refl
 tickets-set (v ∷ t) (suc i) w = ap (λ (ts : List ℕ). ticketOf v ∷ ts) (tickets-set t i w)
+
+-- beside the record w, stored at i, its ticket x
+pub stored-ticket : (t : List Worker) (i : ℕ) (w : Worker) {ts : List ℕ} → ts ≡ ticketsOf t → (x : ℕ) → x ≡ ticketOf w → set ts i x ≡ ticketsOf (set t i w)
+stored-ticket t i w {ts} is x e = ap (set ts i) e ∙ ap (λ (us : List ℕ). set us i (ticketOf w)) is ∙ sym (tickets-set t i w)
 
 -- with 2^32 in place of no ticket the test of a call in progress is not needed
 one-more : (busy : Bool) (ticket low : ℕ) → low ≤ 4294967296

@@ -2,17 +2,17 @@
 ghost use mathlib.Core.Path.{_≡_};
 ghost use Prim.Native.Nat.{_+_, _<_};
 ghost use lib.Dec.{leb};
-ghost use lib.ListN.{length};
-ghost use Rattle.admission.specs.Gate.{gateOf, Tight};
 ghost use Rattle.calendar.specs.facts.RangesKept.{leaks};
+ghost use Rattle.words.specs.Done.{gives};
 ghost use Rattle.stages.specs.Ready.{Ready};
 ghost use Rattle.batch.specs.Batch.{workedAll};
 ghost use Rattle.batch.specs.BatchLoop.{actionLeaks};
 ghost use Rattle.batch.specs.Held.{heldAll};
 ghost use Rattle.batch.specs.CodeView.{begins, ends, Sound, heldOf, stoppedOf};
 ghost use Rattle.batch.specs.Tickets.{ticketsOf};
-ghost use Rattle.batch.specs.ActHeld.{Did, placeOf};
-ghost use Rattle.calendar.specs.rules.Operations.{actor as actorOf};
+ghost use Rattle.batch.specs.RoundArms.{Line};
+ghost use Rattle.batch.specs.OpeningRounds.{openingAnswer};
+ghost use Rattle.batch.specs.ActHeld.{heldAct, soundAfter, placeOf};
 ghost use Rattle.operation.specs.LocalAct.{Admitted};
 use admission::gate;
 use arrival::Action;
@@ -34,6 +34,8 @@ use turn_file::write_refusal;
 use words::field;
 use words::get_cell;
 use words::get_field;
+use words::replies::Reply;
+use words::replies::refuse;
 use words::word;
 
 pub mod table;
@@ -99,58 +101,52 @@ fn has_room(room: usize, to: usize) -> bool
     to <= room - 89
 }
 
-// What a start or turn leaves: the worker's record, whether all is in range, the place of the next line.
-struct Acted {
-    worker: Worker,
-    sound: bool,
-    to: usize,
+// The flag past an action to which the gate answers k.
+fn sound_after(k: u64, shape: Shape, sound: bool, action: Action, w: Worker, store: &[u64]) -> bool
+    requires { ⌜ (k ≡ 0 → Ready shape (now store) w) ⌝ }
+    ensures { λ r. ⌜ r ≡ soundAfter k shape sound action w (now (store .entry)) ⌝ }
+{
+    if k != 0 {
+        return sound;
+    }
+    !action_leaks(shape, action, w, store)
 }
 
-// A start or turn of the record w, and its line.
+// A start or turn of the record w, to which the gate answers k.
 fn act_held(
+    k: u64,
     shape: Shape,
-    records: usize,
-    sound: bool,
     action: Action,
     w: Worker,
     tickets: &[u64; 64],
-    out: &mut [u8],
-    to: usize,
     store: &mut [u64],
-) -> Acted
-    requires { ⌜ Tight shape (length (now store)) records sound ⌝ }
-    requires { ⌜ (gateOf shape (length (now store)) records (actorOf action) sound ≡ 0 → Admitted shape (now store) w) ⌝ }
-    ensures { λ r. ⌜ Did shape records sound action w (now (tickets .entry)) (now (out .entry)) to (now (store .entry)) (now (store .exit))
-        (now (out .exit)) r ⌝ }
+) -> Reply
+    requires { ⌜ (k ≡ 0 → Admitted shape (now store) w) ⌝ }
+    ensures { λ r. ⌜ gives (now (store .exit)) r ≡ heldAct k shape action w (now (tickets .entry)) (now (store .entry)) ⌝ }
 {
-    let k = gate(shape, store.len(), records, actor(action), sound);
     if k != 0 {
-        let next = write_refusal(k, out, to);
-        return Acted {
-            worker: w,
-            sound,
-            to: next,
-        };
+        return refuse(w, k);
     }
     let low = low_for(action, tickets, shape.workers as usize);
-    let leaks = action_leaks(shape, action, w, store);
-    let reply = perform(shape, low, action, w, store);
-    let worker = reply.worker;
-    let response = reply.response;
-    let next = write_line(response, out, to);
-    Acted {
-        worker,
-        sound: !leaks,
-        to: next,
-    }
+    perform(shape, low, action, w, store)
 }
 
-// Where the record of an action's worker stands; the last place, if there is none.
+// Where the record of an action's worker stands; the last place, for a number past the array.
 fn place_of(action: Action) -> usize
     ensures { λ r. ⌜ (r ≡ placeOf action) × (r < 64) ⌝ }
 {
     let i = actor(action);
     if i < 64 { i as usize } else { 63 }
+}
+
+// The line of an opening that is refused by k, or k is 0.
+fn write_opening(k: u64, out: &mut [u8], to: usize) -> usize
+    ensures { λ r. ⌜ Line (now (out .entry)) to (openingAnswer k) (now (out .exit)) r ⌝ }
+{
+    if k != 0 {
+        return write_refusal(k, out, to);
+    }
+    write_opened(out, to)
 }
 
 // How far the batch was worked through, of these.
@@ -202,27 +198,27 @@ fn work(
         match record {
             Read::Open(opened, next) => {
                 let k = open_lent(opened, records, store);
-                if k != 0 {
-                    to = write_refusal(k, out, to);
-                } else {
+                if k == 0 {
                     table = cleared(table, opened.workers as usize);
                     tickets = tickets_of(table);
                     held = greater(held, opened.workers as usize);
                     shape = opened;
                     sound = true;
-                    to = write_opened(out, to);
                 }
+                to = write_opening(k, out, to);
                 at = next;
             }
             Read::Act(action, next) => {
                 let j = place_of(action);
                 let w = table[j];
-                let acted = act_held(shape, records, sound, action, w, &tickets, out, to, store);
-                let worker = acted.worker;
+                let k = gate(shape, store.len(), records, actor(action), sound);
+                sound = sound_after(k, shape, sound, action, w, store);
+                let reply = act_held(k, shape, action, w, &tickets, store);
+                let worker = reply.worker;
+                let response = reply.response;
+                to = write_line(response, out, to);
                 table[j] = worker;
                 tickets[j] = lower_ticket(word::COUNTS, worker);
-                sound = acted.sound;
-                to = acted.to;
                 at = next;
             }
             Read::End => {

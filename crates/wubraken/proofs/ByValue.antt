@@ -33,7 +33,8 @@ module _ {M : Type 1} {𝓤 : URA M} {H : Heap 𝓤} {A : Atoms 𝓤} {K : Type 
       → ((v : Val) (r : Res (plainly ss z) tt) → φ r → Is (typeAt z tt) r (v ∷ []) → Seq K W Γ (lands C Λ E d v rest q))
       → Seq K W Γ (runs C Λ E (seq (call f xs d) rest) q)
   calls-value t fm ss z c known a vss g asked makes are φ said os k =
-      nothing t $ use1 W (raw (tripleOf 𝓤 H A (plainly ss z) c .pre ((tt, tt, tt, a, vss), g))) (twice (twice (id⊢ 𝓤 (emp 𝓤)) (owns-make 𝓤 H A (typesAt ss tt) (Ises (typesAt ss tt)) makes a vss are)) asked) $
+      nothing t $ use1 W (raw (tripleOf 𝓤 H A (plainly ss z) c .pre ((tt, tt, tt, a, vss), g)))
+      (twice (twice (id⊢ 𝓤 (emp 𝓤)) (owns-make 𝓤 H A (typesAt ss tt) (Ises (typesAt ss tt)) makes a vss are)) asked) $
       calls-at t fm (tripleOf 𝓤 H A (plainly ss z) c) known ((tt, tt, tt, a, vss), g) os (λ v.
       use1 W (later (some (λ (r : Res (plainly ss z) tt). (raw (emp 𝓤) ⊛ ‵ (typeAt z tt .own r (v ∷ []))) ⊛ raw (c tt a .ensures g r)))) (id⊢ 𝓤 _) $
       await t tt $ pick t (λ r. split t $ move t (1 ∷ []) $ use1 W (raw (fact 𝓤 (φ r))) (said r) $ heard t (φ r) (λ e.

@@ -1,4 +1,5 @@
 pub mod Literal
 pub mod Shared
 pub mod ByValue
+pub mod Forms
 pub mod Passing

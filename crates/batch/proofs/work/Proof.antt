@@ -1,15 +1,14 @@
--- Each arm of the loop is a round of the definition, by its lemma in specs/Openings, specs/ActHeld and specs/Stopping. Assumes nothing.
+-- Each arm of the loop is a round of the definition, by its lemma in specs/OpeningRounds, specs/ActHeld and specs/Stopping. Assumes nothing.
 use mathlib.Core.Path.{_≡_, refl, sym, ap, _∙_}
-use mathlib.Core.List.{List}
-use Prim.Native.Nat.{ℕ, _-_}
+use Prim.Native.Nat.{_-_}
 use native.Mathlib.Omega.{arith}
-use lib.ListN.{length, take, set}
+use lib.ListN.{length, take}
 use Rattle.calendar.specs.rules.Ranges.{blank}
 use Rattle.batch.specs.declared.Stop.the-variants.{Full}
 use Rattle.batch.specs.BatchLoop.{at-work}
-use Rattle.batch.specs.Tickets.{ticketOf, ticketsOf, tickets-set}
+use Rattle.batch.specs.Tickets.{ticketsOf, stored-ticket}
 use Rattle.batch.specs.RoundArms.{Round, lent-to, settled, first-round, known-open, known-act, nearer-open, nearer-act}
-use Rattle.batch.specs.Openings.{refused-round, opened-round}
+use Rattle.batch.specs.OpeningRounds.{opening-round}
 use Rattle.batch.specs.ActHeld.{admits, held-round}
 use Rattle.batch.specs.Stopping.{stopped}
 use borrow.Author.Needs.{needs}
@@ -41,13 +40,9 @@ enum-known-record c = search needs
 open-lent-requires : tie.Need-open-lent-requires Inv-loop μ-loop
 open-lent-requires c κs = search needs
 
-write-refusal-requires : tie.Need-write-refusal-requires Inv-loop μ-loop
-write-refusal-requires c κs = search needs
-
 cleared-requires : tie.Need-cleared-requires Inv-loop μ-loop
-cleared-requires c κs =
-    lent-to (c .before .before .before .before .before .before .before .before .before .before .before .loop .inv .0) _ _
-    (c .before .before .before .open-lent .ensures .0) (c .if2 .left) .limits .workers
+cleared-requires c κs = lent-to (c .before .before .before .before .before .before .before .before .before .before .before .loop .inv .0)
+    _ _ (c .before .before .before .open-lent .ensures .0) (c .if2 .taken) .limits .workers
 
 tickets-of-requires : tie.Need-tickets-of-requires Inv-loop μ-loop
 tickets-of-requires c κs = search needs
@@ -55,48 +50,26 @@ tickets-of-requires c κs = search needs
 greater-requires : tie.Need-greater-requires Inv-loop μ-loop
 greater-requires c κs = search needs
 
-write-opened-requires : tie.Need-write-opened-requires Inv-loop μ-loop
-write-opened-requires c κs = search needs
+write-opening-requires : tie.Need-write-opening-requires Inv-loop μ-loop
+write-opening-requires c κs = search needs
 
 loop-less : tie.Need-loop-less Inv-loop μ-loop
-loop-less c =
-    nearer-open _ _ _ (c .before .before .before .before .before .before .before .before .before .before .before .before .read-record .ensures) _ _
-    (c .before .before .before .before .before .before .before .before .before .before .«record» .given .1)
+loop-less c = nearer-open _ _ _ (c .before .before .before .before .before .before .before .before .before .before .before .before .read-record .ensures)
+    _ _ (c .before .before .before .before .before .before .before .before .before .before .«record» .given .1)
 
 loop-again : tie.Need-loop-again Inv-loop μ-loop
 loop-again c =
     let inv = c .before .before .before .before .before .before .before .before .before .before .before .before .before .before .before .loop .inv in
     let fits = sym (c .before .before .before .before .before .before .before .before .before .before .before .before .before .before .has-room .ensures)
     ∙ c .before .before .before .before .before .before .before .before .before .before .before .before .before .if1 .taken in
-    let read = known-open _ _ _ (c .before .before .before .before .before .before .before .before .before .before .before .before .read-record .ensures) _ _
-    (c .before .before .before .before .before .before .before .before .before .before .«record» .given .1) in
-    let R = refused-round (inv .0) fits _ _ _ _ _ read (c .before .before .before .before .before .before .before .open-lent .ensures .0) _
-    (c .before .before .before .before .before .before .before .open-lent .ensures .1) (c .before .before .before .before .if2 .taken)
-    (c .before .before .write-refusal .ensures) in
-    (settled R, inv .1, inv .2, inv .3 ∙ R .store, inv .4 ∙ R .buffer)
-
-loop-less-2 : tie.Need-loop-less-2 Inv-loop μ-loop
-loop-less-2 c =
-    nearer-open _ _ _ (c .before .before .before .before .before .before .before .before .before .before .before .before .before .before .before .read-record
-    .ensures) _ _ (c .before .before .before .before .before .before .before .before .before .before .before .before .before .«record» .given .1)
-
-loop-again-2 : tie.Need-loop-again-2 Inv-loop μ-loop
-loop-again-2 c =
-    let inv =
-    c .before .before .before .before .before .before .before .before .before .before .before .before .before .before .before .before .before .before .loop
-    .inv in
-    let fits =
-    sym (c .before .before .before .before .before .before .before .before .before .before .before .before .before .before .before .before .before .has-room
-    .ensures)
-    ∙ c .before .before .before .before .before .before .before .before .before .before .before .before .before .before .before .before .if1 .taken in
-    let read =
-    known-open _ _ _ (c .before .before .before .before .before .before .before .before .before .before .before .before .before .before .before .read-record
-    .ensures) _ _ (c .before .before .before .before .before .before .before .before .before .before .before .before .before .«record» .given .1) in
-    let R = opened-round (inv .0) fits _ _ _ _ _ read (c .before .before .before .before .before .before .before .before .before .before .open-lent .ensures .0)
-    _ (c .before .before .before .before .before .before .before .before .before .before .open-lent .ensures .1)
-    (c .before .before .before .before .before .before .before .if2 .left) (c .before .before .write-opened .ensures) _
-    (c .before .before .before .before .before .before .cleared .ensures) _ (c .before .before .before .before .greater .ensures) in
-    (settled R, c .before .before .before .before .before .tickets-of .ensures, inv .2, inv .3 ∙ R .store, inv .4 ∙ R .buffer)
+    let read = known-open _ _ _ (c .before .before .before .before .before .before .before .before .before .before .before .before .read-record .ensures)
+    _ _ (c .before .before .before .before .before .before .before .before .before .before .«record» .given .1) in
+    let (R, same) = opening-round (inv .0) fits _ _ _ _ _ read (c .before .before .before .before .before .before .before .open-lent .ensures .0)
+    _ (c .before .before .before .before .before .before .before .open-lent .ensures .1) (c .before .before .write-opening .ensures) (inv .1)
+    (c .before .before .before .before .if2 .came)
+    (λ x. (x .0 .taken, x .4, x .5, x .6 ∙ x .3 .ensures, x .7 ∙ x .1 .ensures, x .8 ∙ x .2 .ensures ∙ ap ticketsOf (sym (x .7))))
+    (λ x. (x .0 .left, x .1, x .2, x .3, x .4, x .5)) in
+    (settled R, same, inv .2, inv .3 ∙ R .store, inv .4 ∙ R .buffer)
 
 enum-known-record-2 : tie.Need-enum-known-record-2 Inv-loop μ-loop
 enum-known-record-2 c = search needs
@@ -112,64 +85,76 @@ mul-w c =
 array-copy-out-w : tie.Need-array-copy-out-w Inv-loop μ-loop
 array-copy-out-w c = c .place-of .ensures .1
 
+actor-requires : tie.Need-actor-requires Inv-loop μ-loop
+actor-requires c κs = search needs
+
+gate-requires : tie.Need-gate-requires Inv-loop μ-loop
+gate-requires c κs = c .before .before .before .before .before .before .before .before .before .loop .inv .0 .tight
+
+sound-after-requires : tie.Need-sound-after-requires Inv-loop μ-loop
+unfolding blank
+sound-after-requires c κs = λ z. admits (c .before .before .before .before .before .before .before .before .before .before .before .loop .inv .0)
+    (c .before .before .before .before .before .before .record2 .given .0 .0) _ (c .before .before .before .before .place-of .ensures .0)
+    _ _ (c .before .gate .ensures) (c .before .before .actor .ensures) z .ready
+
 act-held-requires : tie.Need-act-held-requires Inv-loop μ-loop
 unfolding blank
-act-held-requires c κs = (
-  c .before .before .before .before .before .before .before .before .before .before .before .loop .inv .0 .tight,
-  admits (c .before .before .before .before .before .before .before .before .before .before .before .loop .inv .0)
-      (c .before .before .before .before .before .before .record2 .given .0 .0) _ (c .before .before .before .before .place-of .ensures .0),
-)
+act-held-requires c κs = admits (c .before .before .before .before .before .before .before .before .before .before .before .before .before .before .loop
+    .inv .0) (c .before .before .before .before .before .before .before .before .before .record2 .given .0 .0)
+    _ (c .before .before .before .before .before .before .before .place-of .ensures .0) _ _ (c .before .before .before .before .gate .ensures)
+    (c .before .before .before .before .before .actor .ensures)
+
+write-line-requires : tie.Need-write-line-requires Inv-loop μ-loop
+write-line-requires c κs = search needs
 
 mul-table : tie.Need-mul-table Inv-loop μ-loop
 mul-table c =
-    let p = c .before .before .before .before .before .before .before .before .before .before .place-of .ensures .1 in
+    let p = c .before .before .before .before .before .before .before .before .before .before .before .before .before .before .before .place-of .ensures .1 in
     omega arith
 
 array-set-from-table : tie.Need-array-set-from-table Inv-loop μ-loop
-array-set-from-table c = c .before .before .before .before .before .before .before .before .before .before .place-of .ensures .1
+array-set-from-table c = c .before .before .before .before .before .before .before .before .before .before .before .before .before .before .before
+    .place-of .ensures .1
 
 lower-ticket-requires : tie.Need-lower-ticket-requires Inv-loop μ-loop
 lower-ticket-requires c κs = search needs
 
 mul-tickets : tie.Need-mul-tickets Inv-loop μ-loop
 mul-tickets c =
-    let p = c .before .before .before .before .before .before .before .before .before .before .before .place-of .ensures .1 in
+    let p = c .before .before .before .before .before .before .before .before .before .before .before .before .before .before .before .before .place-of
+    .ensures .1 in
     omega arith
 
 array-write-tickets : tie.Need-array-write-tickets Inv-loop μ-loop
-array-write-tickets c = c .before .before .before .before .before .before .before .before .before .before .before .place-of .ensures .1
+array-write-tickets c = c .before .before .before .before .before .before .before .before .before .before .before .before .before .before .before .before
+    .place-of .ensures .1
 
-loop-less-3 : tie.Need-loop-less-3 Inv-loop μ-loop
-loop-less-3 c =
-    nearer-act _ _ _ (c .before .before .before .before .before .before .before .before .before .before .before .before .before .before .before .read-record
-    .ensures) _ _ (c .before .before .before .before .before .before .before .before .before .before .before .before .before .record2 .given .1)
+loop-less-2 : tie.Need-loop-less-2 Inv-loop μ-loop
+loop-less-2 c = nearer-act _ _ _ (c .before .before .before .before .before .before .before .before .before .before .before .before .before .before .before
+    .before .before .before .before .before .read-record .ensures)
+    _ _ (c .before .before .before .before .before .before .before .before .before .before .before .before .before .before .before .before .before .before
+    .record2 .given .1)
 
-loop-again-3 : tie.Need-loop-again-3 Inv-loop μ-loop
+loop-again-2 : tie.Need-loop-again-2 Inv-loop μ-loop
 unfolding blank
-loop-again-3 c =
-    let inv =
-    c .before .before .before .before .before .before .before .before .before .before .before .before .before .before .before .before .before .before .loop
-    .inv in
-    let fits =
-    sym (c .before .before .before .before .before .before .before .before .before .before .before .before .before .before .before .before .before .has-room
-    .ensures)
-    ∙ c .before .before .before .before .before .before .before .before .before .before .before .before .before .before .before .before .if1 .taken in
-    let read =
-    known-act _ _ _ (c .before .before .before .before .before .before .before .before .before .before .before .before .before .before .before .read-record
-    .ensures) _ _ (c .before .before .before .before .before .before .before .before .before .before .before .before .before .record2 .given .1) in
-    let R =
-    held-round (inv .0) fits _ _ _ _ read _ (inv .1) _
-    (c .before .before .before .before .before .before .before .before .before .before .before .place-of .ensures .0) _
-    (c .before .before .before .before .before .before .act-held .ensures) in
-    let same =
-    ap (λ (x : ℕ). set (c .before .before .before .before .before .before .before .before .before .before .before .before .before .before .before .before
-    .before .before .loop .tickets) (c .before .before .before .before .before .before .before .before .before .before .before .place-of .result) x)
-    (c .lower-ticket .ensures)
-    ∙ ap (λ (ts : List ℕ). set ts (c .before .before .before .before .before .before .before .before .before .before .before .place-of .result)
-    (ticketOf (c .before .before .before .before .before .before .act-held .result .worker))) (inv .1)
-    ∙ sym (tickets-set (c .before .before .before .before .before .before .before .before .before .before .before .before .before .before .before .before
-    .before .before .loop .table) (c .before .before .before .before .before .before .before .before .before .before .before .place-of .result)
-    (c .before .before .before .before .before .before .act-held .result .worker)) in
+loop-again-2 c =
+    let inv = c .before .before .before .before .before .before .before .before .before .before .before .before .before .before .before .before .before
+    .before .before .before .before .before .before .loop .inv in
+    let fits = sym (c .before .before .before .before .before .before .before .before .before .before .before .before .before .before .before .before
+    .before .before .before .before .before .before .has-room .ensures)
+    ∙ c .before .before .before .before .before .before .before .before .before .before .before .before .before .before .before .before .before .before
+    .before .before .before .if1 .taken in
+    let read = known-act _ _ _ (c .before .before .before .before .before .before .before .before .before .before .before .before .before .before .before
+    .before .before .before .before .before .read-record .ensures)
+    _ _ (c .before .before .before .before .before .before .before .before .before .before .before .before .before .before .before .before .before .before
+    .record2 .given .1) in
+    let R = held-round (inv .0) _ _ (c .before .before .before .before .before .before .before .before .before .before .before .before .before .before
+    .before .before .place-of .ensures .0) _ _ (c .before .before .before .before .before .before .before .before .before .before .before .before .before
+    .gate .ensures) (c .before .before .before .before .before .before .before .before .before .before .before .before .before .before .actor .ensures)
+    fits _ read _ (inv .1) _ (c .before .before .before .before .before .before .before .before .act-held .result)
+    _ _ (c .before .before .before .write-line .ensures) (c .before .before .before .before .before .before .before .before .act-held .ensures)
+    _ (c .before .before .before .before .before .before .before .before .before .before .before .sound-after .ensures) in
+    let same = stored-ticket _ _ _ (inv .1) _ (c .lower-ticket .ensures) in
     (settled R, same, inv .2, inv .3 ∙ R .store, inv .4 ∙ R .buffer)
 
 enum-told : tie.Need-enum-told Inv-loop μ-loop
@@ -205,27 +190,28 @@ work-spec =
     read-record-requires
     enum-known-record
     open-lent-requires
-    write-refusal-requires
     cleared-requires
     tickets-of-requires
     greater-requires
-    write-opened-requires
+    write-opening-requires
     loop-less
     loop-again
-    loop-less-2
-    loop-again-2
     enum-known-record-2
     place-of-requires
     mul-w
     array-copy-out-w
+    actor-requires
+    gate-requires
+    sound-after-requires
     act-held-requires
+    write-line-requires
     mul-table
     array-set-from-table
     lower-ticket-requires
     mul-tickets
     array-write-tickets
-    loop-less-3
-    loop-again-3
+    loop-less-2
+    loop-again-2
     enum-told
     enum-known-record-3
     stopped-at-requires

@@ -418,7 +418,8 @@ module _ {M : Type 1} (𝓤 : URA M) (H : Heap 𝓤) (A : Atoms 𝓤) (W : Given
         -- [obs; the borrow; the table's token; what r owns; the store's token; its last list; true; the table's fact; true; true; the locals]
         -- `answer_of`
         calls-value ! fm (tell.signature .params) (tell.signature .result) (tell.spec 𝓤 H A mem run) known-tell (r .response, tt) (vals-a (r .response), tt) tt
-        (id⊢ 𝓤 (emp 𝓤)) (EL.makes Q.the-type Q′.the-plain 𝓤 H A, tt) (response-is r v is, tt) (λ a. a ≡ answerOf (r .response)) (tell-of 𝓤 H A mem run (r .response))
+        (id⊢ 𝓤 (emp 𝓤)) (EL.makes Q.the-type Q′.the-plain 𝓤 H A, tt) (response-is r v is, tt) (λ a. a ≡ answerOf (r .response))
+        (tell-of 𝓤 H A mem run (r .response))
         (and-then ! (load ! (from ! (fld ! refl (stop !))) (look-in ! 33 (sub ! 1 refl (whole !)))) (no-more !)) (λ v′ a d is′.
         land ! (from ! (stop !)) (init ! 52 refl (LL.lawful R.the-type R′.the-laws 𝓤 H A W .typed a _ is′ .0)) $
         rewrite ! 52 (λ (u : Val). ‵ (fat fullShare R′.mir l₀ 0 u)) (ap only (LL.tells R.the-type R′.the-laws a _ is′)) refl $
@@ -504,7 +505,8 @@ module _ {M : Type 1} (𝓤 : URA M) (H : Heap 𝓤) (A : Atoms 𝓤) (W : Given
 
 module _ {M : Type 1} (𝓤 : URA M) (H : Heap 𝓤) (A : Atoms 𝓤) (W : Given 𝓤 H A) (mem : Memory → SProp 𝓤) (run : Routine → Fun 𝓤) where
   walks : (C : Calls 𝓤 H) (Λ : Loops 𝓤 H) → FmC 𝓤 H (W .laws) C → Triple 𝓤 (C #scan) (Scan 𝓤 H A mem run) → Triple 𝓤 (C #turn) (Turn 𝓤 H A mem run)
-      → Triple 𝓤 (C #tell) (Tell 𝓤 H A mem run) → Triple 𝓤 (C #away) (Away 𝓤 H A mem run) → Walks 𝓤 H A f.ended stayed (WpFn 𝓤 H C Λ code.function) (f.clauses 𝓤 H A mem run)
+      → Triple 𝓤 (C #tell) (Tell 𝓤 H A mem run) → Triple 𝓤 (C #away) (Away 𝓤 H A mem run)
+      → Walks 𝓤 H A f.ended stayed (WpFn 𝓤 H C Λ code.function) (f.clauses 𝓤 H A mem run)
   walks C Λ fm known-scan known known-tell known-away = walked 𝓤 H A f.ended stayed (f.clauses 𝓤 H A mem run) (WpFn 𝓤 H C Λ code.function)
       (λ κs. (vals-sh, (uint-vals w64, (uint-vals w64, (vals-ar, (slice-vals, (slice-vals, tt)))))))
       (λ κs. (
@@ -518,7 +520,8 @@ module _ {M : Type 1} (𝓤 : URA M) (H : Heap 𝓤) (A : Atoms 𝓤) (W : Given
       (walk 𝓤 H A W mem run (κs .0) (κs .1 .0) (qs .0) (qs .1 .0) (a .0) (a .1 .0) (a .1 .1 .0) (a .1 .1 .1 .0) (a .1 .1 .1 .1 .0 .ptr .0)
       (a .1 .1 .1 .1 .0 .ptr .1) (a .1 .1 .1 .1 .0 .name) (a .1 .1 .1 .1 .0 .now) (a .1 .1 .1 .1 .1 .0 .ptr .0) (a .1 .1 .1 .1 .1 .0 .ptr .1)
       (a .1 .1 .1 .1 .1 .0 .name) (a .1 .1 .1 .1 .1 .0 .now)
-      (are .0) (are .1 .0 .1) (are .1 .1 .0 .1) (are .1 .1 .1 .0) (are .1 .1 .1 .1 .0 .0 .1) (are .1 .1 .1 .1 .1 .0 .0 .1) C Λ fm known-scan known known-tell known-away))
+      (are .0) (are .1 .0 .1) (are .1 .1 .0 .1) (are .1 .1 .1 .0) (are .1 .1 .1 .1 .0 .0 .1) (are .1 .1 .1 .1 .1 .0 .0 .1) C Λ fm
+      known-scan known known-tell known-away))
 
 meets : {M : Type 1} (𝓤 : URA M) (H : Heap 𝓤) (A : Atoms 𝓤) → Given 𝓤 H A → (mem : Memory → SProp 𝓤) (run : Routine → Fun 𝓤) (𝓣 : Tables 𝓤 H)
     → Triple 𝓤 (𝓣 .C #scan) (Scan 𝓤 H A mem run) → Triple 𝓤 (𝓣 .C #turn) (Turn 𝓤 H A mem run) → Triple 𝓤 (𝓣 .C #tell) (Tell 𝓤 H A mem run)

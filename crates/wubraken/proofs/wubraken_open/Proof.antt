@@ -222,10 +222,11 @@ module _ {M : Type 1} (𝓤 : URA M) (H : Heap 𝓤) (A : Atoms 𝓤) (W : Given
         -- [the store's token; its last list; true; the table's token; true; the table; the locals]
         land ! (from ! (stop !)) (init ! 18 refl (typed-n k v is)) $ rewrite ! 18 (λ (u : Val). ‵ (fat fullShare (tyInt w64) l₅ 0 u)) (ap only (is .0)) refl $
         calls-value ! fm (counts.signature .params) (counts.signature .result) (counts.spec 𝓤 H A mem run) known-counts (sh, (k, tt))
-        (vals-sh sh, (vint w64 k ∷ [], tt)) tt (id⊢ 𝓤 (emp 𝓤)) (LL.makes Sh.the-type Sh′.the-plain 𝓤 H A, (uint-makes 𝓤 H A W w64, tt)) (sh-is, ((refl, is .1), tt))
-        (λ n. n ≡ recordsOpened sh k) (counts-of 𝓤 H A mem run sh k)
+        (vals-sh sh, (vint w64 k ∷ [], tt)) tt (id⊢ 𝓤 (emp 𝓤)) (LL.makes Sh.the-type Sh′.the-plain 𝓤 H A, (uint-makes 𝓤 H A W w64, tt))
+        (sh-is, ((refl, is .1), tt)) (λ n. n ≡ recordsOpened sh k) (counts-of 𝓤 H A mem run sh k)
         (and-then ! (load ! (from ! (stop !)) (look ! 27 refl)) (and-then ! (load ! (from ! (stop !)) (look ! 19 refl)) (no-more !))) (λ v₁ n counted is₁.
-        land ! (from ! (stop !)) (init ! 16 refl (typed-n n v₁ is₁)) $ rewrite ! 16 (λ (u : Val). ‵ (fat fullShare (tyInt w64) l₆ 0 u)) (ap only (is₁ .0)) refl $
+        land ! (from ! (stop !)) (init ! 16 refl (typed-n n v₁ is₁)) $
+        rewrite ! 16 (λ (u : Val). ‵ (fat fullShare (tyInt w64) l₆ 0 u)) (ap only (is₁ .0)) refl $
         assigns ! (addr ! (from ! (fld ! refl (hop ! (look-in ! 22 (sub ! 0 refl (whole !))) (stop !))))) (from ! (stop !)) (init ! 8 refl (tt, tt)) $
         assigns ! (agg ! (and-then ! (load ! (from ! (stop !)) (look ! 8 refl))
         (and-then ! (load ! (from ! (fld ! refl (stop !))) (look-in ! 22 (sub ! 1 refl (whole !)))) (no-more !)))) (from ! (stop !)) (init ! 6 refl
