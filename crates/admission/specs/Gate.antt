@@ -6,22 +6,21 @@
 --     turn-at-3                      nothing else refuses a turn at stage 3
 --     openGate, open-gate-is         the first of 1 and 2: an opening's refusal
 --     open-passed                    where there is none: the limits of the shape, and enough words and records
+--     gate-parts                     the gate's refusal is an opening's, or goes by the flag and the worker
 --     Tight, gate-opens, passes      a flag down where 1 or 2 applies; an opening's refusals among the gate's; who passes
 --     soundOf, shape-tests           the flag by a look at every field; a shape within its limits passes its test
 --     sound-opens, sound-watched     where that flag is up 1 and 2 do not apply; it is a flag as `Watched` wants it
 -- Assumes nothing.
 use mathlib.Core.Path.{_≡_, refl, sym, ap, _∙_}
 use mathlib.Core.List.{List, [], _∷_, _++_}
-use mathlib.Core.Bool.{Bool, true, false, cond, not, _||_, _&&_}
+use mathlib.Core.Bool.{Bool, true, false, cond, not, _&&_}
 use mathlib.Core.Logic.{_≢_}
-use Prim.Native.Nat.{ℕ, zero, suc, _≤_, _<_}
+use Prim.Native.Nat.{ℕ, _≤_, _<_}
 use native.Mathlib.Omega.{arith}
-use lib.Dec.{eqb, ltb}
+use lib.Dec.{eqb}
 use lib.ListN.{length, drop}
 use borrow.Author.Tests.{not-false, eqb-true, ltb-false, leb-false, le-leb, lt-leb, le-ltb, eq-eqb, ne-eqb}
 use Rattle.arrival.specs.declared.Shape.{Shape}
-use Rattle.arrival.specs.declared.Arrival.{Arrival}
-use Rattle.arrival.specs.declared.Worker.{Worker}
 use Rattle.arrival.specs.declared.Response.the-variants.{Refused}
 use Rattle.arrival.specs.declared.Action.{Action}
 use Rattle.arrival.specs.declared.Action.the-variants.{Step}
@@ -29,7 +28,7 @@ use Rattle.laws.specs.Tests.{neither}
 use Rattle.calendar.specs.rules.Layout.{layout}
 use Rattle.calendar.specs.rules.Ranges.{worker, shapeInRange, storeInRange, tableInRange}
 use Rattle.calendar.specs.facts.RangeFacts.{Limits, limits}
-use Rattle.calendar.specs.rules.Refusals.{firstOf, badShape, short, tooShort, outOfRange, lengthTests, memoryTests, memoryOf, openRefusal}
+use Rattle.calendar.specs.rules.Refusals.{firstOf, badShape, short, tooShort, outOfRange, noWorker, lengthTests, memoryTests, memoryOf, openRefusal}
 use Rattle.calendar.specs.facts.FirstOf.{None, first-append, first-parts, first-none}
 use Rattle.calendar.specs.facts.Accepted.{Lent, Usable, lent, memory-accepted}
 use Rattle.calendar.specs.facts.RefusalParts.{refusal-first}
@@ -111,6 +110,12 @@ open-passed sh words records e =
     let (one, (few, tt)) = open-none sh words records e in
     let (store, table) = neither _ _ few in
     (limits sh (not-false _ one), ltb-false _ _ store, ltb-false _ _ table)
+
+-- the gate's refusal is an opening's, or goes by the flag and the worker
+pub gate-parts : (sh : Shape) (words records i : ℕ) (sound : Bool) → gateOf sh words records i sound
+    ≡ cond (eqb (openGate sh words records) 0) (firstOf ((3, not sound) ∷ (4, noWorker sh i) ∷ [])) (openGate sh words records)
+unfolding gateOf openGate
+gate-parts sh words records i sound = first-append (lengthTests sh (short sh words records)) ((3, not sound) ∷ (4, noWorker sh i) ∷ []) refl
 
 -- a flag that is down where 1 or 2 applies
 abbrev pub Tight : Shape → ℕ → ℕ → Bool → Type 0

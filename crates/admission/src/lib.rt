@@ -23,11 +23,9 @@ fn is_short(shape: Shape, words: usize, records: usize) -> bool
 fn first_refusal(shape: Shape, words: usize, records: usize, i: u64, sound: bool) -> u64
     ensures { λ r. ⌜ r ≡ gateOf shape words records i sound ⌝ }
 {
-    if !shape_in_range(shape) {
-        return 1;
-    }
-    if is_short(shape, words, records) {
-        return 2;
+    let k = open_gate(shape, words, records);
+    if k != 0 {
+        return k;
     }
     if !sound {
         return 3;

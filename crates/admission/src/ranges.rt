@@ -1,8 +1,8 @@
-// The ranges as tests: of the shape, of the lent store, of one worker's record.
+// The ranges as tests: of the shape, of an arrival's fields, of the lent store, of one worker's record.
 ghost use mathlib.Core.Path.{_≡_};
 ghost use Prim.Native.Nat.{_+_, _<_, _≤_};
 ghost use Rattle.laws.specs.Counting.{every};
-ghost use Rattle.calendar.specs.rules.Ranges.{shapeInRange, headInRange, nodeInRange, storeInRange, recordInRange};
+ghost use Rattle.calendar.specs.rules.Ranges.{shapeInRange, pathInRange, orderInRange, distanceInRange, headInRange, nodeInRange, storeInRange, recordInRange};
 ghost use Rattle.words.specs.Laid.{Laid};
 use arrival::Shape;
 use arrival::Worker;
@@ -24,6 +24,26 @@ pub fn shape_in_range(shape: Shape) -> bool
         & (shape.buckets <= 256)
         & (1 <= shape.width)
         & (shape.width <= 65535)
+}
+
+pub fn path_in_range(path: u64) -> bool
+    ensures { λ r. ⌜ r ≡ pathInRange path ⌝ }
+{
+    path <= 65535
+}
+
+pub fn order_in_range(order: u64) -> bool
+    ensures { λ r. ⌜ r ≡ orderInRange order ⌝ }
+{
+    order <= 63
+}
+
+const MAX_DISTANCE: u64 = 1024;
+
+pub fn distance_in_range(distance: u64) -> bool
+    ensures { λ r. ⌜ r ≡ distanceInRange distance ⌝ }
+{
+    (1 <= distance) & (distance <= MAX_DISTANCE)
 }
 
 // The head of bucket b: unmarked, its successor a node or the end.
@@ -53,10 +73,10 @@ pub fn node_in_range(shape: Shape, n: u64, store: &[u64]) -> bool
     (link / 2 <= shape.nodes)
         & (time < word::COUNTS)
         & (ticket < word::COUNTS)
-        & (path <= 65535)
-        & (order <= 63)
+        & path_in_range(path)
+        & order_in_range(order)
         & ((1 <= distance) | (standing == 0))
-        & (distance <= 1024)
+        & (distance <= MAX_DISTANCE)
         & (epoch < word::COUNTS)
         & (standing < word::STANDINGS)
 }

@@ -3,15 +3,13 @@ use mathlib.Core.Path.{_≡_, refl, _∙_}
 use mathlib.Core.Bool.{Bool, true, false, cond}
 use mathlib.Core.List.{List}
 use Prim.Native.Nat.{ℕ, zero, suc, _+_, _≤_}
-use lib.Dec.{leb}
 use lib.ListN.{length}
-use borrow.Author.Tests.{leb-true}
 use Rattle.turn_file.specs.declared.Read.{Read}
 use Rattle.turn_file.specs.declared.Read.the-variants.{Open, Act, End, Refused}
 use Rattle.turn_file.specs.Records.{Record, opens, acts}
 use Rattle.turn_file.specs.Reading.{recordAt}
 use Rattle.turn_file.specs.OneReading.{read-on}
-use Rattle.turn_file.specs.Buffer.{after, written-length}
+use Rattle.turn_file.specs.Buffer.{after-within, written-length}
 use Rattle.batch.specs.declared.Stop.the-variants.{Full}
 use Rattle.batch.specs.Batch.{Progress, Stopped, lineFor, hasRoom, wrote, onward, worked, workedAll}
 
@@ -20,19 +18,11 @@ pub record Within (bytes : List ℕ) (size : ℕ) (p : Progress) : Type 0 where
   pub to : p .to ≤ length (p .lines)
   pub lines : length (p .lines) ≡ size
 
-pub after-within : (lines line : List ℕ) (to : ℕ) → to ≤ length lines → after lines to line ≤ length lines
-unfolding after
-after-within lines line to h = go (leb (to + length line) (length lines)) refl
-  where
-    go : (b : Bool) → leb (to + length line) (length lines) ≡ b → cond b (to + length line) to ≤ length lines
-    go true e = leb-true (to + length line) (length lines) e
-    go false e = h
-
 module _ (bytes : List ℕ) (size : ℕ) where
   wrote-within : (p : Progress) (r : Record) (next : ℕ) → Within bytes size p → next ≤ length bytes → Within bytes size (wrote p r next)
   wrote-within p r next w h = record {
     at = h;
-    to = rw (written-length (p .lines) (p .to) (lineFor r (p .pool))) (after-within (p .lines) (lineFor r (p .pool)) (p .to) (w .to));
+    to = rw (written-length (p .lines) (p .to) (lineFor r (p .pool))) (after-within (p .lines) (p .to) (lineFor r (p .pool)) (w .to) .1);
     lines = written-length (p .lines) (p .to) (lineFor r (p .pool)) ∙ w .lines;
   }
 

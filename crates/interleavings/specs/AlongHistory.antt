@@ -1,6 +1,11 @@
 -- Along every history from an opening the joint invariant holds and agrees with the ledger.
---     Followed     the joint invariant, and that it agrees with the ledger
---     followed     after every history from an opening
+--     Followed                               the joint invariant, and that it agrees with the ledger
+--     performed                              what an outcome must bring
+--     followed-open                          after an opening
+--     followed-enqueue, followed-dequeue     starts keep it
+--     followed-step                          turns keep it
+--     followed-act, followed-run             any action, and any history
+--     followed                               after every history from an opening
 -- Assumes nothing.
 use mathlib.Core.Path.{_≡_, refl, sym, ap, subst, subst⁻¹}
 use mathlib.Core.Option.{none, some}

@@ -1,31 +1,43 @@
 -- Tests and counts over the numbers below a bound, and properties of a list's elements by their number.
 --     every                                  a test holds of every number below n
+--     sum, tally, count                      a sum over them; of what a function has there; how many a test holds of
 --     every-none, every-step, every-more     of none; of one more
 --     every-at, every-all, every-fails       what it tells of each; what tells it; where one fails
 --     every-same                             two tests alike below n
---     count, count-three                     how many below n; three tests of which exactly one holds share the numbers out
+--     count-three                            three tests of which exactly one holds share the numbers out
+--     tally-none, tally-with                 a sum of zeros; a sum with another at one number
 --     Each, each-of                          a property of each element, by its number; of the one at n
 -- Assumes nothing.
-use mathlib.Core.Path.{_≡_, refl, _∙_, subst}
+use mathlib.Core.Path.{_≡_, refl, ap, _∙_, subst}
 use mathlib.Core.List.{List, [], _∷_}
 use mathlib.Core.Bool.{Bool, true, false, cond, _&&_, and-false}
 use mathlib.Core.Logic.{⊎-elim}
-use Prim.Native.Nat.{ℕ, zero, suc, _+_, _<_}
+use Prim.Native.Nat.{ℕ, zero, suc, _+_, _<_, _≤_}
+use lib.Dec.{eqb}
 use lib.ListN.{length, getD}
 use native.Mathlib.Nat.{add-zero, add-suc, suc-add, le-of-suc-le-suc, not-suc-le-zero, eq-or-lt-of-le}
 use native.Mathlib.Numerals.{add-one}
+use native.Mathlib.Decide.{ℕ-discrete}
 use native.Mathlib.Omega.{arith}
-use Rattle.laws.specs.Tests.{left-true, right-true}
+use Rattle.laws.specs.Tests.{left-true, right-true, upd-same, upd-other}
 
+-- ── below a bound ──
 -- f k for every k below n
 unfoldable pub every : ℕ → (ℕ → Bool) → Bool
 every zero f = true
 every (suc n) f = every n f && f n
 
+-- g k for every k below n, added up; and f of what T has there
+abbrev pub sum : (ℕ → ℕ) → ℕ → ℕ
+sum g zero = 0
+sum g (suc n) = g n + sum g n
+
+abbrev pub tally : {A : Type 0} → (A → ℕ) → (ℕ → A) → ℕ → ℕ
+tally f T n = sum (λ k. f (T k)) n
+
 -- how many k below n have f k
 unfoldable pub count : ℕ → (ℕ → Bool) → ℕ
-count zero f = 0
-count (suc n) f = cond (f n) 1 0 + count n f
+count n f = sum (λ k. cond (f k) 1 0) n
 
 pub every-none : (f : ℕ → Bool) → every 0 f ≡ true
 unfolding every
@@ -68,6 +80,27 @@ unfolding count
 count-three zero f g h one = refl
 count-three (suc n) f g h one = omega (arith, one n, count-three n f g h one)
 
+-- ── sums ──
+pub tally-none : {A : Type 0} (f : A → ℕ) (T : ℕ → A) (n : ℕ) → ((j : ℕ) → j < n → f (T j) ≡ 0) → tally f T n ≡ 0
+tally-none f T zero h = refl
+tally-none f T (suc n) h = omega (arith, h n (omega arith), tally-none f T n (λ j l. h j (omega arith)))
+
+tally-out : {A : Type 0} (f : A → ℕ) (T : ℕ → A) (i : ℕ) (x : A) (n : ℕ) → n ≤ i → tally f (λ j. cond (eqb i j) x (T j)) n ≡ tally f T n
+tally-out f T i x zero h = refl
+tally-out f T i x (suc n) h = omega (arith, ap f (upd-other i n x (T n) (λ e. omega arith)), tally-out f T i x n (omega arith))
+
+-- with another at i
+pub tally-with : {A : Type 0} (f : A → ℕ) (T : ℕ → A) (i : ℕ) (x : A) (n : ℕ) → i < n
+    → tally f (λ j. cond (eqb i j) x (T j)) n + f (T i) ≡ tally f T n + f x
+tally-with f T i x zero h = absurd (omega arith)
+tally-with f T i x (suc n) h = go (ℕ-discrete i n) (tally-with f T i x n)
+  where
+    go : Dec (i ≡ n) → (i < n → tally f (λ j. cond (eqb i j) x (T j)) n + f (T i) ≡ tally f T n + f x)
+        → f (cond (eqb i n) x (T n)) + tally f (λ j. cond (eqb i j) x (T j)) n + f (T i) ≡ f (T n) + tally f T n + f x
+    go (yes e) ih = omega (arith, ap f (upd-same i n x (T n) e), tally-out f T i x n (omega arith), ap (λ j. f (T j)) e)
+    go (no u) ih = omega (arith, ap f (upd-other i n x (T n) u), ih (omega arith))
+
+-- ── by their number ──
 -- a property of each element of a list, by its number from k on
 abbrev pub Each : {A : Type 0} → (ℕ → A → Type 0) → ℕ → List A → Type 0
 Each P k [] = Unit {0}

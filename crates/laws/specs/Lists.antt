@@ -5,21 +5,29 @@
 --     drop-take                         a front without its own front
 --     mem-behind                        what is in a list and is not its first element is in the rest
 --     Once                              each number differs from those behind it
---     without                           a list without a number: without-in, in-without say what is in it, without-less that it is shorter
+--     sift, sift-in, in-sift            a list without what a test picks, and what is in it
+--     without, without-in, in-without   a list without a number, and what is in it
+--     without-less                      it is shorter
 --     below, below-in, length-below     the numbers below n
+--     upTo, up-to-in, length-up-to      the numbers 1 to n
 --     once-within                       numbers that stand once, all of them in another list, are no more than it has
 --     once-below                        numbers that stand once and lie below n are at most n
+--     sameNumbers, same-numbers         whether two lists of numbers are one
+--     all, all-true                     whether a test holds of each element
+--     gathered, gathered-in             the lists of each element, one behind the other
 -- Assumes nothing.
-use mathlib.Core.Path.{_≡_, refl, sym, ap, _∙_}
-use mathlib.Core.List.{List, [], _∷_, _++_, List·Memᴰ, List·Memᴰ·head, List·Memᴰ·tail, List·Memᴰ·not-nil, List·Memᴰ·cases-cons}
-use mathlib.Core.Bool.{Bool, true, false, cond}
+use mathlib.Core.Path.{_≡_, refl, sym, ap, _∙_, subst}
+use mathlib.Core.List.{List, [], _∷_, _++_, map, List·Memᴰ, List·Memᴰ·head, List·Memᴰ·tail, List·Memᴰ·not-nil, List·Memᴰ·cases-cons, Memᴰ·cast, Memᴰ·map}
+use mathlib.Core.List.{Memᴰ·append-left, Memᴰ·append-right}
+use mathlib.Core.Bool.{Bool, true, false, cond, _&&_}
 use mathlib.Core.Logic.{_≢_, _⊎_, inl, inr}
 use Prim.Native.Nat.{ℕ, zero, suc, _+_, _-_, _≤_, _<_}
 use native.Mathlib.Omega.{arith}
 use lib.Dec.{eqb}
-use lib.ListN.{length, getD, take, drop}
+use lib.ListN.{length, getD, take, drop, length-map}
 use lib.Seq.{take-nil, drop-cons}
-use borrow.Author.Tests.{eqb-true, eqb-false}
+use borrow.Author.Tests.{eqb-true, eqb-false, eq-eqb, ne-eqb}
+use Rattle.laws.specs.Tests.{never}
 
 -- ── values by their numbers ──
 -- g i, g (i + 1), .. : n words
@@ -70,33 +78,44 @@ abbrev pub Once : List ℕ → Type 0
 Once [] = Unit {0}
 Once (c ∷ cs) = ((d : ℕ) → List·Memᴰ d cs → c ≢ d) × Once cs
 
-abbrev pub without : ℕ → List ℕ → List ℕ
-without c [] = []
-without c (x ∷ xs) = cond (eqb c x) (without c xs) (x ∷ without c xs)
+-- ── a list without what a test picks ──
+abbrev pub sift : {A : Type 0} → (A → Bool) → List A → List A
+sift t [] = []
+sift t (x ∷ xs) = cond (t x) (sift t xs) (x ∷ sift t xs)
 
-pub without-in : (c x : ℕ) (xs : List ℕ) → List·Memᴰ x (without c xs) → (List·Memᴰ x xs) × (c ≢ x)
-without-in c x [] i = absurd (List·Memᴰ·not-nil i)
-without-in c x (y ∷ ys) i = go (eqb c y) refl i (without-in c x ys)
+pub sift-in : {A : Type 0} (t : A → Bool) (x : A) (xs : List A) → List·Memᴰ x (sift t xs) → (List·Memᴰ x xs) × (t x ≡ false)
+sift-in t x [] i = absurd (List·Memᴰ·not-nil i)
+sift-in t x (y ∷ ys) i = go (t y) refl i (sift-in t x ys)
   where
-    go : (t : Bool) → eqb c y ≡ t → List·Memᴰ x (cond t (without c ys) (y ∷ without c ys))
-        → (List·Memᴰ x (without c ys) → (List·Memᴰ x ys) × (c ≢ x)) → (List·Memᴰ x (y ∷ ys)) × (c ≢ x)
+    go : (b : Bool) → t y ≡ b → List·Memᴰ x (cond b (sift t ys) (y ∷ sift t ys))
+        → (List·Memᴰ x (sift t ys) → (List·Memᴰ x ys) × (t x ≡ false)) → (List·Memᴰ x (y ∷ ys)) × (t x ≡ false)
     go true e j rec = let (p, q) = rec j in (List·Memᴰ·tail p, q)
     go false e j rec = pick (List·Memᴰ·cases-cons j)
       where
-        pick : (x ≡ y) ⊎ List·Memᴰ x (without c ys) → (List·Memᴰ x (y ∷ ys)) × (c ≢ x)
-        pick (inl p) = (List·Memᴰ·head p, λ q. eqb-false c y e (q ∙ p))
+        pick : (x ≡ y) ⊎ List·Memᴰ x (sift t ys) → (List·Memᴰ x (y ∷ ys)) × (t x ≡ false)
+        pick (inl p) = (List·Memᴰ·head p, ap t p ∙ e)
         pick (inr p) = let (a, b) = rec p in (List·Memᴰ·tail a, b)
 
-pub in-without : (c x : ℕ) (xs : List ℕ) → List·Memᴰ x xs → c ≢ x → List·Memᴰ x (without c xs)
-in-without c x [] i h = absurd (List·Memᴰ·not-nil i)
-in-without c x (y ∷ ys) i h = go (eqb c y) refl (List·Memᴰ·cases-cons i) (λ j. in-without c x ys j h)
+pub in-sift : {A : Type 0} (t : A → Bool) (x : A) (xs : List A) → List·Memᴰ x xs → t x ≡ false → List·Memᴰ x (sift t xs)
+in-sift t x [] i h = absurd (List·Memᴰ·not-nil i)
+in-sift t x (y ∷ ys) i h = go (t y) refl (List·Memᴰ·cases-cons i) (λ j. in-sift t x ys j h)
   where
-    go : (t : Bool) → eqb c y ≡ t → (x ≡ y) ⊎ List·Memᴰ x ys → (List·Memᴰ x ys → List·Memᴰ x (without c ys))
-        → List·Memᴰ x (cond t (without c ys) (y ∷ without c ys))
-    go true e (inl p) rec = absurd (h (eqb-true c y e ∙ sym p))
+    go : (b : Bool) → t y ≡ b → (x ≡ y) ⊎ List·Memᴰ x ys → (List·Memᴰ x ys → List·Memᴰ x (sift t ys))
+        → List·Memᴰ x (cond b (sift t ys) (y ∷ sift t ys))
+    go true e (inl p) rec = never (sym h ∙ ap t p ∙ e)
     go true e (inr p) rec = rec p
     go false e (inl p) rec = List·Memᴰ·head p
     go false e (inr p) rec = List·Memᴰ·tail (rec p)
+
+-- without a number
+abbrev pub without : ℕ → List ℕ → List ℕ
+without c xs = sift (eqb c) xs
+
+pub without-in : (c x : ℕ) (xs : List ℕ) → List·Memᴰ x (without c xs) → (List·Memᴰ x xs) × (c ≢ x)
+without-in c x xs i = let (j, e) = sift-in (eqb c) x xs i in (j, eqb-false c x e)
+
+pub in-without : (c x : ℕ) (xs : List ℕ) → List·Memᴰ x xs → c ≢ x → List·Memᴰ x (without c xs)
+in-without c x xs i h = in-sift (eqb c) x xs i (ne-eqb c x h)
 
 without-shorter : (c : ℕ) (xs : List ℕ) → length (without c xs) ≤ length xs
 without-shorter c [] = omega arith
@@ -134,6 +153,16 @@ unfolding below
 length-below zero = refl
 length-below (suc n) = ap suc (length-below n)
 
+-- the numbers 1 to n
+abbrev pub upTo : ℕ → List ℕ
+upTo n = map suc (below n)
+
+pub up-to-in : (n c : ℕ) → 1 ≤ c → c ≤ n → List·Memᴰ c (upTo n)
+up-to-in n c lo hi = Memᴰ·cast (omega arith) (Memᴰ·map suc (below-in n (c - 1) (omega arith)))
+
+pub length-up-to : (n : ℕ) → length (upTo n) ≡ n
+length-up-to n = length-map (below n) suc ∙ length-below n
+
 pub once-within : (ns rest : List ℕ) → Once ns → ((c : ℕ) → List·Memᴰ c ns → List·Memᴰ c rest) → length ns ≤ length rest
 once-within [] rest one sub = omega arith
 once-within (c ∷ ns) rest one sub =
@@ -143,3 +172,35 @@ once-within (c ∷ ns) rest one sub =
 
 pub once-below : (n : ℕ) (ns : List ℕ) → Once ns → ((c : ℕ) → List·Memᴰ c ns → c < n) → length ns ≤ n
 once-below n ns one low = omega (arith, once-within ns (below n) one (λ c i. below-in n c (low c i)), length-below n)
+
+-- ── tests and lists of lists ──
+abbrev pub sameNumbers : List ℕ → List ℕ → Bool
+sameNumbers [] [] = true
+sameNumbers [] (y ∷ ys) = false
+sameNumbers (x ∷ xs) [] = false
+sameNumbers (x ∷ xs) (y ∷ ys) = eqb x y && sameNumbers xs ys
+
+pub same-numbers : (xs : List ℕ) → sameNumbers xs xs ≡ true
+same-numbers [] = refl
+same-numbers (x ∷ xs) = rw (eq-eqb x x refl) (same-numbers xs)
+
+abbrev pub all : {A : Type 0} → (A → Bool) → List A → Bool
+all f [] = true
+all f (x ∷ xs) = f x && all f xs
+
+pub all-true : {A : Type 0} (f : A → Bool) (xs : List A) → ((x : A) → List·Memᴰ x xs → f x ≡ true) → all f xs ≡ true
+all-true f [] h = refl
+all-true f (x ∷ xs) h = rw (h x (List·Memᴰ·head refl)) (all-true f xs (λ y i. h y (List·Memᴰ·tail i)))
+
+-- the lists of each element, one behind the other
+abbrev pub gathered : {A B : Type 0} → (A → List B) → List A → List B
+gathered f [] = []
+gathered f (c ∷ cs) = f c ++ gathered f cs
+
+pub gathered-in : {A B : Type 0} (f : A → List B) (cs : List A) (c : A) (o : B) → List·Memᴰ c cs → List·Memᴰ o (f c) → List·Memᴰ o (gathered f cs)
+gathered-in f [] c o i j = absurd (List·Memᴰ·not-nil i)
+gathered-in f (d ∷ ds) c o i j = pick (List·Memᴰ·cases-cons i) (λ k. gathered-in f ds c o k j)
+  where
+    pick : (c ≡ d) ⊎ List·Memᴰ c ds → (List·Memᴰ c ds → List·Memᴰ o (gathered f ds)) → List·Memᴰ o (f d ++ gathered f ds)
+    pick (inl e) rec = Memᴰ·append-left (gathered f ds) (subst (λ x. List·Memᴰ o (f x)) e j)
+    pick (inr k) rec = Memᴰ·append-right (f d) (rec k)

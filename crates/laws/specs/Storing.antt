@@ -1,8 +1,8 @@
 -- Elements stored over others: from the front, in runs, and moved to the front of their own list.
 --     store-behind                        one more element behind what is stored
 --     store-next, cleared-more            the next of a list; the same value once more
---     words-none, words-more              words by their number: none yet; the next
 --     over-taken                          one value over the front, seen in a part
+--     words-none, words-more              words by their number: none yet; the next
 --     last-first, next-stored             a run of stores: its last first; its next
 --     behind, joined                      one run behind another; behind one that a byte ends
 --     moved, none-moved, moved-more       bytes moved to the front of their own list, one by one

@@ -1,6 +1,8 @@
 -- Tests as facts, and proofs by the cases of a test. What the kit has is not here: of one comparison, and of `not`, in borrow.Author.Tests; of `&&` and
 -- `||` with a constant in mathlib.Core.Bool.
+--     isYes                             a decision as a test
 --     never                             no test is false and true
+--     is-no, not-yes                    it fails where there is a refutation; what its failing tells
 --     left-true, right-true, parts      what "both" tells; both, the other way
 --     either, neither                   what "one of the two" tells where it holds, and where it does not; or-left, or-right, the other way
 --     within                            what "from a to b" tells; inside, the other way
@@ -16,8 +18,21 @@ use native.Mathlib.Omega.{arith}
 use lib.Dec.{eqb, leb, ltb}
 use borrow.Author.Tests.{ltb-true, ltb-false, leb-true, le-leb, eqb-true, eqb-false, eq-eqb, ne-eqb, not-true}
 
+-- a decision as a test
+abbrev pub isYes : {P : Type 0} → Dec P → Bool
+isYes (yes h) = true
+isYes (no n) = false
+
 pub never : {A : Type 0} → false ≡ true → A
 never e = let z : _≡_ {A = ℕ} 0 1 = cc in absurd (omega arith)
+
+pub is-no : {P : Type 0} (d : Dec P) → ¬ P → isYes d ≡ false
+is-no (yes h) n = absurd (n h)
+is-no (no m) n = refl
+
+pub not-yes : {P : Type 0} (d : Dec P) → isYes d ≡ false → ¬ P
+not-yes (yes h) e p = never (sym e)
+not-yes (no n) e p = n p
 
 -- ── both ──
 pub left-true : (a b : Bool) → (a && b) ≡ true → a ≡ true

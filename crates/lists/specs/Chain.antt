@@ -6,8 +6,9 @@
 --     insertAt, removeAt                          a node set behind a spot; the node of an edge taken out
 --     runs-half, runs-frame                       a run goes on where what it reads stays
 --     spot-apart, spot-not                        what is no spot
---     insert-runs, remove-runs                    the runs after both
+--     insert-runs                                 the runs with the new node
 --     edge-of, edge-spot, edge-in                 the edge behind a spot
+--     remove-runs                                 the runs without the old one
 --     in-insert, insert-own, insert-in            who is in the list with the new node
 --     in-remove, remove-in, removed-ne            who is in the list without the old one
 --     Ascends, ascends-map, distinct              a list that ascends; it has each node once

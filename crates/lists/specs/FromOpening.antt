@@ -4,8 +4,9 @@
 --     reached-open                                       the opening reaches it
 --     performed                                          what an outcome must bring
 --     free-node                                          a free node, in the words of the invariant
---     reached-enqueue, reached-dequeue, reached-step     starts and turns keep it
+--     reached-enqueue, reached-dequeue                   starts keep it
 --     tight                                              the leak of ranges does not occur
+--     reached-step                                       turns keep it
 -- Assumes nothing.
 use mathlib.Core.Path.{_≡_, refl, sym, ap, subst⁻¹}
 use mathlib.Core.List.{List, []}

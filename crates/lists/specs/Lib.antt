@@ -14,6 +14,6 @@ pub mod SafeNodes
 pub mod NodeReuse
 pub mod Fixed
 pub mod Walks
-pub mod CallCounts
+pub mod UnmarkedCounts
 pub mod Worth
 pub mod SumHolds

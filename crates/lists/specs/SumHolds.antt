@@ -16,7 +16,7 @@ use Rattle.arrival.specs.declared.Action.{Action}
 use Rattle.arrival.specs.declared.Action.the-variants.{Enqueue, Dequeue, Step}
 use Rattle.arrival.specs.declared.Response.{Response}
 use Rattle.arrival.specs.declared.Response.the-variants.{Opened, Begun, On, Stored, Took, Empty, Refused}
-use Rattle.laws.specs.Counting.{count}
+use Rattle.laws.specs.Counting.{count, tally, tally-none, tally-with}
 use Rattle.calendar.specs.rules.Layout.{link, isMarked, itemAt, writeAll}
 use Rattle.calendar.specs.rules.Ranges.{blank, worker}
 use Rattle.calendar.specs.rules.Reclaim.{firstFree}
@@ -39,8 +39,7 @@ use Rattle.lists.specs.TurnsKeepLists.{chains-after}
 use Rattle.lists.specs.FromOpening.{Reached, table-set, reached-enqueue, reached-dequeue, reached-step}
 use Rattle.lists.specs.NodeReuse.{opened, open-reaches}
 use Rattle.lists.specs.Walks.{walk-meets}
-use Rattle.lists.specs.CallCounts.{tally, tally-with, total}
-use Rattle.lists.specs.CallCounts as counting
+use Rattle.lists.specs.UnmarkedCounts.{unmarkedCount, total}
 use Rattle.lists.specs.Worth.{linkedBit, markedBit, linked-low, linked-high, marked-put, marked-high, marked-idle, storedIn, tookIn, Worth, worth}
 
 abbrev pub Balanced : Shape → View → Chains → (ℕ → Worker) → Ledger → Type 0
@@ -162,13 +161,8 @@ module _ (sh : Shape) where
   summed-run m L (a ∷ h) S = summed-run (act sh m a .memory) (reads sh m a L) h (summed-act m L a S)
 
   -- ── the opening: all is 0 ──
-  tally-none : (f : Worker → ℕ) (T : ℕ → Worker) (n : ℕ) → ((j : ℕ) → j < n → f (T j) ≡ 0) → tally f T n ≡ 0
-  tally-none f T zero h = refl
-  tally-none f T (suc n) h = omega (arith, h n (omega arith), tally-none f T n (λ j l. h j (omega arith)))
-
   total-none : (c : ℕ → ℕ) (n : ℕ) → total sh c (λ b. []) n ≡ 0
-  total-none c zero = refl
-  total-none c (suc n) = omega (arith, total-none c n)
+  total-none c n = tally-none (unmarkedCount sh c) (λ b. []) n (λ j l. refl)
 
   summed-open : (m : Memory) → open-pool sh m .response ≡ Opened → Summed sh (open-pool sh m .memory) new
   unfolding blank
@@ -196,10 +190,9 @@ module _ (sh : Shape) where
   -- ── in the words of the statement ──
   workers-are : (t : List Worker) (f : Worker → Bool) (n : ℕ) → count n (λ i. f (worker t i)) ≡ tally (λ w. cond (f w) 1 0) (worker t) n
   unfolding count
-  workers-are t f zero = refl
-  workers-are t f (suc n) = ap (λ k. cond (f (worker t n)) 1 0 + k) (workers-are t f n)
+  workers-are t f n = refl
 
-  unmarked-is : (s : List ℕ) (ns : List ℕ) → unmarkedIn sh s ns ≡ counting.count sh (view sh s .cells) ns
+  unmarked-is : (s : List ℕ) (ns : List ℕ) → unmarkedIn sh s ns ≡ unmarkedCount sh (view sh s .cells) ns
   unfolding unmarkedIn
   unmarked-is s [] = refl
   unmarked-is s (n ∷ ns) = omega (arith, bit (link sh s n), unmarked-is s ns)
@@ -219,7 +212,7 @@ module _ (sh : Shape) where
       omega (
         arith,
         unmarked-is s (lists b),
-        ap (counting.count sh (view sh s .cells)) (h b (omega arith)),
+        ap (unmarkedCount sh (view sh s .cells)) (h b (omega arith)),
         unmarked-are s lists ch b (λ q l. h q (omega arith)),
       )
 

@@ -36,8 +36,7 @@ use Rattle.lists.specs.Chain.{In, insertAt, removeAt}
 use Rattle.lists.specs.LinkInvariant.{Chains, home, chain-distinct, edge}
 use Rattle.lists.specs.AllCalls.{Live, Inv}
 use Rattle.lists.specs.TurnsKeepLists.{R, unlinking, linking-5, chains-3, chains-5, chains-after, in-chain-11}
-use Rattle.lists.specs.CallCounts.{total, total-frame, total-set, total-mark, count-insert, count-remove}
-use Rattle.lists.specs.CallCounts as counting
+use Rattle.lists.specs.UnmarkedCounts.{total, total-frame, total-set, total-mark, unmarked-insert, unmarked-remove}
 
 -- ── a record's share ──
 abbrev pub linkedBit : Worker → ℕ
@@ -170,7 +169,7 @@ module _ (sh : Shape) (s : List ℕ) where
         let ch′ : Chains = chains-5 sh s T i l busy ch I q t in
         let f = total-frame sh (m .cells) (updates (linkOwn w) m .cells) ch′ (sh .buckets)
         (λ b n h j. even (w .left) (2 * w .own) (sh .buckets + n) (omega (arith, K .was)) (omega arith)) in
-        let g = count-insert sh (m .cells) (w .own) (K .spot) in
+        let g = unmarked-insert sh (m .cells) (w .own) (K .spot) in
         let h = total-set sh (m .cells) ch (w .bucket) xs (sh .buckets) (K .inRange) in
         let c : m .cells (sh .buckets + w .own) % 2 ≡ 0 = omega (arith, K .link) in
         omega (arith, f, g, h, c)
@@ -184,7 +183,7 @@ module _ (sh : Shape) (s : List ℕ) where
         let ch′ : Chains = chains-3 sh s T i l busy ch I q t in
         let f = total-frame sh (m .cells) (updates (unlink sh s w) m .cells) ch′ (sh .buckets)
         (λ b n h j. even (w .left) (2 * (w .seen / 2)) (sh .buckets + n) (omega (arith, u .was)) (omega arith)) in
-        let c = count-remove sh (m .cells) g in
+        let c = unmarked-remove sh (m .cells) g in
         let h = total-set sh (m .cells) ch (w .bucket) xs (sh .buckets) (u .inRange) in
         let d : m .cells (sh .buckets + w .right) % 2 ≡ 1 = rw (u .link) (u .marked) in
         omega (arith, f, c, h, d)

@@ -1,8 +1,8 @@
 -- The plain queue as a list of elements, the entries of the order, and the walks through it.
 --     Keys, Element, Entry, Q, Order                                   elements with their laws, entries, queues and orders
 --     keep                                                             a list with one more element, or not
---     _≺_, ticket, bucket, bucket-up, irrefl, trans, at-most-below     the order of elements
---     same?, below?                                                    it is decided
+--     _≺_, ticket, bucket, bucket-up, irrefl, trans                    the order of elements
+--     same?, below?, at-most-below                                     it is decided; what is at most an element below x is below x
 --     without, without-yes, without-no, without-comm                   a queue without an element
 --     mem-without, without-mem                                         who is in it
 --     Below, any-below?, mem?                                          something in the queue is below x, or x is in it: decided
@@ -11,9 +11,12 @@
 --     run-append, walk-append, walk-left, walk-right                   orders one behind the other
 -- Assumes nothing.
 use mathlib.Core.Path.{_≡_, refl, sym, _∙_, ap, subst}
+use mathlib.Core.Bool.{cond}
 use mathlib.Core.Logic.{_⊎_, inl, inr}
 use mathlib.Core.List.{List, [], _∷_, _++_, List·Memᴰ as Mem, List·Memᴰ·head as here, List·Memᴰ·tail as there, List·Memᴰ·cases-cons as mem-cons}
 use Prim.Native.Nat.{ℕ, _≤_}
+use Rattle.laws.specs.Tests.{isYes, is-no, not-yes}
+use Rattle.laws.specs.Lists.{sift, sift-in, in-sift}
 
 -- elements with a strict weak order, total on different tickets, and a bucket that rises with it
 pub record Keys : Type 1 where
@@ -48,8 +51,7 @@ Order K = List (Entry K)
 
 -- l, with a in front unless P
 abbrev pub keep : {P : Type 0} {A : Type 0} → Dec P → A → List A → List A
-keep (yes h) a l = l
-keep (no n) a l = a ∷ l
+keep d a l = cond (isYes d) l (a ∷ l)
 
 module _ {K : Keys} where
   infix 50 _≺_
@@ -90,8 +92,7 @@ module _ {K : Keys} where
 
   -- ── the queue ──
   abbrev pub without : Q K → Element K → Q K
-  without [] x = []
-  without (p ∷ S) x = keep (same? p x) p (without S x)
+  without S x = sift (λ p. isYes (same? p x)) S
 
   pub without-yes : (p : Element K) (S : Q K) (x : Element K) → p ≡ x → without (p ∷ S) x ≡ without S x
   without-yes p S x e = go (same? p x)
@@ -119,22 +120,10 @@ module _ {K : Keys} where
       go (no n) (no m) ih = without-no p (without S y) x n ∙ ap (p ∷_) ih ∙ sym (without-no p (without S x) y m)
 
   pub mem-without : {q : Element K} (S : Q K) (x : Element K) → ¬ (q ≡ x) → Mem q S → Mem q (without S x)
-  mem-without {q} (p ∷ S) x n m = go (same? p x) (mem-cons m) (λ k. mem-without S x n k)
-    where
-      go : (d : Dec (p ≡ x)) → (q ≡ p) ⊎ Mem q S → (Mem q S → Mem q (without S x)) → Mem q (keep d p (without S x))
-      go (yes e) (inl h) ih = absurd (n (h ∙ e))
-      go (yes e) (inr k) ih = ih k
-      go (no o) (inl h) ih = here h
-      go (no o) (inr k) ih = there (ih k)
+  mem-without {q} S x n m = in-sift (λ p. isYes (same? p x)) q S m (is-no (same? q x) n)
 
   pub without-mem : {q : Element K} (S : Q K) (x : Element K) → Mem q (without S x) → Mem q S × ¬ (q ≡ x)
-  without-mem [] x m = elim m [ ]
-  without-mem {q} (p ∷ S) x m₀ = go (same? p x) (λ k. without-mem S x k) m₀
-    where
-      go : (d : Dec (p ≡ x)) → (Mem q (without S x) → Mem q S × ¬ (q ≡ x)) → Mem q (keep d p (without S x)) → Mem q (p ∷ S) × ¬ (q ≡ x)
-      go (yes e) ih m = let r = ih m in (there (r .0), r .1)
-      go (no o) ih (here h) = (here h, λ e. o (sym h ∙ e))
-      go (no o) ih (there m) = let r = ih m in (there (r .0), r .1)
+  without-mem {q} S x m = let (i, e) = sift-in (λ p. isYes (same? p x)) q S m in (i, not-yes (same? q x) e)
 
   -- something in the queue is below x
   abbrev pub Below : Q K → Element K → Type 0

@@ -2,14 +2,18 @@
 --     never-early                                                                 nothing is over before call 0
 --     Walker                                                                      what is known of a worker whose scan it is
 --     running-ended                                                               no call is running and over
---     Alike, alike-refl, alike-sym, alike-append                                  orders that differ in scans only
---     alike-run, alike-walk, alike-mem, alike-each, alike-pairs, alike-timely     what is the same of them
+--     Alike, alike-refl                                                           orders that differ in scans only
+--     alike-run, alike-walk, alike-mem, alike-each                                what is the same of them
+--     alike-sym, alike-append                                                     the other way round; one behind the other
 --     Sees, sees?, staying, only, moving                                          scans that see x, those that stay and those that move
 --     alike-staying, alike-moving, unscan, alike-unscan                           the orders without them
+--     alike-pairs, alike-timely                                                   real time is the same of orders alike
 --     Sight, At, Marks                                                            SCAN: what is known at a scan, and at each
 --     marks-right, marks-find                                                     of a part; of one scan
---     From, scan-from, from-append                                                what stood there, or is new and open
---     sight-lost, marks-back, marks-staying                                       scans that stay, where the queue has lost x
+--     From                                                                        what stood there, or is new and open
+--     sight-lost, marks-back                                                      where the queue has lost x
+--     scan-from, from-append                                                      what stood there, of a part
+--     marks-staying                                                               scans that stay
 --     marks-moving, sight-moved                                                   scans that move
 --     sight-alike, marks-unscan                                                   a scan taken out
 -- Assumes nothing.

@@ -2,10 +2,14 @@
 ghost use mathlib.Core.Path.{_≡_};
 ghost use Prim.Native.Nat.{_<_, _≤_};
 ghost use Rattle.calendar.specs.rules.Layout.{writeAll, started, lastNode};
+ghost use Rattle.calendar.specs.rules.Refusals.{badArrival};
 ghost use Rattle.calendar.specs.rules.Starts.{fill, enqueueStart, dequeueStart};
 ghost use Rattle.words.specs.Done.{done, gives};
 ghost use Rattle.words.specs.Laid.{Laid};
 ghost use Rattle.starts.specs.LocalStart.{earlyRefusal, localEnqueue, localDequeue};
+use admission::ranges::distance_in_range;
+use admission::ranges::order_in_range;
+use admission::ranges::path_in_range;
 use arrival::Arrival;
 use arrival::Item;
 use arrival::Response;
@@ -90,13 +94,22 @@ pub fn begin_dequeue(shape: Shape, mut w: Worker, store: &mut [u64]) -> Reply
     }
 }
 
+// What refusal 5 tests.
+fn is_bad(arrival: Arrival) -> bool
+    ensures { λ r. ⌜ r ≡ badArrival arrival ⌝ }
+{
+    let path = path_in_range(arrival.path as u64);
+    let order = order_in_range(arrival.order as u64);
+    let distance = distance_in_range(arrival.distance as u64);
+    !(path & order & distance)
+}
+
 // The refusals of a put by its arrival, its worker's stage and word 1: 5, 6, 9 or 11, or 0.
 fn enqueue_refusal(shape: Shape, arrival: Arrival, w: Worker, started: u64) -> u64
     requires { ⌜ (shape .width ≤ 65535) × (shape .buckets ≤ 256) ⌝ }
     ensures { λ r. ⌜ r ≡ earlyRefusal shape arrival w started ⌝ }
 {
-    let far = (1 <= arrival.distance) & (arrival.distance <= 1024);
-    if !((arrival.path <= 65535) & (arrival.order <= 63) & far) {
+    if is_bad(arrival) {
         return 5;
     }
     if shape.buckets * shape.width <= arrival.time as u64 {

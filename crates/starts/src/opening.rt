@@ -5,16 +5,17 @@ ghost use Rattle.calendar.specs.rules.Opening.{openWord, openStore};
 ghost use Rattle.words.specs.Laid.{Laid};
 use arrival::Shape;
 use words::layout_words;
+use words::word;
 
 // The word that opening writes at address i.
 fn open_word(shape: Shape, i: u64) -> u64
     requires { ⌜ (1 ≤ shape .nodes) × (shape .nodes ≤ 4096) × (shape .buckets ≤ 256) ⌝ }
     ensures { λ r. ⌜ r ≡ openWord shape i ⌝ }
 {
-    if i == 2 {
+    if i == word::LAST_NODE as u64 {
         return shape.nodes - 1;
     }
-    if (3 <= i) & (i < 3 + shape.buckets) {
+    if (word::HEADS <= i) & (i < word::HEADS + shape.buckets) {
         return 2 * shape.nodes;
     }
     0

@@ -1,9 +1,10 @@
 -- What the code holds between rounds, as the definition of a round has it.
---     inHand, further-on, in-hand-length     the bytes in hand, further on, and how many
---     holding, leaves                        what is held before a round, and left by it
---     Placed                                 the places lie in their buffers
---     read-behind, nothing-read              what a read handed over stands behind what was kept; nothing was
---     round-left                             the code's round is the definition's
+--     inHand                         the bytes in hand
+--     holding, leaves                what is held before a round, and left by it
+--     Placed                         the places lie in their buffers
+--     further-on, in-hand-length     the bytes in hand further on, and how many
+--     read-behind, nothing-read      what a read handed over stands behind what was kept; nothing was
+--     round-left                     the code's round is the definition's
 -- Assumes nothing.
 use mathlib.Core.Path.{_≡_, refl, sym, ap, _∙_, subst⁻¹}
 use mathlib.Core.Bool.{Bool, true, false, cond}

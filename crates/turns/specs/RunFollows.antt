@@ -1,10 +1,11 @@
 -- The loop follows the rounds: what has been done, and what is done from here on, is what the rounds do on what was read; where a round
 -- ends the run, that is what the turn file does.
 --     allRounds                              as many as a run may take
---     Followed, at-start                     what has been done, and what is to come
+--     Followed                               what has been done, and what is to come
 --     Whole, After, Interrupted, Outcome     what a run left, by why it ended
+--     at-start, spent                        nothing has been done; the rounds are spent
 --     working, reading                       the loop goes on; reads on
---     closed, Ends, finished, spent          it is closed; the file has ended; the rounds are spent
+--     closed, Ends, finished                 it is closed; the file has ended
 --     first-held, after-read                 before the first round; after a read
 -- Assumes nothing.
 use mathlib.Core.Path.{_≡_, refl, sym, ap, _∙_, subst, subst⁻¹}

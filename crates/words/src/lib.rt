@@ -17,18 +17,18 @@ pub fn layout_words(shape: Shape) -> usize
     requires { ⌜ (shape .buckets ≤ 256) × (shape .nodes ≤ 4096) ⌝ }
     ensures { λ r. ⌜ r ≡ layout shape ⌝ }
 {
-    (3 + shape.buckets + 8 * shape.nodes) as usize
+    (word::HEADS + shape.buckets + word::NODE_WORDS * shape.nodes) as usize
 }
 
-// A cell's address: the heads follow three words, and a node's link is the first of its eight words.
+// A cell's address: the heads follow the first words, and a node's link is the first of its words.
 fn cell_address(buckets: u64, p: u64) -> usize
     requires { ⌜ (p < 65536) × (buckets ≤ 256) ⌝ }
     ensures { λ r. ⌜ r ≡ 3 + p + 7 * (p - buckets) ⌝ }
 {
     if p < buckets {
-        (3 + p) as usize
+        (word::HEADS + p) as usize
     } else {
-        (3 + buckets + 8 * (p - buckets)) as usize
+        (word::HEADS + buckets + word::NODE_WORDS * (p - buckets)) as usize
     }
 }
 
@@ -56,7 +56,7 @@ pub fn get_field(shape: Shape, f: u64, n: u64, store: &[u64]) -> u64
     requires { ⌜ (f < 8) × (n < shape .nodes) ⌝ }
     ensures { λ r. ⌜ r ≡ read shape (now (store .entry)) (field f n) ⌝ }
 {
-    store[(3 + shape.buckets + 8 * n + f) as usize]
+    store[(word::HEADS + shape.buckets + word::NODE_WORDS * n + f) as usize]
 }
 
 pub fn put_word(shape: Shape, k: usize, v: u64, store: &mut [u64])
@@ -80,7 +80,7 @@ pub fn put_field(shape: Shape, f: u64, n: u64, v: u64, store: &mut [u64])
     requires { ⌜ (f < 8) × (n < shape .nodes) ⌝ }
     ensures { λ r. ⌜ now (store .exit) ≡ write shape (now (store .entry)) (field f n) v ⌝ }
 {
-    store[(3 + shape.buckets + 8 * n + f) as usize] = v;
+    store[(word::HEADS + shape.buckets + word::NODE_WORDS * n + f) as usize] = v;
 }
 
 // The key of the arrival in node n.

@@ -1,26 +1,25 @@
 -- All orders of a ledger's calls that may be a linearization, listed by a search: an order is built from the front, and a call
 -- comes next only if no call that is left had ended before it started, and the sequential queue answers as the pool did. The
 -- order of every linearization is in the list; where the list is empty, there is none.
---     isFinished, endedBefore, sameReply, all     tests on calls
---     mayEnd, mayBeNext                           what is left may be left out; a call may come next
---     ordersOf, upTo, admitted                    the orders found; of the calls 1 to n; of a ledger
---     linearization-admitted                      the order of every linearization is among them
+--     isFinished, endedBefore, sameReply     tests on calls
+--     mayEnd, mayBeNext                      what is left may be left out; a call may come next
+--     ordersOf, admitted                     the orders found; of a ledger
+--     linearization-admitted                 the order of every linearization is among them
 -- Assumes nothing.
-use mathlib.Core.Path.{_≡_, refl, _∙_, subst}
-use mathlib.Core.List.{List, [], _∷_, _++_, map, List·Memᴰ, List·Memᴰ·head, List·Memᴰ·tail, List·Memᴰ·not-nil, List·Memᴰ·cases-cons, Memᴰ·cast, Memᴰ·map}
-use mathlib.Core.List.{Memᴰ·append-left, Memᴰ·append-right}
+use mathlib.Core.Path.{_≡_, refl}
+use mathlib.Core.List.{List, [], _∷_, _++_, map, List·Memᴰ, List·Memᴰ·head, List·Memᴰ·tail, List·Memᴰ·not-nil, Memᴰ·map, Memᴰ·append-right}
 use mathlib.Core.Bool.{Bool, true, false, cond, not, _&&_, _||_}
 use mathlib.Core.Option.{Option, none, some}
-use mathlib.Core.Logic.{_⊎_, inl, inr}
-use Prim.Native.Nat.{ℕ, zero, suc, _-_, _≤_}
+use Prim.Native.Nat.{ℕ, zero, suc, _≤_}
 use native.Mathlib.Omega.{arith}
 use lib.Dec.{eqb, ltb}
-use lib.ListN.{length, length-map}
+use lib.ListN.{length}
 use borrow.Author.Tests.{eq-eqb, ltb-true}
 use Rattle.arrival.specs.declared.Response.{Response}
 use Rattle.arrival.specs.declared.Response.the-variants.{Opened, Begun, On, Stored, Took, Empty, Refused}
 use Rattle.arrival.specs.Queue.{Reply, Items, reply, after, replies}
-use Rattle.laws.specs.Lists.{mem-behind, Once, without, without-in, in-without, without-less, below, below-in, length-below}
+use Rattle.laws.specs.Lists.{mem-behind, Once, without, without-in, in-without, without-less, upTo, up-to-in, length-up-to}
+use Rattle.laws.specs.Lists.{sameNumbers, same-numbers, all, all-true, gathered, gathered-in}
 use Rattle.calendar.specs.rules.Ledger.{Ledger}
 use Rattle.calendar.specs.rules.Linearizability.{Finished, EndedBefore, RespectsTime, poolReply, Agree, Linearization}
 
@@ -44,22 +43,12 @@ numbers (Took time path order distance energy) = 4 ∷ time ∷ path ∷ order �
 numbers Empty = 5 ∷ []
 numbers (Refused k) = 6 ∷ k ∷ []
 
-abbrev sameNumbers : List ℕ → List ℕ → Bool
-sameNumbers [] [] = true
-sameNumbers [] (y ∷ ys) = false
-sameNumbers (x ∷ xs) [] = false
-sameNumbers (x ∷ xs) (y ∷ ys) = eqb x y && sameNumbers xs ys
-
 -- what the statement asks of a finished call's reply, and the test
 abbrev Same : Reply → Reply → Type 0
 Same r q = r ≡ q
 
 abbrev pub sameReply : Reply → Reply → Bool
 sameReply r q = eqb (r .ticket) (q .ticket) && sameNumbers (numbers (r .response)) (numbers (q .response))
-
-abbrev pub all : (ℕ → Bool) → List ℕ → Bool
-all f [] = true
-all f (x ∷ xs) = f x && all f xs
 
 -- ── the search ──
 -- what is left need not be there: none of it has finished
@@ -70,10 +59,6 @@ mayEnd L rest = all (λ c. not (isFinished (L .ended c))) rest
 abbrev pub mayBeNext : Ledger → Items → List ℕ → ℕ → Bool
 mayBeNext L S rest c =
     all (λ y. not (endedBefore (L .ended y) c)) (without c rest) && (not (isFinished (L .ended c)) || sameReply (reply S (L .asked c)) (poolReply L c))
-
-abbrev gathered : (ℕ → List (List ℕ)) → List ℕ → List (List ℕ)
-gathered f [] = []
-gathered f (c ∷ cs) = f c ++ gathered f cs
 
 abbrev ended : Bool → List (List ℕ)
 ended t = cond t ([] ∷ []) []
@@ -86,38 +71,12 @@ unfoldable pub ordersOf : Ledger → ℕ → Items → List ℕ → List (List �
 ordersOf L zero S rest = ended (mayEnd L rest)
 ordersOf L (suc n) S rest = ended (mayEnd L rest) ++ gathered (λ c. next (mayBeNext L S rest c) c (ordersOf L n (after S (L .asked c)) (without c rest))) rest
 
--- the calls 1 to n
-abbrev pub upTo : ℕ → List ℕ
-upTo n = map suc (below n)
-
 abbrev pub admitted : Ledger → List (List ℕ)
 admitted L = ordersOf L (L .started) [] (upTo (L .started))
 
 -- ── every linearization is found ──
-same-numbers : (xs : List ℕ) → sameNumbers xs xs ≡ true
-same-numbers [] = refl
-same-numbers (x ∷ xs) = rw (eq-eqb x x refl) (same-numbers xs)
-
 same-reply : (r q : Reply) → Same r q → sameReply r q ≡ true
 same-reply r q e = rw (← e, eq-eqb (r .ticket) (r .ticket) refl) (same-numbers (numbers (r .response)))
-
-all-true : (f : ℕ → Bool) (xs : List ℕ) → ((x : ℕ) → List·Memᴰ x xs → f x ≡ true) → all f xs ≡ true
-all-true f [] h = refl
-all-true f (x ∷ xs) h = rw (h x (List·Memᴰ·head refl)) (all-true f xs (λ y i. h y (List·Memᴰ·tail i)))
-
-gathered-in : (f : ℕ → List (List ℕ)) (cs : List ℕ) (c : ℕ) (o : List ℕ) → List·Memᴰ c cs → List·Memᴰ o (f c) → List·Memᴰ o (gathered f cs)
-gathered-in f [] c o i j = absurd (List·Memᴰ·not-nil i)
-gathered-in f (d ∷ ds) c o i j = pick (List·Memᴰ·cases-cons i) (λ k. gathered-in f ds c o k j)
-  where
-    pick : (c ≡ d) ⊎ List·Memᴰ c ds → (List·Memᴰ c ds → List·Memᴰ o (gathered f ds)) → List·Memᴰ o (f d ++ gathered f ds)
-    pick (inl e) rec = Memᴰ·append-left (gathered f ds) (subst (λ x. List·Memᴰ o (f x)) e j)
-    pick (inr k) rec = Memᴰ·append-right (f d) (rec k)
-
-up-to-in : (n c : ℕ) → 1 ≤ c → c ≤ n → List·Memᴰ c (upTo n)
-up-to-in n c lo hi = Memᴰ·cast (omega arith) (Memᴰ·map suc (below-in n (c - 1) (omega arith)))
-
-length-up-to : (n : ℕ) → length (upTo n) ≡ n
-length-up-to n = length-map (below n) suc ∙ length-below n
 
 module _ (L : Ledger) where
   not-finished : (c : ℕ) → (Finished L c → ⊥) → not (isFinished (L .ended c)) ≡ true

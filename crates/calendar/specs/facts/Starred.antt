@@ -1,9 +1,10 @@
 -- The starred cases (docs/RULES.md, cases by hand), as one table under one theorem: computed, entry by entry.
---     Case                                             a history after an opening, its responses, and current at its end
---     two-workers, arrival, turns, put, take, lent     what the cases are made of
---     table                                            the thirteen cases
---     Holds, All, starred-cases                        every case holds
---     words-after                                      every word after a put and a take
+--     Case                                       a history after an opening, its responses, and current at its end
+--     two-workers, arrival, turns, put, take     what the cases are made of
+--     table                                      the thirteen cases
+--     lent                                       the memory they are run on
+--     Holds, All, starred-cases                  every case holds
+--     words-after                                every word after a put and a take
 -- Assumes nothing.
 use mathlib.Core.Path.{_≡_, refl}
 use mathlib.Core.List.{List, [], _∷_, _++_}
@@ -59,11 +60,21 @@ ons k = replicate k On
 unfoldable pub put : ℕ → Arrival → ℕ → List Action
 put i a k = Enqueue i a ∷ turns i k
 
+ends : ℕ → ℕ → List Response
+ends c k = ons k ++ (Stored c ∷ [])
+
 stored : ℕ → ℕ → List Response
-stored c k = Begun c ∷ (ons k ++ (Stored c ∷ []))
+stored c k = Begun c ∷ ends c k
 
 unfoldable pub take : ℕ → ℕ → List Action
 take i k = Dequeue i ∷ turns i k
+
+-- four puts begin at one time, and one start more
+four-begin : List Action
+four-begin = Enqueue 0 (arrival 5 3) ∷ Enqueue 1 (arrival 5 3) ∷ Enqueue 2 (arrival 5 3) ∷ Enqueue 3 (arrival 5 3) ∷ Dequeue 2 ∷ []
+
+four-begun : List Response
+four-begun = Begun 1 ∷ Begun 2 ∷ Begun 3 ∷ Begun 4 ∷ Refused 9 ∷ []
 
 pub table : List Case
 table =
@@ -92,22 +103,23 @@ table =
     -- time 19 begins, 20 is 6
     ∷ record { shape = two-workers; history = Enqueue 0 (arrival 19 3) ∷ []; gives = Begun 1 ∷ []; bucket = 0; epoch = 0 }
     ∷ record { shape = two-workers; history = Enqueue 0 (arrival 20 3) ∷ []; gives = Refused 6 ∷ []; bucket = 0; epoch = 0 }
-    -- four puts begin on four workers, a fifth call on a busy worker is 9
+    -- four puts begin at 5 on four workers, a start on one of them is 9
     ∷ record {
       shape = four-workers;
-      history = Enqueue 0 (arrival 1 3) ∷ Enqueue 1 (arrival 2 3) ∷ Enqueue 2 (arrival 3 3) ∷ Enqueue 3 (arrival 4 3) ∷ Dequeue 2 ∷ [];
-      gives = Begun 1 ∷ Begun 2 ∷ Begun 3 ∷ Begun 4 ∷ Refused 9 ∷ [];
+      history = four-begin;
+      gives = four-begun;
       bucket = 0;
       epoch = 0;
     }
-    -- with four stored, a put is 12
+    -- then all turns of each worker: stored after 5, 6, 7 and 8; a put is 12
     ∷ record {
       shape = four-workers;
-      history = put 0 (arrival 15 3) 4 ++ put 1 (arrival 14 3) 5 ++ put 2 (arrival 13 3) 5 ++ put 3 (arrival 12 3) 5 ++ (Enqueue 0 (arrival 11 3) ∷ []);
-      gives = stored 1 3 ++ stored 2 4 ++ stored 3 4 ++ stored 4 4 ++ (Refused 12 ∷ []);
+      history = four-begin ++ turns 0 5 ++ turns 1 6 ++ turns 2 7 ++ turns 3 8 ++ (Enqueue 0 (arrival 5 3) ∷ []);
+      gives = four-begun ++ ends 1 4 ++ ends 2 5 ++ ends 3 6 ++ ends 4 7 ++ (Refused 12 ∷ []);
       bucket = 0;
-      epoch = 0;
+      epoch = 4;
     }
+    -- and so with two workers, one put after the other
     ∷ record {
       shape = two-workers;
       history = put 0 (arrival 15 3) 4 ++ put 1 (arrival 14 3) 5 ++ put 0 (arrival 13 3) 5 ++ put 1 (arrival 12 3) 5 ++ (Enqueue 0 (arrival 11 3) ∷ []);
@@ -158,10 +170,10 @@ All [] = Unit {0}
 All (c ∷ cs) = Holds c × All cs
 
 pub starred-cases : All table
-unfolding All Holds table lent two-workers four-workers arrival turns ons put stored take address read write every blank storeInRange tableInRange isFree
-    firstFreeOf firstFree wordsFrom openStore openTable enqueueStart dequeueStart found settle step-1 step-2 step-3 step-4 step-5 step-6 step-7 walk step-8
-    step-9 step-10 step-11 step-12 step-13 no-step step openRefusal enqueueRefusal dequeueRefusal stepRefusal open-pool act run responses lower bucketOf
-    energyOf
+unfolding All Holds table lent two-workers four-workers arrival turns ons put ends stored take four-begin four-begun address read write every blank
+    storeInRange tableInRange isFree firstFreeOf firstFree wordsFrom openStore openTable enqueueStart dequeueStart found settle step-1 step-2 step-3 step-4
+    step-5 step-6 step-7 walk step-8 step-9 step-10 step-11 step-12 step-13 no-step step openRefusal enqueueRefusal dequeueRefusal stepRefusal open-pool act
+    run responses lower bucketOf energyOf
 starred-cases = (
   (refl, refl, refl),
   (

@@ -3,8 +3,9 @@
 --     outcome-said                                      what is accepted answers no refusal
 --     act-refused-untouched, open-refused-untouched     what is refused changes nothing
 --     SameSize, SameBeyond                              as long; the same beyond the layout and the workers
---     act-same-size, act-same-beyond                    starts and turns keep both
+--     act-same-size                                     starts and turns keep the first
 --     outcome-inside                                    an accepted action acts for a worker of the shape, and writes in the layout
+--     act-same-beyond                                   starts and turns keep the second
 --     others-untouched                                  other workers' records stay
 --     open-same-size, open-same-beyond                  the opening keeps both
 --     run-same-size, run-same-beyond                    so does a history

@@ -1,4 +1,15 @@
--- The refusals by number, and which of them each operation gets. Assumes nothing.
+-- The refusals by number, and which of them each operation gets.
+--     badShape, short, tooShort, outOfRange, noWorker     1 to 4: of the memory, and of the worker's number
+--     badArrival, tooLate                                 5 and 6: of an arrival
+--     busy, idle, noTicket, noEpoch, noNode               9 to 12: of the worker's record and of the store
+--     firstOf                                             the first number whose test applies
+--     lengthTests, memoryTests                            1 and 2; 1 to 4
+--     earlyOwn, lateOwn, enqueueOwn, dequeueOwn           an operation's own, behind 1 to 4: a put's, a take's
+--     stepOwn, ownTests                                   a turn's; any action's
+--     openTests, memoryOf                                 an opening's; 1 to 4, of store and table
+--     enqueueTests, dequeueTests, stepTests               all that an operation can get
+--     openRefusal, enqueueRefusal .. stepRefusal          the answer: the lowest that applies, or 0
+-- Assumes nothing.
 use mathlib.Core.List.{List, [], _∷_, _++_}
 use mathlib.Core.Bool.{Bool, cond, not, _&&_, _||_}
 use Prim.Native.Nat.{ℕ, _*_}

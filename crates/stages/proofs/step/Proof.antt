@@ -1,4 +1,9 @@
--- A turn is its stage's function, arm by arm. Assumes nothing.
+-- A turn is its stage's function, arm by arm.
+--     refuse-requires .. refuse-requires-2     what each arm's function asks: a record of that stage, and a node on its right at 2, 3, 10 and 11
+--     returns                                  stage 0 is refused
+--     same-length .. returns-14                each arm leaves the store as long, and gives what the rule of its stage gives; at 7 with its refusal
+--     returns-15                               a stage past 13 is refused
+-- Assumes nothing.
 use mathlib.Core.Path.{_∙_}
 use native.Mathlib.Omega.{arith}
 use Rattle.stages.specs.LocalStep.{at-idle, at-stage, at-seven, at-none, beyond}

@@ -1,6 +1,7 @@
 -- Each arm writes the line of its response; the values that it prints are words, so the line is short.
---
---     write-line-spec     `write_line` meets its contract
+--     enum-told .. number-line-requires-3     what each arm's function asks
+--     same-length .. returns-7                each arm keeps the buffer's length and writes its line: open, begun, on, stored, took, empty, no
+--     write-line-spec                         `write_line` meets its contract
 -- Assumes nothing.
 use native.Mathlib.Omega.{arith}
 use borrow.Author.Needs.{needs}

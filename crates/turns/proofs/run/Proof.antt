@@ -1,5 +1,13 @@
 -- The loop follows the rounds, and its places lie within their buffers.
---     run-spec     `run` meets its contract
+--     Inv-loop, μ-loop                     before each round: the places lie in their buffers, and the rounds done and left are all of them
+--     fresh-pool-requires, loop-holds      so it is at the start
+--     sub-left .. write-all-requires       what a round asks, and the writing of its lines
+--     same-length .. returns               the output is closed
+--     enum-told .. loop-again              the round goes on with the bytes in hand
+--     enum-told-2 .. loop-again-2          it goes on after a read
+--     enum-told-3 .. returns-3             the file has ended, in two ways
+--     same-length-10 .. returns-4          the rounds are spent
+--     run-spec                             `run` meets its contract
 -- Assumes nothing.
 use mathlib.Core.Path.{_≡_, refl, sym, subst, subst⁻¹}
 use Prim.Native.Nat.{_≤_}

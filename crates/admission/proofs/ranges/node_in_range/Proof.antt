@@ -30,6 +30,12 @@ get-field-requires-6 c κs = search needs
 get-field-requires-7 : tie.Need-get-field-requires-7
 get-field-requires-7 c κs = search needs
 
+path-in-range-requires : tie.Need-path-in-range-requires
+path-in-range-requires c κs = search needs
+
+order-in-range-requires : tie.Need-order-in-range-requires
+order-in-range-requires c κs = search needs
+
 returns : tie.Need-returns
 returns c = cc
 
@@ -46,4 +52,6 @@ node-in-range-spec =
     get-field-requires-5
     get-field-requires-6
     get-field-requires-7
+    path-in-range-requires
+    order-in-range-requires
     returns)
