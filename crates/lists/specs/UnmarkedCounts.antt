@@ -25,7 +25,8 @@ module _ (sh : Shape) where
   abbrev pub total : (ℕ → ℕ) → Chains → ℕ → ℕ
   total c ch n = tally (unmarkedCount c) ch n
 
-  pub unmarked-frame : (c d : ℕ → ℕ) (ns : List ℕ) → ((n : ℕ) → In n ns → d (sh .buckets + n) % 2 ≡ c (sh .buckets + n) % 2) → unmarkedCount d ns ≡ unmarkedCount c ns
+  pub unmarked-frame : (c d : ℕ → ℕ) (ns : List ℕ) → ((n : ℕ) → In n ns → d (sh .buckets + n) % 2 ≡ c (sh .buckets + n) % 2)
+      → unmarkedCount d ns ≡ unmarkedCount c ns
   unmarked-frame c d [] h = refl
   unmarked-frame c d (n ∷ ns) h = omega (arith, h n (List·Memᴰ·head refl), unmarked-frame c d ns (λ k j. h k (List·Memᴰ·tail j)))
 
@@ -40,12 +41,14 @@ module _ (sh : Shape) where
   unmarked-insert c o (Spot.here e) = refl
   unmarked-insert c o (Spot.there sp) = omega (arith, unmarked-insert c o sp)
 
-  pub unmarked-remove : (c : ℕ → ℕ) {ℓ r p : ℕ} {ns : List ℕ} (g : Edge sh ℓ r p ns) → unmarkedCount c ns ≡ (1 - (c (sh .buckets + r) % 2)) + unmarkedCount c (removeAt sh g)
+  pub unmarked-remove : (c : ℕ → ℕ) {ℓ r p : ℕ} {ns : List ℕ} (g : Edge sh ℓ r p ns)
+      → unmarkedCount c ns ≡ (1 - (c (sh .buckets + r) % 2)) + unmarkedCount c (removeAt sh g)
   unfolding removeAt
   unmarked-remove c (Edge.here {ns = ns} e f) = ap (λ y. (1 - (c (sh .buckets + y) % 2)) + unmarkedCount c ns) f
   unmarked-remove c (Edge.there g) = omega (arith, unmarked-remove c g)
 
-  pub total-set : (c : ℕ → ℕ) (ch : Chains) (b : ℕ) (xs : List ℕ) (n : ℕ) → b < n → total c (setChain ch b xs) n + unmarkedCount c (ch b) ≡ total c ch n + unmarkedCount c xs
+  pub total-set : (c : ℕ → ℕ) (ch : Chains) (b : ℕ) (xs : List ℕ) (n : ℕ) → b < n
+      → total c (setChain ch b xs) n + unmarkedCount c (ch b) ≡ total c ch n + unmarkedCount c xs
   total-set c ch b xs n h = tally-with (unmarkedCount c) ch b xs n h
 
   module _ (c d : ℕ → ℕ) (x : ℕ) (was : c (sh .buckets + x) % 2 ≡ 0) (is : d (sh .buckets + x) % 2 ≡ 1)
@@ -69,5 +72,7 @@ module _ (sh : Shape) where
         other q k u i = frame k (λ e. u (one q (subst (λ (y : ℕ). In y (ch q)) e i)))
 
         go : Dec (b ≡ n) → (b < n → total c ch n ≡ 1 + total d ch n) → unmarkedCount c (ch n) + total c ch n ≡ 1 + (unmarkedCount d (ch n) + total d ch n)
-        go (yes e) ih = omega (arith, unmarked-mark (ch n) (ds n) (subst (λ q. In x (ch q)) e j), total-frame c d ch n (λ q k l i. other q k (λ f. omega arith) i))
+        go (yes e) ih =
+            let here = unmarked-mark (ch n) (ds n) (subst (λ q. In x (ch q)) e j) in
+            omega (arith, here, total-frame c d ch n (λ q k l i. other q k (λ f. omega arith) i))
         go (no u) ih = omega (arith, unmarked-frame c d (ch n) (λ k i. other n k (λ f. u (sym f)) i), ih (omega arith))
