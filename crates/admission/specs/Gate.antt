@@ -5,6 +5,7 @@
 --     refusal-is, refused-is         the gate's refusal, or the first of its own, is the action's; what the gate refuses does nothing
 --     turn-at-3                      nothing else refuses a turn at stage 3
 --     openGate, open-gate-is         the first of 1 and 2: an opening's refusal
+--     openResponse                   its response, by that number
 --     open-passed                    where there is none: the limits of the shape, and enough words and records
 --     gate-parts                     the gate's refusal is an opening's, or goes by the flag and the worker
 --     Tight, gate-opens, passes      a flag down where 1 or 2 applies; an opening's refusals among the gate's; who passes
@@ -18,17 +19,18 @@ use mathlib.Core.Logic.{_≢_}
 use Prim.Native.Nat.{ℕ, _≤_, _<_}
 use native.Mathlib.Omega.{arith}
 use lib.Dec.{eqb}
-use lib.ListN.{length, drop}
+use lib.ListN.{length}
 use borrow.Author.Tests.{not-false, eqb-true, ltb-false, leb-false, le-leb, lt-leb, le-ltb, eq-eqb, ne-eqb}
 use Rattle.arrival.specs.declared.Shape.{Shape}
-use Rattle.arrival.specs.declared.Response.the-variants.{Refused}
+use Rattle.arrival.specs.declared.Response.{Response}
+use Rattle.arrival.specs.declared.Response.the-variants.{Opened, Refused}
 use Rattle.arrival.specs.declared.Action.{Action}
 use Rattle.arrival.specs.declared.Action.the-variants.{Step}
 use Rattle.laws.specs.Tests.{neither}
 use Rattle.calendar.specs.rules.Layout.{layout}
 use Rattle.calendar.specs.rules.Ranges.{worker, shapeInRange, storeInRange, tableInRange}
 use Rattle.calendar.specs.facts.RangeFacts.{Limits, limits}
-use Rattle.calendar.specs.rules.Refusals.{firstOf, badShape, short, tooShort, outOfRange, noWorker, lengthTests, memoryTests, memoryOf, openRefusal}
+use Rattle.calendar.specs.rules.Refusals.{firstOf, badShape, short, tooShort, outOfRange, noWorker, lengthTests, fieldTests, memoryTests, memoryOf, openRefusal}
 use Rattle.calendar.specs.facts.FirstOf.{None, first-append, first-parts, first-none}
 use Rattle.calendar.specs.facts.Accepted.{Lent, Usable, lent, memory-accepted}
 use Rattle.calendar.specs.facts.RefusalParts.{refusal-first}
@@ -100,6 +102,10 @@ pub open-gate-is : (sh : Shape) (m : Memory) → openGate sh (length (m .store))
 unfolding openGate openRefusal
 open-gate-is sh m = refl
 
+-- the response, by the number k that refuses an opening, or 0
+abbrev pub openResponse : ℕ → Response
+openResponse k = cond (eqb k 0) Opened (Refused k)
+
 open-none : (sh : Shape) (words records : ℕ) → openGate sh words records ≡ 0 → None (lengthTests sh (short sh words records))
 unfolding openGate
 open-none sh words records e = first-none (lengthTests sh (short sh words records)) refl e
@@ -113,9 +119,9 @@ open-passed sh words records e =
 
 -- the gate's refusal is an opening's, or goes by the flag and the worker
 pub gate-parts : (sh : Shape) (words records i : ℕ) (sound : Bool) → gateOf sh words records i sound
-    ≡ cond (eqb (openGate sh words records) 0) (firstOf ((3, not sound) ∷ (4, noWorker sh i) ∷ [])) (openGate sh words records)
+    ≡ cond (eqb (openGate sh words records) 0) (firstOf (fieldTests sh (not sound) i)) (openGate sh words records)
 unfolding gateOf openGate
-gate-parts sh words records i sound = first-append (lengthTests sh (short sh words records)) ((3, not sound) ∷ (4, noWorker sh i) ∷ []) refl
+gate-parts sh words records i sound = first-append (lengthTests sh (short sh words records)) (fieldTests sh (not sound) i) refl
 
 -- a flag that is down where 1 or 2 applies
 abbrev pub Tight : Shape → ℕ → ℕ → Bool → Type 0
@@ -124,10 +130,7 @@ Tight sh words records sound = sound ≡ true → openGate sh words records ≡ 
 -- an opening's refusals are among the gate's
 pub gate-opens : (sh : Shape) (words records i : ℕ) (sound : Bool) → gateOf sh words records i sound ≡ 0 → openGate sh words records ≡ 0
 unfolding gateOf openGate
-gate-opens sh words records i sound e =
-    let tests = memoryTests sh (short sh words records) (not sound) i in
-    let opens = lengthTests sh (short sh words records) in
-    first-parts opens (drop (length opens) tests) refl e .0
+gate-opens sh words records i sound e = first-parts (lengthTests sh (short sh words records)) (fieldTests sh (not sound) i) refl e .0
 
 -- a worker that exists passes where the flag is up and 1 and 2 do not apply
 pub passes : (sh : Shape) (words records i : ℕ) (sound : Bool) → openGate sh words records ≡ 0 → sound ≡ true → i < sh .workers

@@ -11,7 +11,7 @@ ghost use Rattle.batch.specs.Held.{heldAll};
 ghost use Rattle.batch.specs.CodeView.{begins, ends, Sound, heldOf, stoppedOf};
 ghost use Rattle.batch.specs.Tickets.{ticketsOf};
 ghost use Rattle.batch.specs.RoundArms.{Line};
-ghost use Rattle.batch.specs.OpeningRounds.{openingAnswer};
+ghost use Rattle.admission.specs.Gate.{openResponse};
 ghost use Rattle.batch.specs.ActHeld.{heldAct, soundAfter, placeOf};
 ghost use Rattle.operation.specs.LocalAct.{Admitted};
 use admission::gate;
@@ -141,7 +141,7 @@ fn place_of(action: Action) -> usize
 
 // The line of an opening that is refused by k, or k is 0.
 fn write_opening(k: u64, out: &mut [u8], to: usize) -> usize
-    ensures { λ r. ⌜ Line (now (out .entry)) to (openingAnswer k) (now (out .exit)) r ⌝ }
+    ensures { λ r. ⌜ Line (now (out .entry)) to (openResponse k) (now (out .exit)) r ⌝ }
 {
     if k != 0 {
         return write_refusal(k, out, to);

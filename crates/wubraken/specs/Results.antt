@@ -5,7 +5,7 @@
 --     actOn, refused-on, done-on     refused by 1 to 4, or done; by what the gate said
 --     acted                          what is done on one record and put back is the operation
 --     away-is                        so is the refusal of a worker past the records that were looked at
---     recordsOpened, openResponse    an opening by the number that refuses it: how many records it clears, its response
+--     recordsOpened                  how many records an opening clears, by the number that refuses it
 --     opened-bound, open-is          no more than there are; with the store opened and the records cleared it is the opening
 -- Assumes nothing.
 use mathlib.Core.Path.{_≡_, refl, sym, ap, _∙_}
@@ -20,7 +20,6 @@ use lib.Seq.{set-getD}
 use borrow.Author.Tests.{eqb-true, eqb-false, ltb-false, le-ltb, eq-eqb, ne-eqb}
 use Rattle.arrival.specs.declared.Shape.{Shape}
 use Rattle.arrival.specs.declared.Worker.{Worker}
-use Rattle.arrival.specs.declared.Response.{Response}
 use Rattle.arrival.specs.declared.Response.the-variants.{Opened, Refused}
 use Rattle.arrival.specs.declared.Action.{Action}
 use Rattle.arrival.specs.declared.Action.the-variants.{Enqueue, Dequeue, Step}
@@ -33,7 +32,7 @@ use Rattle.words.specs.Done.{Done, gives, refused, unlessRefused}
 use Rattle.words.specs.declared.replies.Reply.{Reply}
 use Rattle.operation.specs.LocalAct.{localAct, LowFor, back, act-is}
 use Rattle.admission.specs.Watched.{Watched}
-use Rattle.admission.specs.Gate.{soundOf, sound-watched, shape-tests, usable, refused-is, openGate, open-passed}
+use Rattle.admission.specs.Gate.{soundOf, sound-watched, shape-tests, usable, refused-is, openGate, openResponse, open-passed}
 use Rattle.wubraken.specs.declared.table.Survey.{Survey}
 use Rattle.wubraken.specs.declared.answers.Answer.{Answer}
 use Rattle.wubraken.specs.Answers.{answerOf, saidBy, answer-said}
@@ -129,12 +128,9 @@ module _ (sh : Shape) (s : List ℕ) (t : List Worker) where
       omega (arith, ltb-false (actor a) (survey sh t .records) beyond, survey-records sh t (surveyed sh (length t)) (surveyed sh (length t)), all, p .exists)))
 
 -- ── opening ──
--- by the number k that refuses it, or 0: how many records it clears, and its response
+-- how many records it clears, by the number k that refuses it, or 0
 abbrev pub recordsOpened : Shape → ℕ → ℕ
 recordsOpened sh k = cond (eqb k 0) (sh .workers) 0
-
-abbrev pub openResponse : ℕ → Response
-openResponse k = cond (eqb k 0) Opened (Refused k)
 
 -- no more than there are
 pub opened-bound : (sh : Shape) (s : List ℕ) (n k : ℕ) → k ≡ openGate sh (length s) n → recordsOpened sh k ≤ n

@@ -17,7 +17,7 @@ use arrival::Worker;
 use operation::open_lent;
 use records::act_on_record;
 use records::open_answer;
-use records::place_of;
+use records::index_of;
 use records::records_opened;
 use records::turn_away;
 use table::clear_table;
@@ -57,7 +57,7 @@ pub fn act_lent(shape: Shape, action: Action, store: &mut [u64], table: &mut [Wo
 {
     let n = table.len();
     let seen = survey_table(shape, table);
-    let i = place_of(action);
+    let i = index_of(action);
     if i < seen.records {
         let w = table[i];
         let r = act_on_record(shape, action, n, seen, w, store);

@@ -6,7 +6,8 @@ ghost use Rattle.wubraken.specs.Survey.{Surveyed};
 ghost use Rattle.wubraken.specs.LentGate.{gateOn};
 ghost use Rattle.words.specs.Done.{gives};
 ghost use Rattle.calendar.specs.rules.Operations.{actor as actorOf};
-ghost use Rattle.wubraken.specs.Results.{actOn, recordsOpened, openResponse};
+ghost use Rattle.wubraken.specs.Results.{actOn, recordsOpened};
+ghost use Rattle.admission.specs.Gate.{openResponse};
 use super::answers::Answer;
 use super::answers::answer_of;
 use super::table::Survey;
@@ -38,8 +39,8 @@ pub fn turn_away(shape: Shape, i: usize, n: usize, seen: Survey, store: &mut [u6
     answer_of(Response::Refused(k))
 }
 
-// Where the record of an action's worker stands, if it has one.
-pub fn place_of(action: Action) -> usize
+// The worker of an action, as an index.
+pub fn index_of(action: Action) -> usize
     ensures { λ r. ⌜ r ≡ actorOf action ⌝ }
 {
     actor(action) as usize
@@ -57,7 +58,7 @@ pub fn act_on_record(
     requires { ⌜ Surveyed shape (actorOf action) seen w ⌝ }
     ensures { λ r. ⌜ gives (now (store .exit)) r ≡ actOn shape action n seen (now (store .entry)) w ⌝ }
 {
-    let i = place_of(action);
+    let i = index_of(action);
     let k = gate_on(shape, i, n, seen, store);
     if k != 0 {
         return refuse(w, k);

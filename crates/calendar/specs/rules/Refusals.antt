@@ -3,7 +3,7 @@
 --     badArrival, tooLate                                 5 and 6: of an arrival
 --     busy, idle, noTicket, noEpoch, noNode               9 to 12: of the worker's record and of the store
 --     firstOf                                             the first number whose test applies
---     lengthTests, memoryTests                            1 and 2; 1 to 4
+--     lengthTests, fieldTests, memoryTests                1 and 2; 3 and 4; both
 --     earlyOwn, lateOwn, enqueueOwn, dequeueOwn           an operation's own, behind 1 to 4: a put's, a take's
 --     stepOwn, ownTests                                   a turn's; any action's
 --     openTests, memoryOf                                 an opening's; 1 to 4, of store and table
@@ -80,8 +80,11 @@ firstOf (x ∷ xs) = cond (x .1) (x .0) (firstOf xs)
 abbrev pub lengthTests : Shape → Bool → List (ℕ × Bool)
 lengthTests sh isShort = (1, badShape sh) ∷ (2, isShort) ∷ []
 
+abbrev pub fieldTests : Shape → Bool → ℕ → List (ℕ × Bool)
+fieldTests sh isOut i = (3, isOut) ∷ (4, noWorker sh i) ∷ []
+
 abbrev pub memoryTests : Shape → Bool → Bool → ℕ → List (ℕ × Bool)
-memoryTests sh isShort isOut i = lengthTests sh isShort ++ (3, isOut) ∷ (4, noWorker sh i) ∷ []
+memoryTests sh isShort isOut i = lengthTests sh isShort ++ fieldTests sh isOut i
 
 -- of a put, before a node is looked for: `spent` says that no ticket is left; and then, `none` that no node is free
 abbrev pub earlyOwn : Shape → Arrival → Worker → Bool → List (ℕ × Bool)

@@ -85,10 +85,10 @@ use Rattle.wubraken.proofs.table.survey_table as scan
 use Rattle.wubraken.proofs.table.survey_table.Symbol as scan-def
 use Rattle.wubraken.proofs.table.survey_table.Symbol.{name as #scan}
 use Rattle.wubraken.proofs.table.survey_table.Met as scan-thm
-use Rattle.wubraken.proofs.records.place_of as place
-use Rattle.wubraken.proofs.records.place_of.Symbol as place-def
-use Rattle.wubraken.proofs.records.place_of.Symbol.{name as #place}
-use Rattle.wubraken.proofs.records.place_of.Met as place-thm
+use Rattle.wubraken.proofs.records.index_of as index
+use Rattle.wubraken.proofs.records.index_of.Symbol as index-def
+use Rattle.wubraken.proofs.records.index_of.Symbol.{name as #index}
+use Rattle.wubraken.proofs.records.index_of.Met as index-thm
 use Rattle.wubraken.proofs.records.act_on_record as turn
 use Rattle.wubraken.proofs.records.act_on_record.Symbol as turn-def
 use Rattle.wubraken.proofs.records.act_on_record.Symbol.{name as #turn}
@@ -154,8 +154,8 @@ fails false h = refl
 abbrev Turn : {M : Type 1} (𝓤 : URA M) (H : Heap 𝓤) (A : Atoms 𝓤) (mem : Memory → SProp 𝓤) (run : Routine → Fun 𝓤) → Contract 𝓤
 Turn 𝓤 H A mem run = tripleOf 𝓤 H A turn.signature (turn.spec 𝓤 H A mem run)
 
-abbrev Placed : {M : Type 1} (𝓤 : URA M) (H : Heap 𝓤) (A : Atoms 𝓤) (mem : Memory → SProp 𝓤) (run : Routine → Fun 𝓤) → Contract 𝓤
-Placed 𝓤 H A mem run = tripleOf 𝓤 H A place.signature (place.spec 𝓤 H A mem run)
+abbrev Indexed : {M : Type 1} (𝓤 : URA M) (H : Heap 𝓤) (A : Atoms 𝓤) (mem : Memory → SProp 𝓤) (run : Routine → Fun 𝓤) → Contract 𝓤
+Indexed 𝓤 H A mem run = tripleOf 𝓤 H A index.signature (index.spec 𝓤 H A mem run)
 
 abbrev Tell : {M : Type 1} (𝓤 : URA M) (H : Heap 𝓤) (A : Atoms 𝓤) (mem : Memory → SProp 𝓤) (run : Routine → Fun 𝓤) → Contract 𝓤
 Tell 𝓤 H A mem run = tripleOf 𝓤 H A tell.signature (tell.spec 𝓤 H A mem run)
@@ -172,10 +172,10 @@ scan-of : {M : Type 1} (𝓤 : URA M) (H : Heap 𝓤) (A : Atoms 𝓤) (mem : Me
     → ent 𝓤 (ensured 𝓤 H A scan.ended (scan.clauses 𝓤 H A mem run) (κ, tt) (sh, (y, tt)) tt r) (fact 𝓤 (r ≡ survey sh (y .now)))
 scan-of 𝓤 H A mem run κ sh y r = exE 𝓤 _ (λ ws. snd∗ 𝓤 (sem 𝓤 H A (lasts scan.ended (κ, tt) (sh, (y, tt)) ws)) (fact 𝓤 (r ≡ survey sh (y .now))))
 
--- the same of `place_of` and `answer_of`
-place-of : {M : Type 1} (𝓤 : URA M) (H : Heap 𝓤) (A : Atoms 𝓤) (mem : Memory → SProp 𝓤) (run : Routine → Fun 𝓤) (x : Action) (n : ℕ)
-    → ent 𝓤 (ensured 𝓤 H A place.ended (place.clauses 𝓤 H A mem run) tt (x, tt) tt n) (fact 𝓤 (n ≡ actor x))
-place-of 𝓤 H A mem run x n = exE 𝓤 _ (λ ws. snd∗ 𝓤 (sem 𝓤 H A (lasts place.ended tt (x, tt) ws)) (fact 𝓤 (n ≡ actor x)))
+-- the same of `index_of` and `answer_of`
+index-of : {M : Type 1} (𝓤 : URA M) (H : Heap 𝓤) (A : Atoms 𝓤) (mem : Memory → SProp 𝓤) (run : Routine → Fun 𝓤) (x : Action) (n : ℕ)
+    → ent 𝓤 (ensured 𝓤 H A index.ended (index.clauses 𝓤 H A mem run) tt (x, tt) tt n) (fact 𝓤 (n ≡ actor x))
+index-of 𝓤 H A mem run x n = exE 𝓤 _ (λ ws. snd∗ 𝓤 (sem 𝓤 H A (lasts index.ended tt (x, tt) ws)) (fact 𝓤 (n ≡ actor x)))
 
 tell-of : {M : Type 1} (𝓤 : URA M) (H : Heap 𝓤) (A : Atoms 𝓤) (mem : Memory → SProp 𝓤) (run : Routine → Fun 𝓤) (y : Response) (a : Answer)
     → ent 𝓤 (ensured 𝓤 H A tell.ended (tell.clauses 𝓤 H A mem run) tt (y, tt) tt a) (fact 𝓤 (a ≡ answerOf y))
@@ -327,7 +327,7 @@ module _ {M : Type 1} (𝓤 : URA M) (H : Heap 𝓤) (A : Atoms 𝓤) (W : Given
       frame ! $ owned ! R.the-row (Is R.the-row) (LL.makes R.the-type R′.the-plain 𝓤 H A) r _ is $ done !
 
   module _ (C : Calls 𝓤 H) (Λ : Loops 𝓤 H) (fm : FmC 𝓤 H (W .laws) C) (known-scan : Triple 𝓤 (C #scan) (Scan 𝓤 H A mem run))
-      (known-place : Triple 𝓤 (C #place) (Placed 𝓤 H A mem run)) (known : Triple 𝓤 (C #turn) (Turn 𝓤 H A mem run))
+      (known-index : Triple 𝓤 (C #index) (Indexed 𝓤 H A mem run)) (known : Triple 𝓤 (C #turn) (Turn 𝓤 H A mem run))
       (known-tell : Triple 𝓤 (C #tell) (Tell 𝓤 H A mem run))
       (known-away : Triple 𝓤 (C #away) (Away 𝓤 H A mem run)) where
     walk : ent 𝓤 (onEntry 𝓤 H A f.signature (κ, (κ′, tt)) (q, (q′, tt)) args at)
@@ -368,8 +368,8 @@ module _ {M : Type 1} (𝓤 : URA M) (H : Heap 𝓤) (A : Atoms 𝓤) (W : Given
         use2 W (later (‵ (MutSlice (named 1) κ′ T.the-row .own (t ys) (tv ∷ [])) ⊛ ‵ (flft κ′ q′))) (comes-back-shared T.the-row κ′ (ν ∷ []) q′ γ′ b′ o′ 𝓤 H A W
         (named 1) (named 0) ys room) $ await ! tt $ split ! $
         -- [the table; its token; true; true; the store's token; the store; the locals, the last first]
-        calls-value ! fm (place.signature .params) (place.signature .result) (place.spec 𝓤 H A mem run) known-place (x, tt) (vals-ac x, tt) tt (id⊢ 𝓤 (emp 𝓤))
-        (EL.makes Ac.the-type Ac′.the-plain 𝓤 H A, tt) (x-is, tt) (λ n. n ≡ i) (place-of 𝓤 H A mem run x)
+        calls-value ! fm (index.signature .params) (index.signature .result) (index.spec 𝓤 H A mem run) known-index (x, tt) (vals-ac x, tt) tt (id⊢ 𝓤 (emp 𝓤))
+        (EL.makes Ac.the-type Ac′.the-plain 𝓤 H A, tt) (x-is, tt) (λ n. n ≡ i) (index-of 𝓤 H A mem run x)
         (and-then ! (load ! (from ! (stop !)) (look ! 43 refl)) (no-more !)) (λ v₁ n e₁ is₁.
         land ! (from ! (stop !)) (init ! 32 refl
         (subst (λ (y : Val). Holds (hasTy (tyInt w64) y) × WT y) (sym (ap only (is₁ .0))) (tt, record { fits = is₁ .1 }))) $
@@ -512,10 +512,10 @@ module _ {M : Type 1} (𝓤 : URA M) (H : Heap 𝓤) (A : Atoms 𝓤) (W : Given
 
 module _ {M : Type 1} (𝓤 : URA M) (H : Heap 𝓤) (A : Atoms 𝓤) (W : Given 𝓤 H A) (mem : Memory → SProp 𝓤) (run : Routine → Fun 𝓤) where
   walks : (C : Calls 𝓤 H) (Λ : Loops 𝓤 H) → FmC 𝓤 H (W .laws) C → Triple 𝓤 (C #scan) (Scan 𝓤 H A mem run)
-      → Triple 𝓤 (C #place) (Placed 𝓤 H A mem run) → Triple 𝓤 (C #turn) (Turn 𝓤 H A mem run)
+      → Triple 𝓤 (C #index) (Indexed 𝓤 H A mem run) → Triple 𝓤 (C #turn) (Turn 𝓤 H A mem run)
       → Triple 𝓤 (C #tell) (Tell 𝓤 H A mem run) → Triple 𝓤 (C #away) (Away 𝓤 H A mem run)
       → Walks 𝓤 H A f.ended stayed (WpFn 𝓤 H C Λ code.function) (f.clauses 𝓤 H A mem run)
-  walks C Λ fm known-scan known-place known known-tell known-away = walked 𝓤 H A f.ended stayed (f.clauses 𝓤 H A mem run) (WpFn 𝓤 H C Λ code.function)
+  walks C Λ fm known-scan known-index known known-tell known-away = walked 𝓤 H A f.ended stayed (f.clauses 𝓤 H A mem run) (WpFn 𝓤 H C Λ code.function)
       (λ κs. (vals-sh, (vals-ac, (slice-vals, (slice-vals, tt)))))
       (λ κs. (
         LL.tells Sh.the-type Sh′.the-laws,
@@ -524,14 +524,14 @@ module _ {M : Type 1} (𝓤 : URA M) (H : Heap 𝓤) (A : Atoms 𝓤) (W : Given
       (λ κs qs bounds a g are. via 𝓤 _ (fst∗ 𝓤 _ (emp 𝓤))
       (walk 𝓤 H A W mem run (κs .0) (κs .1 .0) (qs .0) (qs .1 .0) (a .0) (a .1 .0) (a .1 .1 .0 .ptr .0) (a .1 .1 .0 .ptr .1) (a .1 .1 .0 .name)
       (a .1 .1 .0 .now) (a .1 .1 .1 .0 .ptr .0) (a .1 .1 .1 .0 .ptr .1) (a .1 .1 .1 .0 .name) (a .1 .1 .1 .0 .now)
-      (are .0) (are .1 .0) (are .1 .1 .0 .0 .1) (are .1 .1 .1 .0 .0 .1) C Λ fm known-scan known-place known known-tell known-away))
+      (are .0) (are .1 .0) (are .1 .1 .0 .0 .1) (are .1 .1 .1 .0 .0 .1) C Λ fm known-scan known-index known known-tell known-away))
 
 meets : {M : Type 1} (𝓤 : URA M) (H : Heap 𝓤) (A : Atoms 𝓤) → Given 𝓤 H A → (mem : Memory → SProp 𝓤) (run : Routine → Fun 𝓤) (𝓣 : Tables 𝓤 H)
-    → Triple 𝓤 (𝓣 .C #scan) (Scan 𝓤 H A mem run) → Triple 𝓤 (𝓣 .C #place) (Placed 𝓤 H A mem run)
+    → Triple 𝓤 (𝓣 .C #scan) (Scan 𝓤 H A mem run) → Triple 𝓤 (𝓣 .C #index) (Indexed 𝓤 H A mem run)
     → Triple 𝓤 (𝓣 .C #turn) (Turn 𝓤 H A mem run) → Triple 𝓤 (𝓣 .C #tell) (Tell 𝓤 H A mem run)
     → Triple 𝓤 (𝓣 .C #away) (Away 𝓤 H A mem run)
     → Meets 𝓤 H A f.signature (WpFn 𝓤 H (𝓣 .C) (𝓣 .Λ) code.function) (f.spec 𝓤 H A mem run)
-meets 𝓤 H A W mem run 𝓣 known-scan known-place known known-tell known-away =
+meets 𝓤 H A W mem run 𝓣 known-scan known-index known known-tell known-away =
     walk-meets 𝓤 H A f.ended stayed W (
       goes-none 𝓤 H A W 2 (λ _. Sh.the-row) yes (λ κs x f. refl),
       (
@@ -540,7 +540,7 @@ meets 𝓤 H A W mem run 𝓣 known-scan known-place known known-tell known-away
       ),
     ) (f.clauses 𝓤 H A mem run)
     (WpFn 𝓤 H (𝓣 .C) (𝓣 .Λ) code.function) (WpFn-mono 𝓤 H (W .laws) 𝓣 code.function)
-    (walks 𝓤 H A W mem run (𝓣 .C) (𝓣 .Λ) (fmOf 𝓤 H (W .laws) 𝓣) known-scan known-place known known-tell known-away)
+    (walks 𝓤 H A W mem run (𝓣 .C) (𝓣 .Λ) (fmOf 𝓤 H (W .laws) 𝓣) known-scan known-index known known-tell known-away)
 
 pub act-lent-spec : {M : Type 1} → stated.statement M
 unfolding code.routine tablesOf
@@ -549,7 +549,7 @@ act-lent-spec 𝓤 H 𝓜 𝓖 𝓡 =
     (tables 𝓤 H 𝓜 𝓡 code.env .C) (tables 𝓤 H 𝓜 𝓡 code.env .Λ) #key code.function (code.unfolded 𝓤 H 𝓜 𝓡)
     (meets 𝓤 H (𝓖 .A) (givenOf 𝓤 H 𝓜 𝓖) (𝓜 .mem) (𝓡 .run) (tablesOf 𝓤 H 𝓜 (tables 𝓤 H 𝓜 𝓡 code.env))
     (cited 𝓤 H (Scan 𝓤 H (𝓖 .A) (𝓜 .mem) (𝓡 .run)) 𝓜 𝓡 code.env #scan scan-def.routine code.calls-wubraken·table·survey-table (scan-thm.met 𝓤 H 𝓜 𝓖 𝓡))
-    (cited 𝓤 H (Placed 𝓤 H (𝓖 .A) (𝓜 .mem) (𝓡 .run)) 𝓜 𝓡 code.env #place place-def.routine code.calls-wubraken·records·place-of (place-thm.met 𝓤 H 𝓜 𝓖 𝓡))
+    (cited 𝓤 H (Indexed 𝓤 H (𝓖 .A) (𝓜 .mem) (𝓡 .run)) 𝓜 𝓡 code.env #index index-def.routine code.calls-wubraken·records·index-of (index-thm.met 𝓤 H 𝓜 𝓖 𝓡))
     (cited 𝓤 H (Turn 𝓤 H (𝓖 .A) (𝓜 .mem) (𝓡 .run)) 𝓜 𝓡 code.env #turn turn-def.routine code.calls-wubraken·records·act-on-record (turn-thm.met 𝓤 H 𝓜 𝓖 𝓡))
     (cited 𝓤 H (Tell 𝓤 H (𝓖 .A) (𝓜 .mem) (𝓡 .run)) 𝓜 𝓡 code.env #tell tell-def.routine code.calls-wubraken·answers·answer-of (tell-thm.met 𝓤 H 𝓜 𝓖 𝓡))
     (cited 𝓤 H (Away 𝓤 H (𝓖 .A) (𝓜 .mem) (𝓡 .run)) 𝓜 𝓡 code.env #away away-def.routine code.calls-wubraken·records·turn-away (away-thm.met 𝓤 H 𝓜 𝓖 𝓡)))

@@ -48,9 +48,9 @@ use Rattle.wubraken.specs.declared.answers.Answer.{Answer}
 use Rattle.calendar.specs.rules.Ranges.{blank}
 use Rattle.calendar.specs.rules.Operations.{open-pool}
 use Rattle.calendar.specs.rules.Opening.{openStore}
-use Rattle.admission.specs.Gate.{openGate}
+use Rattle.admission.specs.Gate.{openGate, openResponse}
 use Rattle.wubraken.specs.Answers.{answerOf}
-use Rattle.wubraken.specs.Results.{lent, leaves, told, recordsOpened, openResponse, opened-bound, open-is}
+use Rattle.wubraken.specs.Results.{lent, leaves, told, recordsOpened, opened-bound, open-is}
 use Rattle.arrival.proofs.Shape as Sh
 use Rattle.arrival.proofs.Shape.Laws as Sh′
 use Rattle.arrival.proofs.Worker as T
