@@ -1,5 +1,4 @@
 -- An opening in a batch, refused or not, as the code has it, is a round of the definition. Assumes nothing.
---     openResponse    what `write_opening` writes the line of
 --     opening-round    past both ways of the code it is one record more
 use mathlib.Core.Path.{_≡_, refl, sym, ap, _∙_, subst⁻¹}
 use mathlib.Core.List.{List, _++_}
