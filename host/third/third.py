@@ -2,8 +2,8 @@
 """The third program: the program `turns` once more, written from docs/RULES.md, without a look at crates/ or host/second.
 
 A turn file comes in on standard input, lines go out on standard output. Numbers in brackets are those of docs/RULES.md.
-It is here to see whether docs/RULES.md says enough; host/third/check holds it to the second program. No turn file of a usual
-length meets refusals 3 and 11: they are written here, and not run.
+It is here to see whether docs/RULES.md says enough; host/third/check holds it to the second program. No turn file meets
+refusal 3, and only one of more than 2^32 records refusal 11: they are written here, and not run.
 """
 
 import os

@@ -21,14 +21,15 @@ pub use random::Random;
 pub use script::Script;
 
 /// Takes turns to the end of a call, past those answered `on`: how many, and the last answer.
-pub fn to_the_end<A: PartialEq>(on: A, mut turn: impl FnMut() -> A) -> (usize, A) {
-    for turns in 1..=100_000 {
+/// It panics if the call has not ended after the `most` turns that it may have.
+pub fn to_the_end<A: PartialEq>(most: usize, on: A, mut turn: impl FnMut() -> A) -> (usize, A) {
+    for turns in 1..=most {
         let answer = turn();
         if answer != on {
             return (turns, answer);
         }
     }
-    panic!("no end after 100,000 turns");
+    panic!("no end after {most} turns");
 }
 
 /// The lines that the second program prints for an input.

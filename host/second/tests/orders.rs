@@ -69,7 +69,7 @@ impl Noted {
 
     /// Turns to the end of a call.
     fn finish(&mut self, worker: u8) -> Answer {
-        to_the_end(ON, || self.apply(turn(worker))).1
+        to_the_end(1_000, ON, || self.apply(turn(worker))).1
     }
 
     fn take_whole(&mut self, worker: u8) -> Answer {

@@ -15,6 +15,13 @@ const BUCKETS: u64 = 2;
 /// One past the largest count.
 const COUNT: u64 = word::MAX_COUNT + 1;
 
+/// What is expected comes from the rules: counts are below 2^32 (rules C2, C3 and D2), whatever
+/// the program under test takes for the largest.
+#[test]
+fn the_largest_count() {
+    assert_eq!(word::MAX_COUNT, 4_294_967_295);
+}
+
 /// Two arrivals stored, one taken, three idle workers that have seen something.
 fn base() -> Lent {
     let mut lent = Lent::with_stored(

@@ -17,7 +17,8 @@ fn open() -> Pool {
 }
 
 fn finish(pool: &mut Pool, worker: u64) -> Step {
-    to_the_end(Ok(Step::On), || pool.step(worker)).1.unwrap()
+    let (_, end) = to_the_end(1_000, Ok(Step::On), || pool.step(worker));
+    end.unwrap()
 }
 
 #[test]

@@ -159,7 +159,9 @@ impl Observer {
     fn finish(&mut self, program: &mut Program, worker: u8) {
         if program.workers()[usize::from(worker)].is_busy() {
             let step = Record::Step { worker };
-            to_the_end(Response::On, || self.apply(program, step));
+            let most = 20 * (program.shape().nodes + program.shape().buckets + 10);
+            to_the_end(most as usize, Response::On, || self.apply(program, step));
+            assert!(!program.workers()[usize::from(worker)].is_busy());
         }
     }
 

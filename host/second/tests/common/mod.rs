@@ -150,7 +150,7 @@ impl Lent {
 
     /// Turns to the end of the call: how many, and the last answer.
     pub fn finish(&mut self, worker: usize) -> (usize, Answer) {
-        to_the_end(ON, || self.turn(worker))
+        to_the_end(1_000, ON, || self.turn(worker))
     }
 
     /// A whole put.
