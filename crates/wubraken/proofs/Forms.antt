@@ -22,7 +22,6 @@ use denote.Signature.{Slot, Signature, plain}
 use denote.Triple.Spec.{Spec, exits}
 use denote.Exit.{yes}
 use Rattle.arrival.specs.declared.Shape.{Shape}
-use Rattle.arrival.specs.declared.Arrival.{Arrival}
 use Rattle.arrival.specs.declared.Worker.{Worker}
 use Rattle.arrival.specs.declared.Action.{Action}
 use Rattle.arrival.specs.declared.Action.the-variants.{Enqueue}
