@@ -1,4 +1,5 @@
 -- The two forms of an entry point that hands on (Forms) meet their contracts, where what they call meets its own.
+--     Makes, dequeue-made, step-made   the actions of a worker alone: by its tag the code makes just these
 --     Answers                          a post: P, and an answer with what it claims
 --     bare-goes, with-arrival-goes     the walk of the code, which knows nothing of what is owned: what the callee answers is what the entry answers
 --     goes                             what the callee asks is there
