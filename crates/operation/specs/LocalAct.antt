@@ -3,13 +3,12 @@
 --     local-enqueue, local-dequeue, local-step  what the code of the three gives is that
 --     Admitted                                  what refusals 1 to 4 leave
 --     act-is                                    put back into the table, it is the action on the lent memory
-use mathlib.Core.Path.{_≡_, refl, sym, ap, _∙_}
+use mathlib.Core.Path.{_≡_, refl, ap, _∙_}
 use mathlib.Core.List.{List}
 use mathlib.Core.Bool.{Bool, true, false, cond}
-use mathlib.Core.Logic.{_≢_}
 use Prim.Native.Nat.{ℕ, _≤_}
 use native.Mathlib.Omega.{arith}
-use lib.Dec.{eqb, leb}
+use lib.Dec.{eqb}
 use lib.ListN.{length, set}
 use lib.Seq.{set-getD}
 use borrow.Author.Tests.{lt-leb, eq-eqb}
@@ -21,10 +20,10 @@ use Rattle.arrival.specs.declared.Action.the-variants.{Enqueue, Dequeue, Step}
 use Rattle.arrival.specs.declared.Response.the-variants.{Refused}
 use Rattle.calendar.specs.rules.Ranges.{blank, worker}
 use Rattle.calendar.specs.rules.Refusals.{firstOf, ownTests}
-use Rattle.calendar.specs.rules.Operations.{Memory, Result, perform, actor, outcomeOf, outcome, refusal, act}
+use Rattle.calendar.specs.rules.Operations.{Memory, Result, perform, actor, outcomeOf, outcome, act}
 use Rattle.calendar.specs.facts.RangeFacts.{Limits}
 use Rattle.calendar.specs.facts.Accepted.{Usable}
-use Rattle.words.specs.Laid.{Laid, laid}
+use Rattle.words.specs.Laid.{laid}
 use Rattle.words.specs.Done.{Done, done, refused, unlessRefused}
 use Rattle.stages.specs.Ready.{Ready}
 use Rattle.stages.specs.LocalStep.{localStep}

@@ -1,16 +1,14 @@
 -- A start on one record: which refusals it can get after 1 to 4, and what it does otherwise. Assumes nothing.
 use mathlib.Core.Path.{_≡_, refl, sym, ap, _∙_}
-use mathlib.Core.Bool.{Bool, true, false, cond}
+use mathlib.Core.Bool.{Bool, cond}
 use mathlib.Core.List.{List}
 use mathlib.Core.Logic.{_≢_}
 use Prim.Native.Nat.{ℕ}
-use native.Mathlib.Omega.{arith}
 use lib.Dec.{eqb}
 use borrow.Author.Tests.{eq-eqb, ne-eqb}
 use Rattle.arrival.specs.declared.Shape.{Shape}
 use Rattle.arrival.specs.declared.Arrival.{Arrival}
 use Rattle.arrival.specs.declared.Worker.{Worker}
-use Rattle.arrival.specs.declared.Response.the-variants.{Refused}
 use Rattle.calendar.specs.rules.Layout.{started}
 use Rattle.calendar.specs.rules.Refusals.{firstOf, noTicket, earlyOwn, lateOwn, enqueueOwn, dequeueOwn}
 use Rattle.calendar.specs.facts.FirstOf.{first-append}

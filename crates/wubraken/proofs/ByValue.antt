@@ -14,7 +14,7 @@ use denote.RattleType.{flat}
 use denote.Laws.{Is, Ises, Are, Makess, shows, owns-make}
 use denote.Signature.{Slot, Signature, typeAt, typesAt}
 use denote.Steps.{nothing, peeks, heard}
-use denote.Triple.Entry.{Args, Vals, Res, alive}
+use denote.Triple.Entry.{Args, Vals, Res}
 use denote.Triple.Spec.{Spec, tripleOf}
 use denote.Triple.Statement.{Triple}
 use denote.Triple.Call.{calls-at}

@@ -1,6 +1,7 @@
 -- The two forms of an entry point that hands on: it makes an action of its parameters, borrows store and table again, calls a function of `act_lent`'s form,
 -- and answers what that answers. The action has a worker, or a worker and an arrival.
 --     Claim                            what such a function claims of its answer and of the last store and table
+--     lent-rows                        store and table, as each of the three functions takes them last
 --     callee, bare, with-arrival       the signatures: of what is called, and of the two forms
 --     Acts, Bare, WithArrival          their contracts by a claim
 --     bare-code, with-arrival-code     the code of the two forms
@@ -22,7 +23,6 @@ use denote.Signature.{Slot, Signature, plain}
 use denote.Triple.Spec.{Spec, exits}
 use denote.Exit.{yes}
 use Rattle.arrival.specs.declared.Shape.{Shape}
-use Rattle.arrival.specs.declared.Arrival.{Arrival}
 use Rattle.arrival.specs.declared.Worker.{Worker}
 use Rattle.arrival.specs.declared.Action.{Action}
 use Rattle.arrival.specs.declared.Action.the-variants.{Enqueue}

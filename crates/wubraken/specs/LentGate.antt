@@ -1,7 +1,7 @@
 -- Refusals 1 to 4 of a call on lent memory, the flag computed by a look at every field. Assumes nothing.
-use mathlib.Core.Path.{_≡_, refl, sym}
-use mathlib.Core.List.{List, [], _∷_}
-use mathlib.Core.Bool.{Bool, true, false, cond, not, _&&_}
+use mathlib.Core.Path.{_≡_, refl}
+use mathlib.Core.List.{List}
+use mathlib.Core.Bool.{Bool, true, false, cond, _&&_}
 use Prim.Native.Nat.{ℕ, _<_, _≤_}
 use native.Mathlib.Omega.{arith}
 use lib.Dec.{eqb}
@@ -10,10 +10,10 @@ use borrow.Author.Tests.{eqb-true}
 use Rattle.arrival.specs.declared.Shape.{Shape}
 use Rattle.laws.specs.Tests.{parts}
 use Rattle.calendar.specs.facts.Views.{view}
-use Rattle.calendar.specs.rules.Ranges.{shapeInRange, storeInRange}
+use Rattle.calendar.specs.rules.Ranges.{storeInRange}
 use Rattle.calendar.specs.facts.RangeFacts.{Limits, StoreRanges, store-ranges}
 use Rattle.words.specs.Laid.{Laid, laid}
-use Rattle.admission.specs.Gate.{gateOf, gate-passed, openGate, open-passed, shape-tests, soundOf}
+use Rattle.admission.specs.Gate.{gateOf, gate-passed, openGate, open-passed, soundOf}
 
 -- of n records, where `ok` says that the workers' are in range
 unfoldable pub gateOn : Shape → List ℕ → ℕ → ℕ → Bool → ℕ

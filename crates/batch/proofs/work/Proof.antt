@@ -1,4 +1,14 @@
--- Each arm of the loop is a round of the definition, by its lemma in specs/OpeningRounds, specs/ActHeld and specs/Stopping. Assumes nothing.
+-- Each arm of the loop is a round of the definition, by its lemma in specs/OpeningRounds, specs/ActHeld and specs/Stopping.
+--     Inv-loop, μ-loop                               before each round: so far the definition was followed, and the tickets are the table's; the variant
+--     loop-holds                                     so it is at the start
+--     has-room-requires, read-record-requires        what every round asks
+--     enum-known-record .. write-opening-requires    what an opening asks
+--     loop-less, loop-again                          after an opening less is left, and it is a round again
+--     enum-known-record-2 .. array-write-tickets     what an action asks
+--     loop-less-2, loop-again-2                      after an action less is left, and it is a round again
+--     enum-told .. returns                           the batch stops
+--     work-spec                                      `work` meets its contract
+-- Assumes nothing.
 use mathlib.Core.Path.{_≡_, refl, sym, ap, _∙_}
 use Prim.Native.Nat.{_-_}
 use native.Mathlib.Omega.{arith}

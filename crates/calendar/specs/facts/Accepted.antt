@@ -5,21 +5,19 @@
 --     memory-accepted                                       an action that the memory's tests let pass has the second
 --     enqueue-accepted, dequeue-accepted, step-accepted     an action that is not refused has its own
 -- Assumes nothing.
-use mathlib.Core.Path.{_≡_, refl, sym, ap, _∙_}
+use mathlib.Core.Path.{_≡_, refl}
 use mathlib.Core.List.{List}
-use mathlib.Core.Bool.{Bool, true, false, cond, not, _&&_, _||_}
+use mathlib.Core.Bool.{false}
 use mathlib.Core.Logic.{_≢_}
-use Prim.Native.Nat.{ℕ, zero, suc, _+_, _*_, _<_, _≤_}
-use native.Mathlib.Omega.{arith}
-use lib.Dec.{eqb, leb, ltb}
+use Prim.Native.Nat.{ℕ, _*_, _<_, _≤_}
 use lib.ListN.{length}
 use borrow.Author.Tests.{not-false, ltb-false, leb-false, leb-true, eqb-false, eqb-true, not-true}
 use Rattle.arrival.specs.declared.Shape.{Shape}
 use Rattle.arrival.specs.declared.Arrival.{Arrival}
 use Rattle.arrival.specs.declared.Worker.{Worker}
-use Rattle.laws.specs.Tests.{left-true, right-true, parts, neither}
+use Rattle.laws.specs.Tests.{parts, neither}
 use Rattle.calendar.specs.rules.Layout.{layout, started}
-use Rattle.calendar.specs.rules.Ranges.{worker, pathInRange, orderInRange, distanceInRange, storeInRange, tableInRange}
+use Rattle.calendar.specs.rules.Ranges.{worker, storeInRange, tableInRange}
 use Rattle.calendar.specs.facts.RangeFacts.{Limits, limits, StoreRanges, store-ranges, RecordRanges, table-ranges}
 use Rattle.calendar.specs.facts.Views.{view}
 use Rattle.calendar.specs.rules.Reclaim.{firstFree}

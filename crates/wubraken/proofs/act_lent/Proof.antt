@@ -2,6 +2,15 @@
 -- borrow is opened once: the record is taken out of the row, copied, handed to `act_on_record` by value, stored to, and put back, and the borrow is closed at
 -- the list with the new record in it; `answer_of` answers. Where it has none `turn_away` does.
 -- The store goes to either at its own lifetime and is not needed after the call. All that the proof knows of the callees is that they meet their contracts.
+--     stayed .. vals-a          what is had of each parameter at exit; the machine values
+--     holds, fails              a test that holds is true, one that fails is false
+--     Turn .. tell-of           the contracts that the proof cites, and of what three of them ensure the clause alone
+--     elem .. says-out          what the callees said, and what the contract says of it, where worker i has a record and where it has none
+--     i .. Post                 the worker, store and table, and what is to be had at exit
+--     to-scan .. goes-away      `survey_table`, `act_on_record` and `turn_away` get what they ask
+--     exits, exits-out          what is had at the end is what is to be had, with a record and without
+--     walk .. place-fits        the walk of the code, and what it asks of the values: their types, and that record i lies in the table
+--     walks .. act-lent-spec    so `act_lent` meets its contract
 -- Assumes nothing.
 use mathlib.Core.Path.{_≡_, refl, sym, ap, subst, _∙_}
 use Prim.Native.Nat.{ℕ, _<_, _*_, _^_}

@@ -1,6 +1,15 @@
 -- `wubraken_open` meets its contract: a walk of its MIR, by hand. The store goes to `open_lent` and the table to `clear_table`, each at its own lifetime, and
 -- neither is needed after its call. How many records are cleared, and the answer, are computed by value.
--- All that the proof knows of the callees is that they meet their contracts. Assumes nothing.
+-- All that the proof knows of the callees is that they meet their contracts.
+--     stayed .. val-r                what is had of each parameter at exit; the machine values
+--     Opens .. tell-of               the contracts that the proof cites, and of what two of them ensure the clause alone
+--     Said .. within                 what the callees said, and what the contract says of it; no more records are cleared than there are
+--     s .. Post                      store and table, and what is to be had at exit
+--     to-opens .. goes-clears        `open_lent` and `clear_table` get what they ask
+--     exits                          what is had at the end is what is to be had
+--     walk .. typed-n                the walk of the code
+--     walks .. wubraken-open-spec    so `wubraken_open` meets its contract
+-- Assumes nothing.
 use mathlib.Core.Path.{_≡_, refl, sym, ap, subst, _∙_}
 use Prim.Native.Nat.{ℕ, _<_, _≤_, _^_}
 use mathlib.Core.List.{List, [], _∷_, _++_}

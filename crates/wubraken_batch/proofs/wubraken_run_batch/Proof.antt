@@ -1,7 +1,18 @@
 -- `wubraken_run_batch` meets its contract: a walk of its MIR, by hand. The table is lent as a `&` to `copy_out`, which copies the records of the shape's
 -- workers, and comes back; the bytes, the lines and the store go to `run_held` and the table to `copy_back`, each at its own lifetime, and none is needed after
 -- its call.
--- All that the proof knows of the callees is that they meet their contracts. Assumes nothing.
+-- All that the proof knows of the callees is that they meet their contracts.
+--     stayed .. val-ending                what is had of each parameter at exit; the machine values
+--     Ws .. ending-is                     the array of records, also as a field of what `run_held` answers
+--     Copied, Returned                    what `copy_out` and `copy_back` said of the table
+--     Count .. out-of                     the contracts that the proof cites, and of what the first three ensure the clause alone
+--     at-name .. copied-fits              the slices, how many records count, and how many are copied
+--     Heard .. Post                       what `run_held` said, what the contract says of it, and what is to be had at exit
+--     to-count .. goes-back               the callees get what they ask, the table lent to `copy_out`
+--     exits                               what is had at the end is what is to be had
+--     walk .. typed-ending                the walk of the code
+--     walks .. wubraken-run-batch-spec    so `wubraken_run_batch` meets its contract
+-- Assumes nothing.
 use mathlib.Core.Path.{_≡_, refl, sym, ap, subst, _∙_}
 use Prim.Native.Nat.{ℕ, suc, _<_, _≤_, _^_}
 use native.Mathlib.Omega.{arith}

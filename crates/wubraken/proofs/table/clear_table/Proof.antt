@@ -1,6 +1,16 @@
 -- `wubraken::table::clear_table` meets its contract: a walk of its MIR, by hand, with a loop that stores. The borrow is opened once before the loop, each turn
 -- takes record k out of the row and stores the idle record, and the borrow is closed once after the loop.
 -- The invariant: the row is `clearedOf ys k`. The variant: k with k ≤ n, ordered by what is left.
+--     stayed .. val               what is had of each parameter at exit; the machine values
+--     zeros .. blank-is           the idle record: the value that the code makes is its own, and it is a worker's
+--     start .. closed             `clearedOf` from turn to turn, its length, and its closed form
+--     s .. Left                   the table, and what is to be had at exit
+--     exits                       what is had after the borrow is closed is what is to be had
+--     blank-typed, zeros-typed    the type of the idle record
+--     Upto .. Nearer-wf           the variant
+--     C .. Turned                 the invariant, and what a turn leaves
+--     turn-at .. next-fits        a turn, by whether there is a record left
+--     walk .. clear-table-spec    the walk around the loop; so `clear_table` meets its contract
 -- Assumes nothing.
 use mathlib.Core.Path.{_≡_, refl, sym, ap, subst, _∙_}
 use Prim.Native.Nat.{ℕ, zero, suc, _+_, _-_, _*_, _<_, _≤_, _^_, zero-le}

@@ -1,6 +1,16 @@
 -- `wubraken::table::survey_table` meets its contract: a walk of its MIR, by hand, with a loop. In each turn the slice is looked into for record k, which is
 -- copied and put back, and `look` is called with the copy.
 -- The invariant: what was found so far is the survey of the first k records. The variant: k with k ≤ n, ordered by what is left.
+--     stayed .. ty-t               what is had of each parameter at exit; the machine values, and the types of the locals
+--     Fits .. made-start           the survey at the start: the value that the code makes is its own
+--     Look .. count-of             the contracts that the proof cites, and of what they ensure the clause alone
+--     s .. Had                     the table, how many records are looked at, what is to be had at exit, and what is had throughout
+--     exits                        what is had after the last turn is what is to be had
+--     to-count .. made-typed       `records_surveyed` and `look` get what they ask; the types of the values
+--     Upto .. Nearer-wf            the variant
+--     C .. Turned                  the invariant, and what a turn leaves
+--     turn-at .. next-fits         a turn, by whether there is a record left
+--     walk .. survey-table-spec    the walk around the loop; so `survey_table` meets its contract
 -- Assumes nothing.
 use mathlib.Core.Path.{_≡_, refl, sym, ap, subst, _∙_}
 use Prim.Native.Nat.{ℕ, zero, suc, _+_, _-_, _*_, _<_, _≤_, _^_, zero-le}

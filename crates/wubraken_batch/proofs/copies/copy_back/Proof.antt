@@ -2,6 +2,15 @@
 -- row of records and the borrow is opened; each turn copies record k out of the array's row, takes record k out of the table's and stores the copy; after the
 -- loop the borrow is closed.
 -- The invariant: the table's row is `storedOf rs ys k`. The variant: k with k ≤ n, ordered by what is left.
+--     vals .. stayed            the machine values, that of the array too; what is had of each parameter at exit
+--     s .. Left                 the table, what is to be had at exit, and what is had of the array throughout
+--     enough                    the array has n records
+--     exits                     what is had after the borrow is closed is what is to be had
+--     atyped, typed             the types of the values
+--     Upto .. Nearer-wf         the variant
+--     C .. Turned               the invariant, and what a turn leaves
+--     turn-at .. next-fits      a turn, by whether there is a record left
+--     walk .. copy-back-spec    the walk around the loop; so `copy_back` meets its contract
 -- Assumes nothing.
 use mathlib.Core.Path.{_≡_, refl, sym, ap, subst, _∙_}
 use Prim.Native.Nat.{ℕ, _+_, _-_, _*_, _<_, _≤_, _^_, zero-le}

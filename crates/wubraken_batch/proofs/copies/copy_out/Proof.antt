@@ -2,6 +2,16 @@
 -- records. In each turn the slice is looked into for record k, which is copied and put back, and the copy is stored into the row; after the loop the row is
 -- the array again.
 -- The invariant: the row is the first k records over idle ones. The variant: k with k ≤ n, ordered by what is left.
+--     stayed .. avals          what is had of each parameter at exit; the machine values, that of the array too
+--     copiedOf .. one-more     the first k records over idle ones, from turn to turn
+--     Idle, idle-of            the contract that the proof cites, and of what it ensures the clause alone
+--     s .. Had                 the table, what is to be had at exit, and what is had throughout
+--     array-long .. exits      the array's length; what is had after the last turn is what is to be had
+--     to-idle .. typed         `idle_records` asks nothing; the types of the values
+--     Upto .. Nearer-wf        the variant
+--     C .. Turned              the invariant, and what a turn leaves
+--     turn-at .. all-is        a turn, by whether there is a record left
+--     walk .. copy-out-spec    the walk around the loop; so `copy_out` meets its contract
 -- Assumes nothing.
 use mathlib.Core.Path.{_≡_, refl, sym, ap, subst, _∙_}
 use Prim.Native.Nat.{ℕ, _+_, _-_, _*_, _<_, _≤_, _^_, zero-le}
