@@ -5,9 +5,10 @@
 --     goes                             what the callee asks is there
 --     more                             of one plain parameter more there is nothing to say
 --     passes                           the two together
---     bare-meets, with-arrival-meets   so the contracts are met
+--     bare-form, with-arrival-form     so the forms' contracts are met
+--     bare-meets, with-arrival-meets   and a contract that is the form's
 -- Assumes `Given`.
-use mathlib.Core.Path.{_≡_, refl, sym, subst}
+use mathlib.Core.Path.{_≡_, refl, sym, subst, subst⁻¹}
 use Prim.Native.Nat.{ℕ, _<_, _^_}
 use mathlib.Core.List.{List, [], _∷_}
 use lib.Dec.{T as Holds, ltb}
@@ -37,7 +38,7 @@ use denote.Steps.{owned, peeks, nothing, said}
 use denote.Struct.Laws as LL
 use denote.Enum.Laws as EL
 use denote.Triple.Entry.{Args, alive, onEntry}
-use denote.Triple.Spec.{Meets, tripleOf}
+use denote.Triple.Spec.{Spec, Meets, tripleOf}
 use denote.Triple.Statement.{Contract, Triple}
 use denote.Triple.Call.{calls-from}
 use denote.Triple.End.{lastsOf}
@@ -263,9 +264,9 @@ module _ {M : Type 1} (𝓤 : URA M) (H : Heap 𝓤) (A : Atoms 𝓤) (W : Given
         (WpFn-mono 𝓤 H (W .laws) 𝓣 code vs (Called .post to) (Answers 𝓤 H A (alive 𝓤 H A callee κs qs) E)
         (answers (alive 𝓤 H A callee κs qs) (Claims κs qs sh a s t) E claims))))
 
-    pub bare-meets : (tag : ℕ) (asks : ℕ → Action) → Makes tag asks
+    bare-form : (tag : ℕ) (asks : ℕ → Action) → Makes tag asks
         → Meets 𝓤 H A bare (WpFn 𝓤 H (𝓣 .C) (𝓣 .Λ) (bare-code f tag)) (Bare 𝓤 H A claim asks)
-    bare-meets tag asks m y =
+    bare-form tag asks m y =
         let κs : Lfts 2 = y .0 .0 in
         let qs : Shares 2 = y .0 .1 in
         let a : Args bare κs = y .0 .3 in
@@ -287,8 +288,8 @@ module _ {M : Type 1} (𝓤 : URA M) (H : Heap 𝓤) (A : Atoms 𝓤) (W : Given
         (are .1 .1 .1 .0 .0 .1 .0) tag asks m)
         (λ r. id⊢ 𝓤 (Claims κs qs (a .0) (asks (a .1 .0)) s t r)))))
 
-    pub with-arrival-meets : Meets 𝓤 H A with-arrival (WpFn 𝓤 H (𝓣 .C) (𝓣 .Λ) (with-arrival-code f)) (WithArrival 𝓤 H A claim)
-    with-arrival-meets y =
+    with-arrival-form : Meets 𝓤 H A with-arrival (WpFn 𝓤 H (𝓣 .C) (𝓣 .Λ) (with-arrival-code f)) (WithArrival 𝓤 H A claim)
+    with-arrival-form y =
         let κs : Lfts 2 = y .0 .0 in
         let qs : Shares 2 = y .0 .1 in
         let a : Args with-arrival κs = y .0 .3 in
@@ -320,3 +321,12 @@ module _ {M : Type 1} (𝓤 : URA M) (H : Heap 𝓤) (A : Atoms 𝓤) (W : Given
         (a .1 .0) (s .ptr .0) (s .ptr .1) (length (now s)) (t .ptr .0) (t .ptr .1) (length (now t)) (are .0) (are .1 .0 .1) (are .1 .1 .1 .0 .0 .1 .0)
         (are .1 .1 .1 .1 .0 .0 .1 .0) x (are .1 .1 .0))
         (more κs qs (a .0) (Enqueue (a .1 .0) x) s t))))
+
+    -- a contract that is the form's
+    pub bare-meets : (tag : ℕ) (asks : ℕ → Action) → Makes tag asks → (c : Spec 𝓤 bare) → c ≡ Bare 𝓤 H A claim asks
+        → Meets 𝓤 H A bare (WpFn 𝓤 H (𝓣 .C) (𝓣 .Λ) (bare-code f tag)) c
+    bare-meets tag asks m c e = subst⁻¹ (Meets 𝓤 H A bare (WpFn 𝓤 H (𝓣 .C) (𝓣 .Λ) (bare-code f tag))) e (bare-form tag asks m)
+
+    pub with-arrival-meets : (c : Spec 𝓤 with-arrival) → c ≡ WithArrival 𝓤 H A claim
+        → Meets 𝓤 H A with-arrival (WpFn 𝓤 H (𝓣 .C) (𝓣 .Λ) (with-arrival-code f)) c
+    with-arrival-meets c e = subst⁻¹ (Meets 𝓤 H A with-arrival (WpFn 𝓤 H (𝓣 .C) (𝓣 .Λ) (with-arrival-code f))) e with-arrival-form

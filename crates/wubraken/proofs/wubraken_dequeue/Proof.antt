@@ -1,4 +1,5 @@
 -- `wubraken_dequeue` meets its contract: it hands on to `act_lent`. Assumes nothing.
+use mathlib.Core.Path.{refl}
 use contract.Running.{givenOf, tables, tablesOf}
 use denote.Triple.Spec.{tripleOf}
 use denote.Triple.Table.{entered, cited}
@@ -21,4 +22,4 @@ wubraken-dequeue-spec 𝓤 H 𝓜 𝓖 𝓡 =
     (tables 𝓤 H 𝓜 𝓡 code.env .C) (tables 𝓤 H 𝓜 𝓡 code.env .Λ) #key code.function (code.unfolded 𝓤 H 𝓜 𝓡)
     (bare-meets 𝓤 H (𝓖 .A) (givenOf 𝓤 H 𝓜 𝓖) ActsAs (tablesOf 𝓤 H 𝓜 (tables 𝓤 H 𝓜 𝓡 code.env)) #callee
     (cited 𝓤 H (tripleOf 𝓤 H (𝓖 .A) callee.signature (callee.spec 𝓤 H (𝓖 .A) (𝓜 .mem) (𝓡 .run))) 𝓜 𝓡 code.env #callee callee-def.routine
-    code.calls-wubraken·act-lent (callee-thm.met 𝓤 H 𝓜 𝓖 𝓡)) 1 Dequeue dequeue-made)
+    code.calls-wubraken·act-lent (callee-thm.met 𝓤 H 𝓜 𝓖 𝓡)) 1 Dequeue dequeue-made (f.spec 𝓤 H (𝓖 .A) (𝓜 .mem) (𝓡 .run)) refl)
