@@ -4,7 +4,7 @@
 -- The store goes to either at its own lifetime and is not needed after the call. All that the proof knows of the callees is that they meet their contracts.
 --     stayed .. vals-a          what is had of each parameter at exit; the machine values
 --     holds, fails              a test that holds is true, one that fails is false
---     Turn .. tell-of           the contracts that the proof cites, and of what three of them ensure the clause alone
+--     Turn .. scan-of           the contracts that the proof cites, and of what `survey_table` ensures the clause alone
 --     elem .. says-out          what the callees said, and what the contract says of it, where worker i has a record and where it has none
 --     i .. Post                 the worker, store and table, and what is to be had at exit
 --     to-scan .. goes-away      `survey_table`, `act_on_record` and `turn_away` get what they ask
@@ -180,15 +180,6 @@ scan-of : {M : Type 1} (𝓤 : URA M) (H : Heap 𝓤) (A : Atoms 𝓤) (mem : Me
     (r : Survey)
     → ent 𝓤 (ensured 𝓤 H A scan.ended (scan.clauses 𝓤 H A mem run) (κ, tt) (sh, (y, tt)) tt r) (fact 𝓤 (r ≡ survey sh (y .now)))
 scan-of 𝓤 H A mem run κ sh y r = exE 𝓤 _ (λ ws. snd∗ 𝓤 (sem 𝓤 H A (lasts scan.ended (κ, tt) (sh, (y, tt)) ws)) (fact 𝓤 (r ≡ survey sh (y .now))))
-
--- the same of `index_of` and `answer_of`
-index-of : {M : Type 1} (𝓤 : URA M) (H : Heap 𝓤) (A : Atoms 𝓤) (mem : Memory → SProp 𝓤) (run : Routine → Fun 𝓤) (x : Action) (n : ℕ)
-    → ent 𝓤 (ensured 𝓤 H A index.ended (index.clauses 𝓤 H A mem run) tt (x, tt) tt n) (fact 𝓤 (n ≡ actor x))
-index-of 𝓤 H A mem run x n = exE 𝓤 _ (λ ws. snd∗ 𝓤 (sem 𝓤 H A (lasts index.ended tt (x, tt) ws)) (fact 𝓤 (n ≡ actor x)))
-
-tell-of : {M : Type 1} (𝓤 : URA M) (H : Heap 𝓤) (A : Atoms 𝓤) (mem : Memory → SProp 𝓤) (run : Routine → Fun 𝓤) (y : Response) (a : Answer)
-    → ent 𝓤 (ensured 𝓤 H A tell.ended (tell.clauses 𝓤 H A mem run) tt (y, tt) tt a) (fact 𝓤 (a ≡ answerOf y))
-tell-of 𝓤 H A mem run y a = exE 𝓤 _ (λ ws. snd∗ 𝓤 (sem 𝓤 H A (lasts tell.ended tt (y, tt) ws)) (fact 𝓤 (a ≡ answerOf y)))
 
 -- what the callees said, and what the contract says of it
 module _ (sh : Shape) (x : Action) (S : List ℕ) (ys : List Worker) where
@@ -377,8 +368,8 @@ module _ {M : Type 1} (𝓤 : URA M) (H : Heap 𝓤) (A : Atoms 𝓤) (W : Given
         use2 W (later (‵ (MutSlice (named 1) κ′ T.the-row .own (t ys) (tv ∷ [])) ⊛ ‵ (flft κ′ q′))) (comes-back-shared T.the-row κ′ (ν ∷ []) q′ γ′ b′ o′ 𝓤 H A W
         (named 1) (named 0) ys room) $ await ! tt $ split ! $
         -- [the table; its token; true; true; the store's token; the store; the locals, the last first]
-        calls-value ! fm (index.signature .params) (index.signature .result) (index.spec 𝓤 H A mem run) known-index (x, tt) (vals-ac x, tt) tt (id⊢ 𝓤 (emp 𝓤))
-        (EL.makes Ac.the-type Ac′.the-plain 𝓤 H A, tt) (x-is, tt) (λ n. n ≡ i) (index-of 𝓤 H A mem run x)
+        calls-value ! fm (index.signature .params) (index.signature .result) (yes, tt) (λ a n. n ≡ actor (a .0)) known-index (x, tt) (vals-ac x, tt)
+        (EL.makes Ac.the-type Ac′.the-plain 𝓤 H A, tt) (x-is, tt)
         (and-then ! (load ! (from ! (stop !)) (look ! 43 refl)) (no-more !)) (λ v₁ n e₁ is₁.
         land ! (from ! (stop !)) (init ! 32 refl
         (subst (λ (y : Val). Holds (hasTy (tyInt w64) y) × WT y) (sym (ap only (is₁ .0))) (tt, record { fits = is₁ .1 }))) $
@@ -433,9 +424,8 @@ module _ {M : Type 1} (𝓤 : URA M) (H : Heap 𝓤) (A : Atoms 𝓤) (W : Given
         move ! (0 ∷ 5 ∷ 6 ∷ 7 ∷ []) $ closes-slice ! tt T.the-row ys (set ys i (r .worker)) (length-set ys i (r .worker)) b′ o′ $
         -- [obs; the borrow; the table's token; what r owns; the store's token; its last list; true; the table's fact; true; true; the locals]
         -- `answer_of`
-        calls-value ! fm (tell.signature .params) (tell.signature .result) (tell.spec 𝓤 H A mem run) known-tell (r .response, tt) (vals-a (r .response), tt) tt
-        (id⊢ 𝓤 (emp 𝓤)) (EL.makes Q.the-type Q′.the-plain 𝓤 H A, tt) (response-is r v is, tt) (λ a. a ≡ answerOf (r .response))
-        (tell-of 𝓤 H A mem run (r .response))
+        calls-value ! fm (tell.signature .params) (tell.signature .result) (yes, tt) (λ y a. a ≡ answerOf (y .0)) known-tell (r .response, tt)
+        (vals-a (r .response), tt) (EL.makes Q.the-type Q′.the-plain 𝓤 H A, tt) (response-is r v is, tt)
         (and-then ! (load ! (from ! (fld ! refl (stop !))) (look-in ! 33 (sub ! 1 refl (whole !)))) (no-more !)) (λ v′ a d is′.
         land ! (from ! (stop !)) (init ! 50 refl (LL.lawful R.the-type R′.the-laws 𝓤 H A W .typed a _ is′ .0)) $
         rewrite ! 50 (λ (u : Val). ‵ (fat fullShare R′.mir l₀ 0 u)) (ap only (LL.tells R.the-type R′.the-laws a _ is′)) refl $

@@ -2,7 +2,7 @@
 -- neither is needed after its call. How many records are cleared, and the answer, are computed by value.
 -- All that the proof knows of the callees is that they meet their contracts.
 --     stayed .. val-r                what is had of each parameter at exit; the machine values
---     Opens .. tell-of               the contracts that the proof cites, and of what two of them ensure the clause alone
+--     Opens .. Clears                the contracts that the proof cites
 --     Said .. within                 what the callees said, and what the contract says of it; no more records are cleared than there are
 --     s .. Post                      store and table, and what is to be had at exit
 --     to-opens .. goes-clears        `open_lent` and `clear_table` get what they ask
@@ -20,7 +20,7 @@ use lib.Dec.{T as Holds, eqb}
 use mathlib.Core.Bool.{cond}
 use package.mir.Syntax.{named, w64, tyInt, tyUnit}
 use package.mir.Val.{Val, WT, hasTy, vint}
-use base.Logic.{SProp, ent, sep, emp, via, fst∗, snd∗, id⊢, exE}
+use base.Logic.{SProp, ent, sep, emp, via, fst∗, id⊢}
 use base.Fml.{Lft, GName, Share, ftrue, fat, flft}
 use prog.Memory.{Memory}
 use prog.Routine.{Routine}
@@ -111,15 +111,6 @@ Tell 𝓤 H A mem run = tripleOf 𝓤 H A tell.signature (tell.spec 𝓤 H A mem
 
 abbrev Clears : {M : Type 1} (𝓤 : URA M) (H : Heap 𝓤) (A : Atoms 𝓤) (mem : Memory → SProp 𝓤) (run : Routine → Fun 𝓤) → Contract 𝓤
 Clears 𝓤 H A mem run = tripleOf 𝓤 H A clears.signature (clears.spec 𝓤 H A mem run)
-
--- of what a function by value ensures, the clause alone: it has no last value
-counts-of : {M : Type 1} (𝓤 : URA M) (H : Heap 𝓤) (A : Atoms 𝓤) (mem : Memory → SProp 𝓤) (run : Routine → Fun 𝓤) (sh : Shape) (k n : ℕ)
-    → ent 𝓤 (ensured 𝓤 H A counts.ended (counts.clauses 𝓤 H A mem run) tt (sh, (k, tt)) tt n) (fact 𝓤 (n ≡ recordsOpened sh k))
-counts-of 𝓤 H A mem run sh k n = exE 𝓤 _ (λ ws. snd∗ 𝓤 (sem 𝓤 H A (lasts counts.ended tt (sh, (k, tt)) ws)) (fact 𝓤 (n ≡ recordsOpened sh k)))
-
-tell-of : {M : Type 1} (𝓤 : URA M) (H : Heap 𝓤) (A : Atoms 𝓤) (mem : Memory → SProp 𝓤) (run : Routine → Fun 𝓤) (k : ℕ) (a : Answer)
-    → ent 𝓤 (ensured 𝓤 H A tell.ended (tell.clauses 𝓤 H A mem run) tt (k, tt) tt a) (fact 𝓤 (a ≡ answerOf (openResponse k)))
-tell-of 𝓤 H A mem run k a = exE 𝓤 _ (λ ws. snd∗ 𝓤 (sem 𝓤 H A (lasts tell.ended tt (k, tt) ws)) (fact 𝓤 (a ≡ answerOf (openResponse k))))
 
 -- what the callees said, and what the contract says of it
 module _ (sh : Shape) (S : List ℕ) (ys : List Worker) where
@@ -230,9 +221,9 @@ module _ {M : Type 1} (𝓤 : URA M) (H : Heap 𝓤) (A : Atoms 𝓤) (W : Given
         move ! (2 ∷ []) $ split ! $ move ! (1 ∷ []) $ facts ! u64 (Is u64) (shows 𝓤 H A u64) k (v ∷ []) (λ is.
         -- [the store's token; its last list; true; the table's token; true; the table; the locals]
         land ! (from ! (stop !)) (init ! 18 refl (typed-n k v is)) $ rewrite ! 18 (λ (u : Val). ‵ (fat fullShare (tyInt w64) l₅ 0 u)) (ap only (is .0)) refl $
-        calls-value ! fm (counts.signature .params) (counts.signature .result) (counts.spec 𝓤 H A mem run) known-counts (sh, (k, tt))
-        (vals-sh sh, (vint w64 k ∷ [], tt)) tt (id⊢ 𝓤 (emp 𝓤)) (LL.makes Sh.the-type Sh′.the-plain 𝓤 H A, (uint-makes 𝓤 H A W w64, tt))
-        (sh-is, ((refl, is .1), tt)) (λ n. n ≡ recordsOpened sh k) (counts-of 𝓤 H A mem run sh k)
+        calls-value ! fm (counts.signature .params) (counts.signature .result) (yes, (yes, tt)) (λ y n. n ≡ recordsOpened (y .0) (y .1 .0))
+        known-counts (sh, (k, tt)) (vals-sh sh, (vint w64 k ∷ [], tt)) (LL.makes Sh.the-type Sh′.the-plain 𝓤 H A, (uint-makes 𝓤 H A W w64, tt))
+        (sh-is, ((refl, is .1), tt))
         (and-then ! (load ! (from ! (stop !)) (look ! 27 refl)) (and-then ! (load ! (from ! (stop !)) (look ! 19 refl)) (no-more !))) (λ v₁ n counted is₁.
         land ! (from ! (stop !)) (init ! 16 refl (typed-n n v₁ is₁)) $
         rewrite ! 16 (λ (u : Val). ‵ (fat fullShare (tyInt w64) l₆ 0 u)) (ap only (is₁ .0)) refl $
@@ -252,8 +243,8 @@ module _ {M : Type 1} (𝓤 : URA M) (H : Heap 𝓤) (A : Atoms 𝓤) (W : Given
         move ! (2 ∷ []) $ split ! $ move ! (1 ∷ []) $ feqL ! (λ ev.
         land ! (from ! (stop !)) (init ! 11 refl (subst (λ (y : Val). Holds (hasTy tyUnit y) × WT y) (sym (ap only ev)) (tt, tt))) $
         -- `open_answer`: [the table's token; its last list; true; the store's token; its last list; true; true; the locals]
-        calls-value ! fm (tell.signature .params) (tell.signature .result) (tell.spec 𝓤 H A mem run) known-tell (k, tt) (vint w64 k ∷ [], tt) tt (id⊢ 𝓤 (emp 𝓤))
-        (uint-makes 𝓤 H A W w64, tt) ((refl, is .1), tt) (λ a. a ≡ answerOf (openResponse k)) (tell-of 𝓤 H A mem run k)
+        calls-value ! fm (tell.signature .params) (tell.signature .result) (yes, tt) (λ y a. a ≡ answerOf (openResponse (y .0))) known-tell (k, tt)
+        (vint w64 k ∷ [], tt) (uint-makes 𝓤 H A W w64, tt) ((refl, is .1), tt)
         (and-then ! (load ! (from ! (stop !)) (look ! 20 refl)) (no-more !)) (λ v₃ a told-so is₃.
         land ! (from ! (stop !)) (init ! 29 refl (LL.lawful R.the-type R′.the-laws 𝓤 H A W .typed a _ is₃ .0)) $
         rewrite ! 29 (λ (u : Val). ‵ (fat fullShare R′.mir l₀ 0 u)) (ap only (LL.tells R.the-type R′.the-laws a _ is₃)) refl $
