@@ -70,8 +70,8 @@ pub fn time_past_the_last() -> Script {
 /// Each put walks past those stored before it.
 pub fn four_puts() -> Script {
     let mut script = Script::open(4, 4, 2, 10);
-    for worker in 0..4 {
-        script = script.put(worker, 5);
+    for (worker, time) in (0..4).zip(5..) {
+        script = script.put(worker, time);
     }
     for worker in 0..4 {
         script = script.refused(put(worker, 5), 9).refused(take(worker), 9);
@@ -80,7 +80,7 @@ pub fn four_puts() -> Script {
         script = script.end(worker, turns, &format!("stored {}", worker + 1));
     }
     for worker in 0..4 {
-        script = script.refused(put(worker, 5), 12);
+        script = script.refused(put(worker, 9), 12);
     }
     script.take(0)
 }

@@ -69,9 +69,9 @@ stored c k = Begun c ∷ ends c k
 unfoldable pub take : ℕ → ℕ → List Action
 take i k = Dequeue i ∷ turns i k
 
--- four puts begin at one time, and one start more
+-- four puts begin, no two at one time, and one start more
 four-begin : List Action
-four-begin = Enqueue 0 (arrival 5 3) ∷ Enqueue 1 (arrival 5 3) ∷ Enqueue 2 (arrival 5 3) ∷ Enqueue 3 (arrival 5 3) ∷ Dequeue 2 ∷ []
+four-begin = Enqueue 0 (arrival 5 3) ∷ Enqueue 1 (arrival 6 3) ∷ Enqueue 2 (arrival 7 3) ∷ Enqueue 3 (arrival 8 3) ∷ Dequeue 2 ∷ []
 
 four-begun : List Response
 four-begun = Begun 1 ∷ Begun 2 ∷ Begun 3 ∷ Begun 4 ∷ Refused 9 ∷ []
@@ -103,7 +103,7 @@ table =
     -- time 19 begins, 20 is 6
     ∷ record { shape = two-workers; history = Enqueue 0 (arrival 19 3) ∷ []; gives = Begun 1 ∷ []; bucket = 0; epoch = 0 }
     ∷ record { shape = two-workers; history = Enqueue 0 (arrival 20 3) ∷ []; gives = Refused 6 ∷ []; bucket = 0; epoch = 0 }
-    -- four puts begin at 5 on four workers, a start on one of them is 9
+    -- four puts begin on four workers, a start on one of them is 9
     ∷ record {
       shape = four-workers;
       history = four-begin;
@@ -114,7 +114,7 @@ table =
     -- then all turns of each worker: stored after 5, 6, 7 and 8; a put is 12
     ∷ record {
       shape = four-workers;
-      history = four-begin ++ turns 0 5 ++ turns 1 6 ++ turns 2 7 ++ turns 3 8 ++ (Enqueue 0 (arrival 5 3) ∷ []);
+      history = four-begin ++ turns 0 5 ++ turns 1 6 ++ turns 2 7 ++ turns 3 8 ++ (Enqueue 0 (arrival 9 3) ∷ []);
       gives = four-begun ++ ends 1 4 ++ ends 2 5 ++ ends 3 6 ++ ends 4 7 ++ (Refused 12 ∷ []);
       bucket = 0;
       epoch = 4;
