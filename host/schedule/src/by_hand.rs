@@ -26,7 +26,8 @@ pub fn cases() -> Vec<(String, Script)> {
         ("fresh put at 5, then take", fresh_put_at_5_then_take()),
         ("last time", last_time()),
         ("time past the last", time_past_the_last()),
-        ("four puts", four_puts()),
+        ("four puts", four_puts(1)),
+        ("four puts at one time", four_puts(0)),
         ("distances out of range", distances_out_of_range()),
         ("two takers, the loser takes", two_takers_the_loser_takes()),
         (
@@ -67,11 +68,11 @@ pub fn time_past_the_last() -> Script {
     fresh().refused(put(0, 20), 6).refused(put(0, u32::MAX), 6)
 }
 
-/// Each put walks past those stored before it.
-pub fn four_puts() -> Script {
+/// Each put walks past those stored before it, so many samples earlier.
+pub fn four_puts(apart: u32) -> Script {
     let mut script = Script::open(4, 4, 2, 10);
-    for (worker, time) in (0..4).zip(5..) {
-        script = script.put(worker, time);
+    for worker in 0..4 {
+        script = script.put(worker, 5 + apart * u32::from(worker));
     }
     for worker in 0..4 {
         script = script.refused(put(worker, 5), 9).refused(take(worker), 9);
@@ -80,7 +81,7 @@ pub fn four_puts() -> Script {
         script = script.end(worker, turns, &format!("stored {}", worker + 1));
     }
     for worker in 0..4 {
-        script = script.refused(put(worker, 9), 12);
+        script = script.refused(put(worker, 5), 12);
     }
     script.take(0)
 }

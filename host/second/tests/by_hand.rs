@@ -53,9 +53,11 @@ fn last_time_begins_and_the_next_is_6() {
 
 #[test]
 fn four_puts_a_busy_worker_and_no_free_node() {
-    let lent = Lent::play(&by_hand::four_puts());
-    for worker in 0..4 {
-        assert_eq!(lent.workers[worker].own, worker as u64);
+    for apart in [1, 0] {
+        let lent = Lent::play(&by_hand::four_puts(apart));
+        for worker in 0..4 {
+            assert_eq!(lent.workers[worker].own, worker as u64);
+        }
     }
 }
 

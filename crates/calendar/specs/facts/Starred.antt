@@ -114,7 +114,7 @@ table =
     -- then all turns of each worker: stored after 5, 6, 7 and 8; a put is 12
     ∷ record {
       shape = four-workers;
-      history = four-begin ++ turns 0 5 ++ turns 1 6 ++ turns 2 7 ++ turns 3 8 ++ (Enqueue 0 (arrival 9 3) ∷ []);
+      history = four-begin ++ turns 0 5 ++ turns 1 6 ++ turns 2 7 ++ turns 3 8 ++ (Enqueue 0 (arrival 5 3) ∷ []);
       gives = four-begun ++ ends 1 4 ++ ends 2 5 ++ ends 3 6 ++ ends 4 7 ++ (Refused 12 ∷ []);
       bucket = 0;
       epoch = 4;
