@@ -12,6 +12,7 @@ pub mod DequeueSteps
 pub mod Steps
 pub mod Refusals
 pub mod Operations
+pub mod NarrowCalls
 pub mod Ledger
 pub mod Snapshot
 pub mod Linearizability

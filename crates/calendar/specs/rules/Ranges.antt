@@ -55,11 +55,13 @@ nodeInRange sh s n =
     && small (epochAt sh s n)
     && ltb (standing sh s n) 4294967298
 
+-- the three first words
+abbrev pub wordsInRange : Shape → List ℕ → Bool
+wordsInRange sh s = currentInRange sh (current sh s) && small (started sh s) && ltb (lastNode sh s) (sh .nodes)
+
 -- every word of the layout
 unfoldable pub storeInRange : Shape → List ℕ → Bool
-storeInRange sh s =
-    currentInRange sh (current sh s) && small (started sh s) && ltb (lastNode sh s) (sh .nodes)
-    && every (sh .buckets) (λ b. headInRange sh s b) && every (sh .nodes) (λ n. nodeInRange sh s n)
+storeInRange sh s = wordsInRange sh s && every (sh .buckets) (λ b. headInRange sh s b) && every (sh .nodes) (λ n. nodeInRange sh s n)
 
 abbrev pub implies : Bool → Bool → Bool
 implies a b = not a || b
