@@ -1,10 +1,11 @@
 // Spherical spreading: the energy of an arrival by its distance.
 ghost use mathlib.Core.Path.{_≡_};
-ghost use Prim.Native.Nat.{_≤_};
+ghost use Prim.Native.Nat.{_+_, _<_};
 ghost use Rattle.arrival.specs.Energy.{energyOf};
 
-// The energy at 1, 2, .. 1,024 metres. Of 32 bits: the compiler writes the entries to the stack at each use, four at a time.
-const SPREADING: [u32; 1024] = [
+// The energy at 1, 2, .. 1,024 metres, in rows of 128. Of 32 bits, and in rows: the compiler writes an array of constants to the stack at each use, four
+// entries at a time.
+const ROW_0: [u32; 128] = [
     16777216,
     4194304,
     1864135,
@@ -133,6 +134,9 @@ const SPREADING: [u32; 1024] = [
     1056,
     1040,
     1024,
+];
+
+const ROW_1: [u32; 128] = [
     1008,
     992,
     977,
@@ -261,6 +265,9 @@ const SPREADING: [u32; 1024] = [
     260,
     258,
     256,
+];
+
+const ROW_2: [u32; 128] = [
     254,
     252,
     250,
@@ -389,6 +396,9 @@ const SPREADING: [u32; 1024] = [
     114,
     114,
     113,
+];
+
+const ROW_3: [u32; 128] = [
     113,
     112,
     112,
@@ -517,6 +527,9 @@ const SPREADING: [u32; 1024] = [
     64,
     64,
     64,
+];
+
+const ROW_4: [u32; 128] = [
     63,
     63,
     63,
@@ -645,6 +658,9 @@ const SPREADING: [u32; 1024] = [
     41,
     41,
     40,
+];
+
+const ROW_5: [u32; 128] = [
     40,
     40,
     40,
@@ -773,6 +789,9 @@ const SPREADING: [u32; 1024] = [
     28,
     28,
     28,
+];
+
+const ROW_6: [u32; 128] = [
     28,
     28,
     28,
@@ -901,6 +920,9 @@ const SPREADING: [u32; 1024] = [
     20,
     20,
     20,
+];
+
+const ROW_7: [u32; 128] = [
     20,
     20,
     20,
@@ -1037,14 +1059,38 @@ fn wide(entry: u32) -> u64
     entry as u64
 }
 
-// The energy at a distance.
+// Entry k of the table, counted from 0.
+fn entry(k: u64) -> u64
+    requires { ⌜ k < 1024 ⌝ }
+    ensures { λ r. ⌜ r ≡ energyOf (1 + k) ⌝ }
+{
+    let row = k / 128;
+    let c = (k % 128) as usize;
+    match row {
+        0 => wide(ROW_0[c]),
+        1 => wide(ROW_1[c]),
+        2 => wide(ROW_2[c]),
+        3 => wide(ROW_3[c]),
+        4 => wide(ROW_4[c]),
+        5 => wide(ROW_5[c]),
+        6 => wide(ROW_6[c]),
+        7 => wide(ROW_7[c]),
+        8..=18446744073709551615 => 0,
+    }
+}
+
+// The energy at any distance. Past the table, where only a store that did not grow from an opening leads, by division; from 4,097 metres on it is 0.
 pub fn energy(distance: u64) -> u64
-    requires { ⌜ distance ≤ 1024 ⌝ }
     ensures { λ r. ⌜ r ≡ energyOf distance ⌝ }
 {
     if distance == 0 {
         return 0;
     }
-    let k = (distance - 1) as usize;
-    wide(SPREADING[k])
+    if distance <= 1024 {
+        return entry(distance - 1);
+    }
+    if distance <= 4096 {
+        return 16777216 / (distance * distance);
+    }
+    0
 }
