@@ -2,6 +2,7 @@
 --     Limits, limits                                     the shape
 --     NodeWords, NodeRanges, HeadRanges, StoreRanges     the store
 --     store-ranges, store-tests                          its test tells the facts; the facts tell the test
+--     WordRanges, word-ranges, word-tests                the three first words alone, both ways
 --     RecordRanges, record-ranges, record-tests          a record, both ways
 --     table-ranges, table-tests                          the table, both ways
 -- Assumes nothing.
@@ -19,6 +20,7 @@ use Rattle.laws.specs.Counting.{every-at, every-all}
 use Rattle.calendar.specs.rules.Layout.{current, started, lastNode, head, link, timeAt, ticketAt, pathAt, orderAt, distanceAt, epochAt, standing}
 use Rattle.calendar.specs.rules.Layout.{bucketIn}
 use Rattle.calendar.specs.rules.Ranges.{shapeInRange, headInRange, nodeInRange, storeInRange, recordInRange, tableInRange, worker, implies, between}
+use Rattle.calendar.specs.rules.Ranges.{wordsInRange}
 use Rattle.calendar.specs.facts.Views.{View, view}
 
 -- ── tests joined by "implies" ──
@@ -165,6 +167,26 @@ store-tests sh s r =
       lt-ltb (lastNode sh s) (sh .nodes) (r .last),
       every-all (λ b. headInRange sh s b) (sh .buckets) (λ b h. head-tests sh s b (r .heads b h)),
       every-all (λ n. nodeInRange sh s n) (sh .nodes) (λ n h. node-tests sh s n (r .nodes n h)),
+    )
+
+-- ── the three first words ──
+pub record WordRanges (sh : Shape) (s : List ℕ) : Type 0 where
+  pub current : bucketIn (current sh s) < sh .buckets
+  pub started : started sh s < 4294967296
+  pub last : lastNode sh s < sh .nodes
+
+pub word-ranges : (sh : Shape) (s : List ℕ) → wordsInRange sh s ≡ true → WordRanges sh s
+word-ranges sh s e =
+    let (e, last) = parts _ _ e in
+    let (current, started) = parts _ _ e in
+    record { current = ltb-true _ _ current; started = ltb-true _ _ started; last = ltb-true _ _ last }
+
+pub word-tests : (sh : Shape) (s : List ℕ) → WordRanges sh s → wordsInRange sh s ≡ true
+word-tests sh s r =
+    rw (
+      lt-ltb (bucketIn (current sh s)) (sh .buckets) (r .current),
+      lt-ltb (started sh s) 4294967296 (r .started),
+      lt-ltb (lastNode sh s) (sh .nodes) (r .last),
     )
 
 -- ── a record ──
