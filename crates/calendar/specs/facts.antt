@@ -11,6 +11,7 @@ pub mod FirstFree
 pub mod NodeCounts
 pub mod Untouched
 pub mod Starred
+pub mod RecordsKept
 pub mod RangesKept
 pub mod LedgerRun
 pub mod FreshPool

@@ -1,33 +1,30 @@
--- What a stage may count on: what refusals 1 to 4 leave. Assumes nothing.
-use mathlib.Core.Path.{_≡_, refl, ap, _∙_}
+-- What a stage may count on: the layout, that 2 + word 1 is a word, and the ranges of its record. Assumes nothing.
+use mathlib.Core.Path.{_≡_, refl, _∙_}
 use mathlib.Core.Bool.{true, false}
 use mathlib.Core.List.{List}
-use Prim.Native.Nat.{ℕ, _+_, _<_, _≤_}
+use Prim.Native.Nat.{ℕ, _+_, _<_}
 use lib.Dec.{lit<}
 use lib.ListN.{length}
 use Rattle.arrival.specs.declared.Shape.{Shape}
-use Rattle.arrival.specs.declared.Item.{Item}
 use Rattle.arrival.specs.declared.Worker.{Worker}
-use Rattle.calendar.specs.rules.Layout.{Place, cell, field, read, write, writeAll, address, itemAt, distanceAt, successor, unmarked, unlinkedAt, started}
+use Rattle.calendar.specs.rules.Layout.{Place, cell, field, read, write, writeAll, address, itemAt, successor, unmarked, unlinkedAt, started}
 use Rattle.calendar.specs.facts.Places.{valid, same, read-write}
-use Rattle.calendar.specs.facts.Views.{view}
-use Rattle.calendar.specs.facts.RangeFacts.{StoreRanges, RecordRanges}
+use Rattle.calendar.specs.facts.RangeFacts.{RecordRanges}
 use Rattle.calendar.specs.rules.SearchSteps.{unlink}
 use Rattle.words.specs.Laid.{Laid, laid-write, cell-in, field-in}
 
 pub record Ready (sh : Shape) (s : List ℕ) (w : Worker) : Type 0 where
   pub laid : Laid sh s
-  pub store : StoreRanges sh (view sh s)
+  pub started : started sh s < 4294967296
   pub worker : RecordRanges sh w
 
--- What the end of a search needs: a node, and an energy for its distance.
+-- What the end of a search needs: a node.
 pub record Holds (sh : Shape) (s : List ℕ) (n : ℕ) : Type 0 where
   pub laid : Laid sh s
   pub node : n < sh .nodes
-  pub distance : distanceAt sh s n ≤ 1024
 
 pub holds : (sh : Shape) (s : List ℕ) (w : Worker) → Ready sh s w → Holds sh s (w .own)
-holds sh s w r = record { laid = r .laid; node = r .worker .own; distance = r .store .nodes (w .own) (r .worker .own) .distance }
+holds sh s w r = record { laid = r .laid; node = r .worker .own }
 
 -- A write to a cell, or to a node's standing, leaves the arrival in every node as it was;
 module _ (sh : Shape) (s : List ℕ) (p : Place) (v n : ℕ) (ok : valid p ≡ true) (inside : address sh p < length s) where
@@ -54,8 +51,4 @@ module _ (sh : Shape) (s : List ℕ) (w : Worker) (l : Laid sh s) (left : w .lef
       ∙ item-kept sh s (cell (w .left)) (unmarked (successor (w .seen))) n refl (cell-in sh s (w .left) l left) refl refl refl refl refl
 
   pub holds-unlinked : (n : ℕ) → Holds sh s n → Holds sh (writeAll sh s (unlink sh s w)) n
-  holds-unlinked n h = record {
-    laid = laid-write sh _ _ _ (laid-write sh s _ _ l);
-    node = h .node;
-    distance = rw (ap (λ (x : Item). x .distance) (item-unlinked n)) (h .distance);
-  }
+  holds-unlinked n h = record { laid = laid-write sh _ _ _ (laid-write sh s _ _ l); node = h .node }

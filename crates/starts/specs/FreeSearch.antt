@@ -7,8 +7,7 @@ use native.Mathlib.Omega.{arith}
 use Rattle.arrival.specs.declared.Shape.{Shape}
 use Rattle.arrival.specs.declared.Worker.{Worker}
 use Rattle.calendar.specs.rules.Layout.{field, read, lastNode, standing}
-use Rattle.calendar.specs.facts.Views.{view}
-use Rattle.calendar.specs.facts.RangeFacts.{StoreRanges}
+use Rattle.calendar.specs.rules.Ranges.{worker}
 use Rattle.calendar.specs.facts.FirstFree.{after-below}
 use Rattle.calendar.specs.rules.Reclaim.{nodeAfter, firstFreeOf, firstFree}
 use Rattle.starts.specs.LeastTicket.{leastTicket, freeBelow, free-is}
@@ -48,14 +47,12 @@ module _ (sh : Shape) (s : List ℕ) (low k n m x : ℕ) (t : Bool) (some : 0 < 
   free-on e = one-on ∙ rw (← here, ← seen, ← test, e)
 
 -- With the least ticket of the table it is the first free node.
-module _ (sh : Shape) (s : List ℕ) (t : List Worker) (ranges : StoreRanges sh (view sh s)) where
-  same-of : (k n : ℕ) → n < sh .nodes → freeOfBelow sh s (leastTicket t (sh .workers)) k n ≡ firstFreeOf sh s t k n
+module _ (sh : Shape) (s : List ℕ) (t : List Worker) (small : (i : ℕ) → i < sh .workers → worker t i .ticket < 4294967296) where
+  same-of : (k n : ℕ) → freeOfBelow sh s (leastTicket t (sh .workers)) k n ≡ firstFreeOf sh s t k n
   unfolding freeOfBelow firstFreeOf
-  same-of zero n h = refl
-  same-of (suc k) n h =
-      let l = next-below sh n h in
-      rw (free-is sh t (standing sh s (nodeAfter sh n)) (ranges .nodes (nodeAfter sh n) l .standing), same-of k (nodeAfter sh n) l)
+  same-of zero n = refl
+  same-of (suc k) n = rw (free-is sh t small (standing sh s (nodeAfter sh n)), same-of k (nodeAfter sh n))
 
   pub first-free-is : firstFreeBelow sh s (leastTicket t (sh .workers)) ≡ firstFree sh s t
   unfolding firstFreeBelow firstFree
-  first-free-is = same-of (sh .nodes) (lastNode sh s) (ranges .last)
+  first-free-is = same-of (sh .nodes) (lastNode sh s)

@@ -1,14 +1,14 @@
 -- The least ticket of a call in progress: one number that tells, for every retired node, whether it is free. Assumes nothing.
-use mathlib.Core.Path.{_≡_, refl, ap, _∙_}
+use mathlib.Core.Path.{_≡_, refl, sym, ap, _∙_}
 use mathlib.Core.List.{List}
 use mathlib.Core.Bool.{Bool, true, false, cond, not, _&&_, _||_}
 use Prim.Native.Nat.{ℕ, zero, suc, _+_, _-_, _<_, _≤_}
 use native.Mathlib.Omega.{arith}
 use lib.Dec.{eqb, leb, ltb}
-use borrow.Author.Tests.{ltb-true, ltb-false, leb-true, leb-false, lt-ltb, le-ltb}
+use borrow.Author.Tests.{ltb-true, ltb-false, leb-true, leb-false, eqb-true, eqb-false, lt-ltb, le-ltb, le-leb, ne-eqb}
 use Rattle.arrival.specs.declared.Shape.{Shape}
 use Rattle.arrival.specs.declared.Worker.{Worker}
-use Rattle.laws.specs.Counting.{every}
+use Rattle.laws.specs.Counting.{every, every-same}
 use Rattle.calendar.specs.rules.Ranges.{worker}
 use Rattle.calendar.specs.rules.Reclaim.{inProgress, startedBy, isFree}
 
@@ -21,9 +21,9 @@ unfoldable pub leastTicket : List Worker → ℕ → ℕ
 leastTicket t zero = 4294967296
 leastTicket t (suc n) = lower (leastTicket t n) (worker t n)
 
--- a standing that is free if `low` is the least ticket in progress
+-- a standing that is free if `low` is the least ticket in progress: unlinked before that call started, or no call is in progress
 abbrev pub freeBelow : ℕ → ℕ → Bool
-freeBelow low x = eqb x 0 || (leb 2 x && ltb x (2 + low))
+freeBelow low x = eqb x 0 || (leb 2 x && (ltb x (2 + low) || eqb low 4294967296))
 
 pub least-bound : (t : List Worker) (n : ℕ) → leastTicket t n ≤ 4294967296
 unfolding leastTicket
@@ -61,19 +61,53 @@ below-least t (suc n) y h =
     below-lower (inProgress (worker t n)) y (worker t n .ticket) (leastTicket t n)
     ∙ ap (λ (u : Bool). u && not (startedBy y (worker t n))) (below-least t n y h)
 
--- The test by the least ticket is the test of "free".
-pub free-is : (sh : Shape) (t : List Worker) (x : ℕ) → x < 4294967298 → freeBelow (leastTicket t (sh .workers)) x ≡ isFree sh t x
-unfolding isFree
-free-is sh t x h = go (leb 2 x) refl
-  where
-    less : (l : ℕ) → 2 ≤ x → ltb x (2 + l) ≡ ltb (x - 2) l
-    less l two = pick (ltb (x - 2) l) refl
-      where
-        pick : (u : Bool) → ltb (x - 2) l ≡ u → ltb x (2 + l) ≡ u
-        pick true e = lt-ltb x (2 + l) (omega (arith, ltb-true (x - 2) l e))
-        pick false e = le-ltb x (2 + l) (omega (arith, ltb-false (x - 2) l e))
+-- Where the tickets of calls in progress are below 2^32 the test by the least one is the test of "free", of any standing.
+module _ (sh : Shape) (t : List Worker) (small : (i : ℕ) → i < sh .workers → worker t i .ticket < 4294967296) where
+  abbrev low : ℕ
+  low = leastTicket t (sh .workers)
 
-    go : (u : Bool) → leb 2 x ≡ u
-        → (eqb x 0 || (u && ltb x (2 + leastTicket t (sh .workers)))) ≡ (eqb x 0 || (u && every (sh .workers) (λ i. not (startedBy (x - 2) (worker t i)))))
-    go true e = rw (less (leastTicket t (sh .workers)) (leb-true 2 x e), below-least t (sh .workers) (x - 2) (omega arith))
-    go false e = refl
+  abbrev none-by : ℕ → Bool
+  none-by y = every (sh .workers) (λ i. not (startedBy y (worker t i)))
+
+  -- a number that all tickets are below is as good as 2^32 − 1
+  past-all : (y : ℕ) → 4294967295 ≤ y → none-by 4294967295 ≡ none-by y
+  past-all y h =
+      every-same _ _ (sh .workers) (λ i l. ap (λ (b : Bool). not (inProgress (worker t i) && b))
+      (le-leb (worker t i .ticket) 4294967295 (omega (arith, small i l)) ∙ sym (le-leb (worker t i .ticket) y (omega (arith, small i l)))))
+
+  -- the least ticket is 2^32 where it is above 2^32 − 1
+  at-most : ltb 4294967295 low ≡ eqb low 4294967296
+  at-most = go (eqb low 4294967296) refl
+    where
+      go : (b : Bool) → eqb low 4294967296 ≡ b → ltb 4294967295 low ≡ b
+      go true e = lt-ltb 4294967295 low (omega (arith, eqb-true low 4294967296 e))
+      go false e = le-ltb 4294967295 low (omega (arith, eqb-false low 4294967296 e, least-bound t (sh .workers)))
+
+  tested : (y : ℕ) → (ltb y low || eqb low 4294967296) ≡ none-by y
+  tested y = go (ltb y 4294967296) refl
+    where
+      go : (b : Bool) → ltb y 4294967296 ≡ b → (ltb y low || eqb low 4294967296) ≡ none-by y
+      go true e = let l = ltb-true y 4294967296 e in either-is (ltb y low) refl l ∙ below-least t (sh .workers) y l
+        where
+          either-is : (u : Bool) → ltb y low ≡ u → y < 4294967296 → (u || eqb low 4294967296) ≡ ltb y low
+          either-is true f l = sym f
+          either-is false f l = ne-eqb low 4294967296 (λ z. omega (arith, ltb-false y low f)) ∙ sym f
+      go false e =
+          let h = ltb-false y 4294967296 e in
+          rw (le-ltb y low (omega (arith, least-bound t (sh .workers)))) (sym at-most ∙ below-least t (sh .workers) 4294967295 (omega arith)
+          ∙ past-all y (omega arith))
+
+  pub free-is : (x : ℕ) → freeBelow (leastTicket t (sh .workers)) x ≡ isFree sh t x
+  unfolding isFree
+  free-is x = go (leb 2 x) refl
+    where
+      less : 2 ≤ x → ltb x (2 + low) ≡ ltb (x - 2) low
+      less two = pick (ltb (x - 2) low) refl
+        where
+          pick : (u : Bool) → ltb (x - 2) low ≡ u → ltb x (2 + low) ≡ u
+          pick true e = lt-ltb x (2 + low) (omega (arith, ltb-true (x - 2) low e))
+          pick false e = le-ltb x (2 + low) (omega (arith, ltb-false (x - 2) low e))
+
+      go : (u : Bool) → leb 2 x ≡ u → (eqb x 0 || (u && (ltb x (2 + low) || eqb low 4294967296))) ≡ (eqb x 0 || (u && none-by (x - 2)))
+      go true e = rw (less (leb-true 2 x e), tested (x - 2))
+      go false e = refl

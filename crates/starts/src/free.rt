@@ -24,12 +24,12 @@ pub fn lower_ticket(low: u64, w: Worker) -> u64
     }
 }
 
-// Whether a standing is free: never used, or unlinked before the call with the least ticket started.
+// Whether a standing is free: never used, or unlinked before the call with the least ticket started; or none is in progress.
 fn is_free(low: u64, standing: u64) -> bool
     requires { ⌜ low ≤ 4294967296 ⌝ }
     ensures { λ r. ⌜ r ≡ freeBelow low standing ⌝ }
 {
-    (standing == 0) | (2 <= standing) & (standing < 2 + low)
+    (standing == 0) | (2 <= standing) & ((standing < 2 + low) | (low == word::COUNTS))
 }
 
 // The node after n, going round.

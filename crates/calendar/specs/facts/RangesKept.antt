@@ -27,8 +27,9 @@ use Rattle.calendar.specs.rules.DequeueSteps.{nextCurrent}
 use Rattle.calendar.specs.rules.Reclaim.{firstFree}
 use Rattle.calendar.specs.rules.Refusals.{noEpoch}
 use Rattle.calendar.specs.facts.Views.{View, view, update, updates}
-use Rattle.calendar.specs.facts.RangeFacts.{NodeWords, StoreRanges, RecordRanges}
+use Rattle.calendar.specs.facts.RangeFacts.{NodeWords, WordRanges, StoreRanges, RecordRanges}
 use Rattle.calendar.specs.facts.FirstFree.{first-free-node}
+use Rattle.calendar.specs.facts.RecordsKept.{enqueue-record, dequeue-record, found-same, settled-same, walked-same, turn-record, epoch-fits}
 use Rattle.calendar.specs.facts.Accepted.{EnqueueAccepted, DequeueAccepted, StepAccepted}
 use Rattle.calendar.specs.facts.Inside.{found-writes, settled-writes, walked-writes}
 use Rattle.calendar.specs.facts.Changes.{Found, put-found, take-ends, Settled, at-end, goes-on, Walked, out, out-last, meets, Change, head-read}
@@ -114,22 +115,7 @@ pub enqueue-ranged : (sh : Shape) (s : List ℕ) (t : List Worker) (i : ℕ) (a 
 unfolding enqueueStart
 enqueue-ranged sh s t i a A = (
   record { current = I .current; started = omega (arith, A .ticket, I .started); last = isNode; heads = I .heads; nodes = λ n l. go n l (eqb x n) refl },
-  record {
-    stage = omega arith;
-    kind = omega arith;
-    enqueues = λ p q. absurd (omega arith);
-    dequeues = λ p q. absurd (omega arith);
-    own = isNode;
-    bucket = bucket-below sh (a .time) (A .usable .lent .limits .some-width) (A .time);
-    further = λ p. absurd (omega arith);
-    left = r .left;
-    right = r .right;
-    searches = λ p q. absurd (omega arith);
-    walks = λ p q. absurd (omega arith);
-    seen = r .seen;
-    current = r .current;
-    ticket = omega (arith, A .ticket, I .started);
-  },
+  enqueue-record sh s x a (worker t i) r isNode (A .usable .lent .limits .some-width) (A .time) (omega (arith, A .ticket, I .started)),
 )
   where
     x : ℕ
@@ -175,22 +161,7 @@ dequeue-ranged sh s t i A =
     let I = A .usable .store in
     let r = A .usable .table i (A .usable .exists) in (
       set-started sh (view sh s) I (started sh s + 1) (omega (arith, A .ticket)),
-      record {
-        stage = omega arith;
-        kind = omega arith;
-        enqueues = λ p q. absurd (omega arith);
-        dequeues = λ p q. refl;
-        own = r .own;
-        bucket = r .bucket;
-        further = λ p. absurd (omega arith);
-        left = r .left;
-        right = r .right;
-        searches = λ p q. absurd (omega arith);
-        walks = λ p q. absurd (omega arith);
-        seen = r .seen;
-        current = r .current;
-        ticket = omega (arith, A .ticket, I .started);
-      },
+      dequeue-record sh s (worker t i) r (omega (arith, A .ticket, I .started)),
     )
 
 -- ── a turn ──
@@ -198,80 +169,7 @@ dequeue-ranged sh s t i A =
 abbrev pub leaks : Shape → List ℕ → Worker → Bool
 leaks sh s w = eqb (w .stage) 3 && leftHolds sh s w && eqb (view sh s .distance (w .right)) 0
 
--- the ranges of a record's fields that no stage narrows
-abbrev Fields : Shape → Worker → Type 0
-Fields sh w = record {
-  kind : w .kind ≤ 1;
-  own : w .own < sh .nodes;
-  bucket : w .bucket < sh .buckets;
-  left : w .left < sh .buckets + sh .nodes;
-  right : w .right ≤ sh .nodes;
-  seen : w .seen / 2 ≤ sh .nodes;
-  current : w .current / 4294967296 < sh .buckets;
-  ticket : w .ticket < 4294967296;
-}
-
-fields : (sh : Shape) (w : Worker) → RecordRanges sh w → Fields sh w
-fields sh w r =
-    record { kind = r .kind; own = r .own; bucket = r .bucket; left = r .left; right = r .right; seen = r .seen; current = r .current; ticket = r .ticket }
-
--- such a record at a stage, with what the stage asks
-at-stage : (sh : Shape) (w : Worker) (k : ℕ) → Fields sh w → k ≤ 13 → (4 ≤ k → k ≤ 7 → w .kind ≡ 0) → (8 ≤ k → k ≤ 13 → w .kind ≡ 1)
-    → (k ≡ 12 → w .bucket ≢ sh .buckets - 1)
-    → (2 ≤ k → k ≤ 3 → w .right ≢ sh .nodes) → (10 ≤ k → k ≤ 11 → w .right ≢ sh .nodes) → RecordRanges sh (withStage k w)
-at-stage sh w k r stage enq deq further searches walks = record {
-  stage = stage;
-  kind = r .kind;
-  enqueues = enq;
-  dequeues = deq;
-  own = r .own;
-  bucket = r .bucket;
-  further = further;
-  left = r .left;
-  right = r .right;
-  searches = searches;
-  walks = walks;
-  seen = r .seen;
-  current = r .current;
-  ticket = r .ticket;
-}
-
--- at stages 0 and 1 nothing more is asked
-free-stage : (sh : Shape) (w : Worker) (k : ℕ) → Fields sh w → k ≤ 1 → RecordRanges sh (withStage k w)
-free-stage sh w k r h =
-    at-stage sh w k r (omega arith) (λ p q. absurd (omega arith)) (λ p q. absurd (omega arith)) (λ p. absurd (omega arith)) (λ p q. absurd (omega arith))
-    (λ p q. absurd (omega arith))
-
--- at 8, 9 and 13 only that it is a take
-take-stage : (sh : Shape) (w : Worker) (k : ℕ) → Fields sh w → 8 ≤ k → k ≤ 13 → k ≢ 12 → (10 ≤ k → k ≤ 11 → w .right ≢ sh .nodes) → w .kind ≡ 1
-    → RecordRanges sh (withStage k w)
-take-stage sh w k r lo hi other walks z =
-    at-stage sh w k r hi (λ p q. absurd (omega arith)) (λ p q. z) (λ p. absurd (other p)) (λ p q. absurd (omega arith)) walks
-
--- at 4 to 7 only that it is a put
-put-stage : (sh : Shape) (w : Worker) (k : ℕ) → Fields sh w → 4 ≤ k → k ≤ 7 → w .kind ≡ 0 → RecordRanges sh (withStage k w)
-put-stage sh w k r lo hi z =
-    at-stage sh w k r (omega arith) (λ p q. z) (λ p q. absurd (omega arith)) (λ p. absurd (omega arith)) (λ p q. absurd (omega arith))
-    (λ p q. absurd (omega arith))
-
 module _ (sh : Shape) (s : List ℕ) where
-  found-ranged : {ws : List Write} {v : Worker} {o : Outcome} → Found sh s ws v o → Fields sh v → RecordRanges sh (o .worker)
-  found-ranged {v} (put-found z) r = put-stage sh v 4 r (omega arith) (omega arith) z
-  found-ranged {v} (take-ends z) r = free-stage sh v 0 r (omega arith)
-
-  settled-ranged : {ws : List Write} {v : Worker} {o : Outcome} → Settled sh s ws v o → Fields sh v → RecordRanges sh (o .worker)
-  settled-ranged (at-end q f) r = found-ranged f r
-  settled-ranged {v} (goes-on n) r =
-      at-stage sh v 2 r (omega arith) (λ p q. absurd (omega arith)) (λ p q. absurd (omega arith)) (λ p. absurd (omega arith)) (λ p q. n)
-      (λ p q. absurd (omega arith))
-
-  walked-ranged : {v : Worker} {o : Outcome} → Walked sh s v o → Fields sh v → v .kind ≡ 1 → RecordRanges sh (o .worker)
-  walked-ranged {v} (out e more) r z =
-      at-stage sh v 12 r (omega arith) (λ p q. absurd (omega arith)) (λ p q. z) (λ p e. omega (arith, ltb-true (v .bucket + 1) (sh .buckets) more))
-      (λ p q. absurd (omega arith)) (λ p q. absurd (omega arith))
-  walked-ranged {v} (out-last e more) r z = take-stage sh v 13 r (omega arith) (omega arith) (λ p. omega arith) (λ p q. absurd (omega arith)) z
-  walked-ranged {v} (meets n) r z = take-stage sh v 10 r (omega arith) (omega arith) (λ p. omega arith) (λ p q. n) z
-
   module _ (t : List Worker) (i : ℕ) (A : StepAccepted sh s t i) where
     abbrev w : Worker
     w = worker t i
@@ -282,165 +180,57 @@ module _ (sh : Shape) (s : List ℕ) where
     I : StoreRanges sh (view sh s)
     I = A .usable .store
 
+    words : WordRanges sh s
+    words = record { current = I .current; started = I .started; last = I .last }
+
     r : RecordRanges sh (worker t i)
     r = A .usable .table i (A .usable .exists)
 
-    F : Fields sh (worker t i)
-    F = fields sh (worker t i) r
-
-    right-node : worker t i .right ≢ sh .nodes → worker t i .right < sh .nodes
-    right-node n = omega (arith, r .right)
-
     -- right's link, as the word seen and as the next right
     right-link : worker t i .right ≢ sh .nodes → link sh s (worker t i .right) / 2 ≤ sh .nodes
-    right-link n = I .nodes (w .right) (right-node n) .next
-
-    with-seen : worker t i .right ≢ sh .nodes → Fields sh (withSeen (link sh s (worker t i .right)) (worker t i))
-    with-seen n =
-        record {
-          kind = F .kind;
-          own = F .own;
-          bucket = F .bucket;
-          left = F .left;
-          right = F .right;
-          seen = right-link n;
-          current = F .current;
-          ticket = F .ticket;
-        }
-
-    with-next : worker t i .right ≢ sh .nodes
-        → Fields sh (withRight (link sh s (worker t i .right) / 2) (withSeen (link sh s (worker t i .right)) (worker t i)))
-    with-next n =
-        record {
-          kind = F .kind;
-          own = F .own;
-          bucket = F .bucket;
-          left = F .left;
-          right = right-link n;
-          seen = right-link n;
-          current = F .current;
-          ticket = F .ticket;
-        }
+    right-link n = I .nodes (w .right) (omega (arith, r .right)) .next
 
     head-link : view sh s .cells (worker t i .bucket) / 2 ≤ sh .nodes
     head-link = I .heads (w .bucket) (r .bucket) .1
 
-    with-current : Fields sh (withCurrent (current sh s) (worker t i))
-    with-current =
-        record { kind = F .kind; own = F .own; bucket = F .bucket; left = F .left; right = F .right; seen = F .seen; current = I .current; ticket = F .ticket }
+    abbrev Links : Outcome → Type 0
+    Links o = (o .worker .right ≤ sh .nodes) × (o .worker .seen / 2 ≤ sh .nodes)
 
-    take : 8 ≤ worker t i .stage → worker t i .kind ≡ 1
-    take h = r .dequeues h (r .stage)
-
-    -- 7 leaves an epoch below 2^32
-    epoch-fits : worker t i .stage ≡ 7 → currentHolds sh s (worker t i) ≡ true → worker t i .current % 4294967296 ≢ 4294967295
-    epoch-fits e h q = never (sym (A .epoch) ∙ all)
-      where
-        all : noEpoch sh s (worker t i) ≡ true
-        all = rw (eq-eqb (worker t i .stage) 7 e, h, eq-eqb (worker t i .current % 4294967296) 4294967295 q)
-
-    record-kept : {o : Outcome} → Change sh s (worker t i) o → RecordRanges sh (o .worker)
-    record-kept (head-read q set) =
-        settled-ranged set (record {
-          kind = F .kind;
-          own = F .own;
-          bucket = F .bucket;
-          left = omega (arith, F .bucket);
-          right = head-link;
-          seen = F .seen;
-          current = F .current;
-          ticket = F .ticket;
-        })
-    record-kept (mark-seen q h) = let n = r .searches (omega arith) (omega arith) in
-        at-stage sh (withSeen (link sh s (w .right)) w) 3 (with-seen n) (omega arith) (λ a b. absurd (omega arith)) (λ a b. absurd (omega arith))
-        (λ a. absurd (omega arith)) (λ a b. n) (λ a b. absurd (omega arith))
-    record-kept (passed q h lt set) = let n = r .searches (omega arith) (omega arith) in
-        settled-ranged set (record {
-          kind = F .kind;
-          own = F .own;
-          bucket = F .bucket;
-          left = omega (arith, right-node n);
-          right = right-link n;
-          seen = right-link n;
-          current = F .current;
-          ticket = F .ticket;
-        })
-    record-kept (stopped q h lt f) = found-ranged f (with-seen (r .searches (omega arith) (omega arith)))
-    record-kept (unlinked q h set) =
-        settled-ranged set (record {
-          kind = F .kind;
-          own = F .own;
-          bucket = F .bucket;
-          left = F .left;
-          right = F .seen;
-          seen = F .seen;
-          current = F .current;
-          ticket = F .ticket;
-        })
-    record-kept (again-3 q h) = free-stage sh w 1 F (omega arith)
-    record-kept (prepared q) = put-stage sh (withCurrent (current sh s) w) 5 with-current (omega arith) (omega arith) (r .enqueues (omega arith) (omega arith))
-    record-kept (linked q h) = put-stage sh w 6 F (omega arith) (omega arith) (r .enqueues (omega arith) (omega arith))
-    record-kept (again-5 q h) = free-stage sh w 1 F (omega arith)
-    record-kept (stored-6 q h) = free-stage sh (withCurrent (current sh s) w) 0 with-current (omega arith)
-    record-kept (on-7 q h) = put-stage sh (withCurrent (current sh s) w) 7 with-current (omega arith) (omega arith) (r .enqueues (omega arith) (omega arith))
-    record-kept (stored-7 q h) = free-stage sh w 0 F (omega arith)
-    record-kept (back-6 q h) = put-stage sh w 6 F (omega arith) (omega arith) (r .enqueues (omega arith) (omega arith))
-    record-kept (current-read q) =
-        take-stage sh (withBucket (current sh s / 4294967296) (withCurrent (current sh s) w)) 9 (record {
-          kind = F .kind;
-          own = F .own;
-          bucket = I .current;
-          left = F .left;
-          right = F .right;
-          seen = F .seen;
-          current = I .current;
-          ticket = F .ticket;
-        }) (omega arith) (omega arith) (λ p. omega arith) (λ a b. absurd (omega arith)) (take (omega arith))
-    record-kept (first-read q wk) =
-        walked-ranged wk (record {
-          kind = F .kind;
-          own = F .own;
-          bucket = F .bucket;
-          left = F .left;
-          right = head-link;
-          seen = F .seen;
-          current = F .current;
-          ticket = F .ticket;
-        }) (take (omega arith))
-    record-kept (mark-passed q h wk) = walked-ranged wk (with-next (r .walks (omega arith) (omega arith))) (take (omega arith))
-    record-kept (newer q h n) =
-        take-stage sh (withSeen (link sh s (w .right)) w) 8 (with-seen (r .walks (omega arith) (omega arith))) (omega arith) (omega arith) (λ p. omega arith)
-        (λ a b. absurd (omega arith)) (take (omega arith))
-    record-kept (on-11 q h n) =
-        let u = r .walks (omega arith) (omega arith) in
-        take-stage sh (withSeen (link sh s (w .right)) w) 11 (with-seen u) (omega arith) (omega arith) (λ p. omega arith) (λ a b. u) (take (omega arith))
-    record-kept (marked q h) =
-        free-stage sh (withOwn (w .right) w) 1 (record {
-          kind = F .kind;
-          own = right-node (r .walks (omega arith) (omega arith));
-          bucket = F .bucket;
-          left = F .left;
-          right = F .right;
-          seen = F .seen;
-          current = F .current;
-          ticket = F .ticket;
-        }) (omega arith)
-    record-kept (back-10 q h) =
-        take-stage sh w 10 F (omega arith) (omega arith) (λ p. omega arith) (λ a b. r .walks (omega arith) (omega arith)) (take (omega arith))
-    record-kept (advanced q h) =
-        take-stage sh (withBucket (w .bucket + 1) (withCurrent (nextCurrent w) w)) 9 (record {
-          kind = F .kind;
-          own = F .own;
-          bucket = omega (arith, F .bucket, r .further q);
-          left = F .left;
-          right = F .right;
-          seen = F .seen;
-          current = omega (arith, F .bucket, r .further q);
-          ticket = F .ticket;
-        }) (omega arith) (omega arith) (λ p. omega arith) (λ a b. absurd (omega arith)) (take (omega arith))
-    record-kept (back-12 q h) = take-stage sh w 8 F (omega arith) (omega arith) (λ p. omega arith) (λ a b. absurd (omega arith)) (take (omega arith))
-    record-kept (emptied q h) = free-stage sh w 0 F (omega arith)
-    record-kept (back-13 q h) = take-stage sh w 8 F (omega arith) (omega arith) (λ p. omega arith) (λ a b. absurd (omega arith)) (take (omega arith))
+    -- what is read in a store in range is in range
+    links-kept : {o : Outcome} → Change sh s (worker t i) o → Links o
+    links-kept (head-read q set) = let e = settled-same sh s set in let h = head-link in (omega (arith, e .0), omega (arith, e .1, r .seen))
+    links-kept (mark-seen q h) = (r .right, right-link (r .searches (omega arith) (omega arith)))
+    links-kept (passed q h lt set) =
+        let e = settled-same sh s set in
+        let l = right-link (r .searches (omega arith) (omega arith)) in
+        (omega (arith, e .0), omega (arith, e .1))
+    links-kept (stopped q h lt f) =
+        let e = found-same sh s f in
+        let l = right-link (r .searches (omega arith) (omega arith)) in
+        (omega (arith, e .0, r .right), omega (arith, e .1))
+    links-kept (unlinked q h set) = let e = settled-same sh s set in (omega (arith, e .0, r .seen), omega (arith, e .1, r .seen))
+    links-kept (again-3 q h) = (r .right, r .seen)
+    links-kept (prepared q) = (r .right, r .seen)
+    links-kept (linked q h) = (r .right, r .seen)
+    links-kept (again-5 q h) = (r .right, r .seen)
+    links-kept (stored-6 q h) = (r .right, r .seen)
+    links-kept (on-7 q h) = (r .right, r .seen)
+    links-kept (stored-7 q h) = (r .right, r .seen)
+    links-kept (back-6 q h) = (r .right, r .seen)
+    links-kept (current-read q) = (r .right, r .seen)
+    links-kept (first-read q wk) = let e = walked-same sh s wk in let h = head-link in (omega (arith, e .0), omega (arith, e .1, r .seen))
+    links-kept (mark-passed q h wk) =
+        let e = walked-same sh s wk in
+        let l = right-link (r .walks (omega arith) (omega arith)) in
+        (omega (arith, e .0), omega (arith, e .1))
+    links-kept (newer q h n) = (r .right, right-link (r .walks (omega arith) (omega arith)))
+    links-kept (on-11 q h n) = (r .right, right-link (r .walks (omega arith) (omega arith)))
+    links-kept (marked q h) = (r .right, r .seen)
+    links-kept (back-10 q h) = (r .right, r .seen)
+    links-kept (advanced q h) = (r .right, r .seen)
+    links-kept (back-12 q h) = (r .right, r .seen)
+    links-kept (emptied q h) = (r .right, r .seen)
+    links-kept (back-13 q h) = (r .right, r .seen)
 
     none : {ws : List Write} → ws ≡ [] → StoreRanges sh (updates ws (view sh s))
     none e = rw e I
@@ -448,7 +238,7 @@ module _ (sh : Shape) (s : List ℕ) where
     store-kept : {o : Outcome} → leaks sh s (worker t i) ≡ false → Change sh s (worker t i) o → StoreRanges sh (updates (o .writes) (view sh s))
     store-kept {o} tight (unlinked q h set) = subst (λ ws. StoreRanges sh (updates ws m)) (sym (settled-writes sh s set))
         (set-standing sh (update (cell (w .left)) (2 * (w .seen / 2)) m) (set-cell sh m I (w .left) (2 * (w .seen / 2)) (λ l. omega arith)
-        (omega (arith, F .seen))) (w .right) (retirement sh s) (omega (arith, I .started)) far)
+        (omega (arith, r .seen))) (w .right) (retirement sh s) (omega (arith, I .started)) far)
       where
         far : 1 ≤ view sh s .distance (worker t i .right)
         far = go (eqb (view sh s .distance (w .right)) 0) refl
@@ -463,21 +253,21 @@ module _ (sh : Shape) (s : List ℕ) where
     store-kept tight (again-3 q h) = I
     store-kept tight (prepared q) =
         set-cell sh (update (field 6 (w .own)) (ownEpoch sh s) m) (set-epoch sh m I (w .own) (ownEpoch sh s) (omega arith)) (sh .buckets + w .own)
-        (2 * w .right) (λ l. omega arith) (omega (arith, F .right))
-    store-kept tight (linked q h) = set-cell sh m I (w .left) (2 * w .own) (λ l. omega arith) (omega (arith, F .own))
+        (2 * w .right) (λ l. omega arith) (omega (arith, r .right))
+    store-kept tight (linked q h) = set-cell sh m I (w .left) (2 * w .own) (λ l. omega arith) (omega (arith, r .own))
     store-kept tight (again-5 q h) = I
     store-kept tight (stored-6 q h) = I
     store-kept tight (on-7 q h) = I
-    store-kept tight (stored-7 q h) = set-current sh m I (renewed w) (omega (arith, F .bucket, epoch-fits q h))
+    store-kept tight (stored-7 q h) = set-current sh m I (renewed w) (omega (arith, r .bucket, epoch-fits sh s (worker t i) words r (A .epoch) q h))
     store-kept tight (back-6 q h) = I
     store-kept tight (current-read q) = I
     store-kept tight (first-read q wk) = none (walked-writes sh s wk)
     store-kept tight (mark-passed q h wk) = none (walked-writes sh s wk)
     store-kept tight (newer q h n) = I
     store-kept tight (on-11 q h n) = I
-    store-kept tight (marked q h) = set-cell sh m I (sh .buckets + w .right) (2 * (w .seen / 2) + 1) (λ l. absurd (omega arith)) (omega (arith, F .seen))
+    store-kept tight (marked q h) = set-cell sh m I (sh .buckets + w .right) (2 * (w .seen / 2) + 1) (λ l. absurd (omega arith)) (omega (arith, r .seen))
     store-kept tight (back-10 q h) = I
-    store-kept tight (advanced q h) = set-current sh m I (nextCurrent w) (omega (arith, F .bucket, r .further q))
+    store-kept tight (advanced q h) = set-current sh m I (nextCurrent w) (omega (arith, r .bucket, r .further q))
     store-kept tight (back-12 q h) = I
     store-kept tight (emptied q h) = I
     store-kept tight (back-13 q h) = I
@@ -485,4 +275,6 @@ module _ (sh : Shape) (s : List ℕ) where
 -- A TURN KEEPS THE RANGES, BUT FOR THE LEAK
 pub step-ranged : (sh : Shape) (s : List ℕ) (t : List Worker) (i : ℕ) → StepAccepted sh s t i → {o : Outcome} → Change sh s (worker t i) o
     → RecordRanges sh (o .worker) × (leaks sh s (worker t i) ≡ false → StoreRanges sh (updates (o .writes) (view sh s)))
-step-ranged sh s t i A c = (record-kept sh s t i A c, λ tight. store-kept sh s t i A tight c)
+step-ranged sh s t i A c =
+    let (right, seen) = links-kept sh s t i A c in
+    (turn-record sh s (worker t i) (words sh s t i A) (r sh s t i A) c right seen, λ tight. store-kept sh s t i A tight c)

@@ -16,7 +16,7 @@ item-at-requires : tie.Need-item-at-requires
 item-at-requires c κs = search needs
 
 energy-requires : tie.Need-energy-requires
-energy-requires c κs = rw (c .item-at .ensures) (c .before .before .before .before .pre .distance)
+energy-requires c κs = search needs
 
 answer-requires : tie.Need-answer-requires
 answer-requires c κs = search needs
