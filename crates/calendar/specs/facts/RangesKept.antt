@@ -11,28 +11,26 @@ use Prim.Native.Nat.{ℕ, _+_, _*_, _-_, _/_, _%_, _≤_, _<_}
 use native.Mathlib.Omega.{arith}
 use native.Mathlib.Nat.{mul-le-mul}
 use lib.Dec.{eqb}
-use borrow.Author.Tests.{eqb-false, ltb-true, eq-eqb}
+use borrow.Author.Tests.{eqb-false, eq-eqb}
 use Rattle.arrival.specs.declared.Shape.{Shape}
 use Rattle.arrival.specs.declared.Arrival.{Arrival}
 use Rattle.arrival.specs.declared.Worker.{Worker}
-use Rattle.arrival.specs.Keys.{bucket-below}
 use Rattle.laws.specs.Tests.{never, upd-cases}
 use Rattle.calendar.specs.rules.Layout.{Write, word, cell, field, link, started, current}
 use Rattle.calendar.specs.rules.Ranges.{worker}
-use Rattle.calendar.specs.rules.Outcome.{Outcome, withStage, withSeen, withRight, withOwn, withBucket, withCurrent}
+use Rattle.calendar.specs.rules.Outcome.{Outcome}
 use Rattle.calendar.specs.rules.Starts.{enqueueStart, dequeueStart}
 use Rattle.calendar.specs.rules.SearchSteps.{leftHolds, retirement}
-use Rattle.calendar.specs.rules.EnqueueSteps.{ownEpoch, currentHolds, renewed}
+use Rattle.calendar.specs.rules.EnqueueSteps.{ownEpoch, renewed}
 use Rattle.calendar.specs.rules.DequeueSteps.{nextCurrent}
 use Rattle.calendar.specs.rules.Reclaim.{firstFree}
-use Rattle.calendar.specs.rules.Refusals.{noEpoch}
 use Rattle.calendar.specs.facts.Views.{View, view, update, updates}
 use Rattle.calendar.specs.facts.RangeFacts.{NodeWords, WordRanges, StoreRanges, RecordRanges}
 use Rattle.calendar.specs.facts.FirstFree.{first-free-node}
 use Rattle.calendar.specs.facts.RecordsKept.{enqueue-record, dequeue-record, found-same, settled-same, walked-same, turn-record, epoch-fits}
 use Rattle.calendar.specs.facts.Accepted.{EnqueueAccepted, DequeueAccepted, StepAccepted}
 use Rattle.calendar.specs.facts.Inside.{found-writes, settled-writes, walked-writes}
-use Rattle.calendar.specs.facts.Changes.{Found, put-found, take-ends, Settled, at-end, goes-on, Walked, out, out-last, meets, Change, head-read}
+use Rattle.calendar.specs.facts.Changes.{Change, head-read}
 use Rattle.calendar.specs.facts.Changes.{mark-seen, passed, stopped, unlinked, again-3, prepared, linked, again-5, stored-6, on-7, stored-7, back-6}
 use Rattle.calendar.specs.facts.Changes.{current-read, first-read, mark-passed, newer, on-11, marked, back-10, advanced, back-12, emptied, back-13}
 

@@ -20,7 +20,7 @@ use Rattle.arrival.specs.declared.Arrival.{Arrival}
 use Rattle.arrival.specs.declared.Worker.{Worker}
 use Rattle.arrival.specs.Keys.{bucket-below}
 use Rattle.laws.specs.Tests.{never, parts, both}
-use Rattle.calendar.specs.rules.Layout.{Write, writeAll, layout, link, started, lastNode, current}
+use Rattle.calendar.specs.rules.Layout.{Write, writeAll, layout, link, started, current}
 use Rattle.calendar.specs.rules.Ranges.{linkInRange, recordInRange}
 use Rattle.calendar.specs.rules.Outcome.{Outcome, withStage, withSeen, withOwn, withBucket, withCurrent}
 use Rattle.calendar.specs.rules.Starts.{enqueueStart, dequeueStart}
