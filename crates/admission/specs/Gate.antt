@@ -1,6 +1,7 @@
 -- Refusals 1 to 4 by the flag, before the worker's record is looked at: an action is refused by one of them, or by the first of its own.
 --     ownOf                          an action's own refusals, handed on
 --     gateOf, gate-passed            the first of 1 to 4; where there is none the flag is up and the worker exists
+--     gate-with                      with a flag that says what the test for 3 says, it is the first of the memory's tests
 --     usable                         what an action that the gate lets pass may count on
 --     refusal-is, refused-is         the gate's refusal, or the first of its own, is the action's; what the gate refuses does nothing
 --     turn-at-3                      nothing else refuses a turn at stage 3
@@ -10,10 +11,11 @@
 --     gate-parts                     the gate's refusal is an opening's, or goes by the flag and the worker
 --     Tight, gate-opens, passes      a flag down where 1 or 2 applies; an opening's refusals among the gate's; who passes
 --     soundOf, shape-tests           the flag by a look at every field; a shape within its limits passes its test
---     sound-opens, sound-watched     where that flag is up 1 and 2 do not apply; it is a flag as `Watched` wants it
+--     sound-opens, lent-passes       where that flag is up 1 and 2 do not apply; they do not where shape and lengths suffice
+--     sound-watched                  it is a flag as `Watched` wants it
 -- Assumes nothing.
 use mathlib.Core.Path.{_≡_, refl, sym, ap, _∙_}
-use mathlib.Core.List.{List, [], _∷_, _++_}
+use mathlib.Core.List.{List, _++_}
 use mathlib.Core.Bool.{Bool, true, false, cond, not, _&&_}
 use mathlib.Core.Logic.{_≢_}
 use Prim.Native.Nat.{ℕ, _≤_, _<_}
@@ -30,7 +32,7 @@ use Rattle.laws.specs.Tests.{neither}
 use Rattle.calendar.specs.rules.Layout.{layout}
 use Rattle.calendar.specs.rules.Ranges.{worker, shapeInRange, storeInRange, tableInRange}
 use Rattle.calendar.specs.facts.RangeFacts.{Limits, limits}
-use Rattle.calendar.specs.rules.Refusals.{firstOf, badShape, short, tooShort, outOfRange, noWorker, lengthTests, fieldTests, memoryTests, memoryOf, openRefusal}
+use Rattle.calendar.specs.rules.Refusals.{firstOf, badShape, short, tooShort, outOfRange, lengthTests, fieldTests, memoryTests, memoryOf, openRefusal}
 use Rattle.calendar.specs.facts.FirstOf.{None, first-append, first-parts, first-none}
 use Rattle.calendar.specs.facts.Accepted.{Lent, Usable, lent, memory-accepted}
 use Rattle.calendar.specs.facts.RefusalParts.{refusal-first}
@@ -52,21 +54,24 @@ gate-passed sh words records i sound e =
     let (one, (two, (three, (last, tt)))) = gate-none sh words records i sound e in
     (not-false sound three, leb-false (sh .workers) i last)
 
+-- with a flag in the place of a test for 3, which says the same where 1 and 2 do not apply, the memory's tests give the same
+pub gate-with : (sh : Shape) (m : Memory) (i : ℕ) (out sound : Bool) → (Lent sh (m .store) (m .table) → out ≡ not sound)
+    → firstOf (memoryTests sh (tooShort sh (m .store) (m .table)) out i) ≡ gateOf sh (length (m .store)) (length (m .table)) i sound
+unfolding gateOf
+gate-with sh m i out sound h = go (badShape sh) (tooShort sh (m .store) (m .table)) refl (λ one two. h (lent sh (m .store) (m .table) one two))
+  where
+    go : (a b : Bool) → badShape sh ≡ a → (badShape sh ≡ false → b ≡ false → out ≡ not sound)
+        → firstOf (memoryTests sh b out i) ≡ firstOf (memoryTests sh b (not sound) i)
+    go true b e h = rw e
+    go false true e h = refl
+    go false false e h = rw (h e refl)
+
 module _ (sh : Shape) (m : Memory) (sound : Bool) (watched : Watched sh m sound) where
   abbrev gate : ℕ → ℕ
   gate i = gateOf sh (length (m .store)) (length (m .table)) i sound
 
-  -- with the flag for 3 the memory's tests give the same
-  memory-is : (a b c c′ : Bool) (i : ℕ) → badShape sh ≡ a → (a ≡ false → b ≡ false → c ≡ c′) → firstOf (memoryTests sh b c i) ≡ firstOf (memoryTests sh b c′ i)
-  memory-is true b c c′ i e h = rw e
-  memory-is false true c c′ i e h = refl
-  memory-is false false c c′ i e h = rw (h refl refl)
-
   gate-is : (i : ℕ) → firstOf (memoryOf sh (m .store) (m .table) i) ≡ gateOf sh (length (m .store)) (length (m .table)) i sound
-  unfolding gateOf
-  gate-is i =
-      memory-is (badShape sh) (tooShort sh (m .store) (m .table)) (outOfRange sh (m .store) (m .table)) (not sound) i refl
-      (λ one two. ap not (sym (watched (lent sh (m .store) (m .table) one two))))
+  gate-is i = gate-with sh m i (outOfRange sh (m .store) (m .table)) sound (λ l. ap not (sym (watched l)))
 
   -- what no refusal tells
   pub usable : (i : ℕ) → gateOf sh (length (m .store)) (length (m .table)) i sound ≡ 0 → Usable sh (m .store) (m .table) i
@@ -166,7 +171,7 @@ sound-opens sh s records ok = go (eqb (openGate sh (length s) records) 0) refl
     go true e up = eqb-true (openGate sh (length s) records) 0 e
     go false e up = absurd (let z : _≡_ {A = ℕ} 0 1 = cc in omega arith)
 
-lent-passes : (sh : Shape) (m : Memory) → Lent sh (m .store) (m .table) → openGate sh (length (m .store)) (length (m .table)) ≡ 0
+pub lent-passes : (sh : Shape) (m : Memory) → Lent sh (m .store) (m .table) → openGate sh (length (m .store)) (length (m .table)) ≡ 0
 unfolding openGate
 lent-passes sh m l =
     rw (shape-tests sh (l .limits), le-ltb (length (m .store)) (layout sh) (l .store), le-ltb (length (m .table)) (sh .workers) (l .table))

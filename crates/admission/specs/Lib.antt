@@ -1,2 +1,3 @@
 pub mod Watched
 pub mod Gate
+pub mod NarrowGate

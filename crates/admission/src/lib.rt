@@ -4,9 +4,11 @@ ghost use mathlib.Core.Bool.{true};
 ghost use Rattle.calendar.specs.rules.Ranges.{shapeInRange};
 ghost use Rattle.calendar.specs.rules.Refusals.{short};
 ghost use Rattle.admission.specs.Gate.{gateOf, openGate, soundOf, Tight};
+ghost use Rattle.admission.specs.NarrowGate.{nearOf};
 use arrival::Shape;
 use ranges::shape_in_range;
 use ranges::store_in_range;
+use ranges::words_in_range;
 use words::layout_words;
 
 pub mod ranges;
@@ -68,4 +70,14 @@ pub fn is_sound(shape: Shape, records: usize, ok: bool, store: &[u64]) -> bool
         return false;
     }
     store_in_range(shape, store) & ok
+}
+
+// The flag of a narrow call, by a look at the three first words; ok: the records that it looks at are in range.
+pub fn is_near(shape: Shape, records: usize, ok: bool, store: &[u64]) -> bool
+    ensures { λ r. ⌜ r ≡ nearOf shape (now (store .entry)) records ok ⌝ }
+{
+    if open_gate(shape, store.len(), records) != 0 {
+        return false;
+    }
+    words_in_range(shape, store) & ok
 }

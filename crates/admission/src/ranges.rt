@@ -2,7 +2,9 @@
 ghost use mathlib.Core.Path.{_≡_};
 ghost use Prim.Native.Nat.{_+_, _<_, _≤_};
 ghost use Rattle.laws.specs.Counting.{every};
-ghost use Rattle.calendar.specs.rules.Ranges.{shapeInRange, pathInRange, orderInRange, distanceInRange, headInRange, nodeInRange, storeInRange, recordInRange};
+ghost use Rattle.calendar.specs.rules.Ranges.{shapeInRange, pathInRange, orderInRange, distanceInRange, headInRange, nodeInRange, wordsInRange, storeInRange};
+ghost use Rattle.calendar.specs.rules.Ranges.{recordInRange};
+ghost use Rattle.calendar.specs.facts.RecordsKept.{linksInRange};
 ghost use Rattle.words.specs.Laid.{Laid};
 use arrival::Shape;
 use arrival::Worker;
@@ -109,18 +111,23 @@ fn nodes_in_range(shape: Shape, store: &[u64]) -> bool
     ok
 }
 
+// The three first words.
+pub fn words_in_range(shape: Shape, store: &[u64]) -> bool
+    requires { ⌜ Laid shape (now store) ⌝ }
+    ensures { λ r. ⌜ r ≡ wordsInRange shape (now (store .entry)) ⌝ }
+{
+    let current = get_word(shape, word::CURRENT, store);
+    let started = get_word(shape, word::STARTED, store);
+    let last = get_word(shape, word::LAST_NODE, store);
+    (current / word::COUNTS < shape.buckets) & (started < word::COUNTS) & (last < shape.nodes)
+}
+
 // The store's share of refusal 3: three words, the heads, the nodes, in one pass each.
 pub fn store_in_range(shape: Shape, store: &[u64]) -> bool
     requires { ⌜ Laid shape (now store) ⌝ }
     ensures { λ r. ⌜ r ≡ storeInRange shape (now (store .entry)) ⌝ }
 {
-    let current = get_word(shape, word::CURRENT, store);
-    let started = get_word(shape, word::STARTED, store);
-    let last = get_word(shape, word::LAST_NODE, store);
-    let words = (current / word::COUNTS < shape.buckets)
-        & (started < word::COUNTS)
-        & (last < shape.nodes);
-    words & heads_in_range(shape, store) & nodes_in_range(shape, store)
+    words_in_range(shape, store) & heads_in_range(shape, store) & nodes_in_range(shape, store)
 }
 
 // A record's share of refusal 3.
@@ -143,4 +150,11 @@ pub fn record_in_range(shape: Shape, w: Worker) -> bool
         & (w.seen / 2 <= shape.nodes)
         & (w.current / word::COUNTS < shape.buckets)
         & (w.ticket < word::COUNTS)
+}
+
+// What a turn may have read from elsewhere into its record.
+pub fn links_in_range(shape: Shape, w: Worker) -> bool
+    ensures { λ r. ⌜ r ≡ linksInRange shape w ⌝ }
+{
+    (w.right <= shape.nodes) & (w.seen / 2 <= shape.nodes)
 }

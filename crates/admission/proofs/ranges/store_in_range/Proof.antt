@@ -4,14 +4,8 @@ use borrow.Author.Needs.{needs}
 use Rattle.admission.proofs.ranges.store_in_range.Statement.{statement}
 use Rattle.admission.proofs.ranges.store_in_range.Tie as tie
 
-get-word-requires : tie.Need-get-word-requires
-get-word-requires c κs = search needs
-
-get-word-requires-2 : tie.Need-get-word-requires-2
-get-word-requires-2 c κs = search needs
-
-get-word-requires-3 : tie.Need-get-word-requires-3
-get-word-requires-3 c κs = search needs
+words-in-range-requires : tie.Need-words-in-range-requires
+words-in-range-requires c κs = search needs
 
 heads-in-range-requires : tie.Need-heads-in-range-requires
 heads-in-range-requires c κs = search needs
@@ -24,12 +18,4 @@ unfolding storeInRange
 returns c = cc
 
 pub store-in-range-spec : {M : Type 1} → statement M
-store-in-range-spec =
-    tie.close
-    (tie.spec
-    get-word-requires
-    get-word-requires-2
-    get-word-requires-3
-    heads-in-range-requires
-    nodes-in-range-requires
-    returns)
+store-in-range-spec = tie.close (tie.spec words-in-range-requires heads-in-range-requires nodes-in-range-requires returns)
