@@ -1,7 +1,7 @@
 -- `operation::perform` does what its action's own function does. Assumes nothing.
 use mathlib.Core.Path.{_∙_}
 use native.Mathlib.Omega.{arith}
-use Rattle.operation.specs.LocalAct.{local-enqueue, local-dequeue, local-step}
+use Rattle.operation.specs.LocalAct.{ready, local-enqueue, local-dequeue, local-step}
 use borrow.Author.Needs.{needs}
 use Rattle.operation.proofs.perform.Statement.{statement}
 use Rattle.operation.proofs.perform.Tie as tie
@@ -12,8 +12,8 @@ enum-known-action c = search needs
 start-enqueue-requires : tie.Need-start-enqueue-requires
 start-enqueue-requires c κs =
     let A = c .before .before .before .before .before .pre .0 in (
-      A .ready .laid,
-      (A .ready .store .started, A .ready .store .last, c .before .before .before .before .before .pre .1, A .limits .some-width, A .limits .width),
+      A .laid,
+      (A .words .started, A .words .last, c .before .before .before .before .before .pre .1, A .limits .some-width, A .limits .width),
     )
 
 enum-told : tie.Need-enum-told
@@ -22,13 +22,13 @@ enum-told c = search needs
 start-dequeue-requires : tie.Need-start-dequeue-requires
 start-dequeue-requires c κs =
     let A = c .before .before .before .before .pre .0 in
-    (A .ready .laid, A .ready .store .started)
+    (A .laid, A .words .started)
 
 enum-told-2 : tie.Need-enum-told-2
 enum-told-2 c = search needs
 
 step-requires : tie.Need-step-requires
-step-requires c κs = λ most. c .before .before .before .before .pre .0 .ready
+step-requires c κs = λ most. ready _ _ _ (c .before .before .before .before .pre .0)
 
 same-length : tie.Need-same-length
 same-length c = search needs
@@ -48,7 +48,7 @@ same-length-3 c = search needs
 returns-3 : tie.Need-returns-3
 returns-3 c =
     rw (c .before .before .before .before .enum-told2 .given .1) (c .before .before .step .ensures
-    ∙ local-step _ _ _ _ _ (c .before .before .before .before .before .before .before .pre .0 .ready .worker .stage))
+    ∙ local-step _ _ _ _ _ (c .before .before .before .before .before .before .before .pre .0 .worker .stage))
 
 pub perform-spec : {M : Type 1} → statement M
 perform-spec =
