@@ -9,7 +9,8 @@
 --     openResponse                   its response, by that number
 --     open-passed                    where there is none: the limits of the shape, and enough words and records
 --     gate-parts                     the gate's refusal is an opening's, or goes by the flag and the worker
---     Tight, gate-opens, passes      a flag down where 1 or 2 applies; an opening's refusals among the gate's; who passes
+--     Tight, gate-opens              a flag down where 1 or 2 applies; an opening's refusals among the gate's
+--     passes, flag-down              who passes; where only the flag is down the refusal is 3
 --     soundOf, shape-tests           the flag by a look at every field; a shape within its limits passes its test
 --     sound-opens, lent-passes       where that flag is up 1 and 2 do not apply; they do not where shape and lengths suffice
 --     sound-watched                  it is a flag as `Watched` wants it
@@ -144,6 +145,13 @@ unfolding gateOf openGate
 passes sh words records i sound e up h =
     let (one, (short-of, tt)) = open-none sh words records e in
     rw (one, short-of, up, lt-leb (sh .workers) i h)
+
+-- and where the flag is down it is refused by 3
+pub flag-down : (sh : Shape) (words records i : ℕ) (sound : Bool) → openGate sh words records ≡ 0 → sound ≡ false → gateOf sh words records i sound ≡ 3
+unfolding gateOf openGate
+flag-down sh words records i sound e down =
+    let (one, (short-of, tt)) = open-none sh words records e in
+    rw (one, short-of, down)
 
 -- ── the flag by a look at every field ──
 -- `ok` says that the workers' records are in range; down where the memory is too short to be looked at

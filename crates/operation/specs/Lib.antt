@@ -1,1 +1,2 @@
 pub mod LocalAct
+pub mod LocalTurns

@@ -2,6 +2,7 @@
 use mathlib.Core.Path.{_≡_, refl, _∙_}
 use mathlib.Core.List.{List}
 use mathlib.Core.Bool.{Bool, true, false, cond}
+use mathlib.Core.Logic.{_≢_}
 use Prim.Native.Nat.{ℕ, zero, suc, _-_, _<_}
 use native.Mathlib.Omega.{arith}
 use Rattle.arrival.specs.declared.Shape.{Shape}
@@ -23,6 +24,22 @@ firstFreeBelow sh s low = freeOfBelow sh s low (sh .nodes) (lastNode sh s)
 
 pub next-below : (sh : Shape) (n : ℕ) → n < sh .nodes → nodeAfter sh n < sh .nodes
 next-below sh n h = after-below sh n (omega arith)
+
+-- it is a node, or `nodes`
+below-node : (sh : Shape) (s : List ℕ) (low k n : ℕ) → 0 < sh .nodes → freeOfBelow sh s low k n ≢ sh .nodes → freeOfBelow sh s low k n < sh .nodes
+unfolding freeOfBelow
+below-node sh s low zero n some h = absurd (h refl)
+below-node sh s low (suc k) n some h = go (freeBelow low (standing sh s (nodeAfter sh n))) (below-node sh s low k (nodeAfter sh n) some) h
+  where
+    go : (b : Bool) → (freeOfBelow sh s low k (nodeAfter sh n) ≢ sh .nodes → freeOfBelow sh s low k (nodeAfter sh n) < sh .nodes)
+        → cond b (nodeAfter sh n) (freeOfBelow sh s low k (nodeAfter sh n)) ≢ sh .nodes
+        → cond b (nodeAfter sh n) (freeOfBelow sh s low k (nodeAfter sh n)) < sh .nodes
+    go true rest h = after-below sh n some
+    go false rest h = rest h
+
+pub first-below-node : (sh : Shape) (s : List ℕ) (low : ℕ) → 0 < sh .nodes → firstFreeBelow sh s low ≢ sh .nodes → firstFreeBelow sh s low < sh .nodes
+unfolding firstFreeBelow
+first-below-node sh s low some = below-node sh s low (sh .nodes) (lastNode sh s) some
 
 pub free-none : (sh : Shape) (s : List ℕ) (low n : ℕ) → freeOfBelow sh s low 0 n ≡ sh .nodes
 unfolding freeOfBelow
