@@ -2,14 +2,16 @@
 --     localTurn, localTurns           one narrow turn of a record; at most n of them behind what was done
 --     turnsAfter                      the same in lent memory
 --     call-is                         a narrow start or turn with n turns behind it is that
+--     act-length                      an action leaves the store as long as it was
 --     turns-back                      put back into the table, the first is the second
 --     turns-over, turns-none          what has ended, or may have no turn more, stays
+--     ended, not-ended                by the test of the loop
 --     Going, going                    what is known where a call goes on: only `right` and `seen` can be out of range
 --     turns-out, turns-on, goes-back  one of them is, and the next turn is refused by 3; or they are not, and it is made
 -- Assumes nothing.
 use mathlib.Core.Path.{_≡_, refl, sym, ap, _∙_}
 use mathlib.Core.List.{List}
-use mathlib.Core.Bool.{Bool, true, false, cond, _&&_}
+use mathlib.Core.Bool.{Bool, true, false, cond, not, _&&_, _||_}
 use mathlib.Core.Logic.{_≢_}
 use Prim.Native.Nat.{ℕ, zero, suc, _-_, _/_, _<_, _≤_}
 use native.Mathlib.Omega.{arith}
@@ -21,6 +23,7 @@ use Rattle.arrival.specs.declared.Shape.{Shape}
 use Rattle.arrival.specs.declared.Worker.{Worker}
 use Rattle.arrival.specs.declared.Action.{Action}
 use Rattle.arrival.specs.declared.Action.the-variants.{Enqueue, Dequeue, Step}
+use Rattle.arrival.specs.declared.Response.{Response}
 use Rattle.arrival.specs.declared.Response.the-variants.{Refused}
 use Rattle.laws.specs.Tests.{never}
 use Rattle.calendar.specs.rules.Layout.{layout, writeAll, started}
@@ -60,7 +63,7 @@ call-is sh m a (suc n) = ap (λ (r : Result). cond (goesOn (narrowAct sh m a .re
 
 -- ── in the table ──
 -- no action changes how long the store is
-act-length : (sh : Shape) (low : ℕ) (s : List ℕ) (a : Action) (w : Worker) → length (localAct sh low s a w .store) ≡ length s
+pub act-length : (sh : Shape) (low : ℕ) (s : List ℕ) (a : Action) (w : Worker) → length (localAct sh low s a w .store) ≡ length s
 unfolding localAct
 act-length sh low s a w = go (eqb (firstOf (ownTests sh s (noneBelow sh low s) a w)) 0)
   where
@@ -145,6 +148,23 @@ turns-over sh (suc n) d e = rw e
 pub turns-none : (sh : Shape) (n : ℕ) (d : Done) → n ≡ 0 → localTurns sh n d ≡ d
 unfolding localTurns
 turns-none sh n d e = rw e
+
+-- by the test of the loop, where g says whether the call goes on
+pub ended : (sh : Shape) (n : ℕ) (d : Done) (g : Bool) → g ≡ goesOn (d .response) → (eqb n 0 || not g) ≡ true → localTurns sh n d ≡ d
+ended sh n d g is e = go (eqb n 0) refl g is e
+  where
+    go : (b : Bool) → eqb n 0 ≡ b → (g : Bool) → g ≡ goesOn (d .response) → (b || not g) ≡ true → localTurns sh n d ≡ d
+    go true z g is e = turns-none sh n d (eqb-true n 0 z)
+    go false z true is e = never e
+    go false z false is e = turns-over sh n d (sym is)
+
+pub not-ended : (n : ℕ) (r : Response) (g : Bool) → g ≡ goesOn r → (eqb n 0 || not g) ≡ false → (n ≢ 0) × (goesOn r ≡ true)
+not-ended n r g is e = go (eqb n 0) refl g is e
+  where
+    go : (b : Bool) → eqb n 0 ≡ b → (g : Bool) → g ≡ goesOn r → (b || not g) ≡ false → (n ≢ 0) × (goesOn r ≡ true)
+    go true z g is e = never (sym e)
+    go false z true is e = (eqb-false n 0 z, sym is)
+    go false z false is e = never (sym e)
 
 -- one turn more
 one-more : (sh : Shape) (n : ℕ) (d : Done) → n ≢ 0 → goesOn (d .response) ≡ true → localTurns sh n d ≡ localTurns sh (n - 1) (localTurn sh (d .store) (d .worker))
