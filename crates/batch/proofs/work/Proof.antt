@@ -14,6 +14,7 @@ use Prim.Native.Nat.{_-_}
 use native.Mathlib.Omega.{arith}
 use lib.ListN.{length, take}
 use Rattle.calendar.specs.rules.Ranges.{blank}
+use Rattle.operation.specs.LocalAct.{ready}
 use Rattle.batch.specs.declared.Stop.the-variants.{Full}
 use Rattle.batch.specs.BatchLoop.{at-work}
 use Rattle.batch.specs.Tickets.{ticketsOf, stored-ticket}
@@ -103,9 +104,9 @@ gate-requires c κs = c .before .before .before .before .before .before .before 
 
 sound-after-requires : tie.Need-sound-after-requires Inv-loop μ-loop
 unfolding blank
-sound-after-requires c κs = λ z. admits (c .before .before .before .before .before .before .before .before .before .before .before .loop .inv .0)
+sound-after-requires c κs = λ z. ready _ _ _ (admits (c .before .before .before .before .before .before .before .before .before .before .before .loop .inv .0)
     (c .before .before .before .before .before .before .record2 .given .0 .0) _ (c .before .before .before .before .place-of .ensures .0)
-    _ _ (c .before .gate .ensures) (c .before .before .actor .ensures) z .ready
+    _ _ (c .before .gate .ensures) (c .before .before .actor .ensures) z)
 
 act-held-requires : tie.Need-act-held-requires Inv-loop μ-loop
 unfolding blank
