@@ -10,6 +10,7 @@ pub mod Inside
 pub mod FirstFree
 pub mod NodeCounts
 pub mod Untouched
+pub mod NarrowAccepted
 pub mod Starred
 pub mod RangesKept
 pub mod LedgerRun
