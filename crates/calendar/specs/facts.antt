@@ -11,6 +11,8 @@ pub mod FirstFree
 pub mod NodeCounts
 pub mod Untouched
 pub mod NarrowAccepted
+pub mod Narrow
+pub mod GoesOn
 pub mod Starred
 pub mod RangesKept
 pub mod LedgerRun

@@ -48,7 +48,8 @@ use Rattle.calendar.specs.facts.Inside.{enqueue-inside, dequeue-inside, 
 
 -- ── a refused operation ──
 -- A refusal as response: the memory is as it was.
-pub refused : (k n : ℕ) (m : Memory) (r : Result) → (k ≡ 0 → said (r .response) .number ≡ 0) → unless k m r .response ≡ Refused (suc n) → unless k m r .memory ≡ m
+pub refused : (k n : ℕ) (m : Memory) (r : Result) → (k ≡ 0 → said (r .response) .number ≡ 0)
+    → unless k m r .response ≡ Refused (suc n) → unless k m r .memory ≡ m
 refused k n m r ok e = go (eqb k 0) refl e
   where
     go : (t : Bool) → eqb k 0 ≡ t → cond t r (record { memory = m; response = Refused k }) .response ≡ Refused (suc n)
