@@ -13,6 +13,7 @@ pub mod Untouched
 pub mod NarrowAccepted
 pub mod Narrow
 pub mod GoesOn
+pub mod NarrowTurns
 pub mod Starred
 pub mod RangesKept
 pub mod LedgerRun
