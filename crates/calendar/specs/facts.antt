@@ -14,6 +14,7 @@ pub mod NarrowAccepted
 pub mod Narrow
 pub mod GoesOn
 pub mod NarrowTurns
+pub mod HostRun
 pub mod Starred
 pub mod RangesKept
 pub mod LedgerRun

@@ -1,13 +1,13 @@
--- What a narrow start or turn that is not refused may count on, and what refuses it by 3.
---     narrow-parts                  its refusal is the first of 1 to 4, and behind them of its own
---     NarrowAccepted                lengths, the three first words, its worker's record
---     narrow-accepted               one that is not refused has them;
---     narrow-records                a put has all records;
---     narrow-passes                 and none of its own refusals applies
---     narrow-3-words                one of the three first words out of range: refused by 3, where 1 and 2 do not apply;
---     narrow-3-own                  so it is by the record of its own worker,
---     narrow-3-any                  and a put by that of any worker
---     SameLooked, narrow-looks      it looks at nothing else: where that is the same, so is the refusal
+-- What a narrow start or turn looks at, what refuses it by 3, and what one that is not refused may count on.
+--     narrow-parts                 its refusal is the first of 1 to 4, and behind them of its own
+--     SameLooked, narrow-looks     what it looks at: where that is the same, so is the refusal
+--     narrow-3-words               one of the three first words out of range: refused by 3, where 1 and 2 do not apply;
+--     narrow-3-any                 so is a put by the record of any worker,
+--     narrow-3-own                 and any start or turn by that of its own
+--     NarrowAccepted               lengths, the three first words, its worker's record
+--     narrow-accepted              one that is not refused has them;
+--     narrow-records               a put has all records;
+--     narrow-passes                and none of its own refusals applies
 -- Assumes nothing.
 use mathlib.Core.Path.{_≡_, refl, sym, ap, _∙_}
 use mathlib.Core.List.{List, _++_}
@@ -19,7 +19,7 @@ use Rattle.arrival.specs.declared.Arrival.{Arrival}
 use Rattle.arrival.specs.declared.Worker.{Worker}
 use Rattle.arrival.specs.declared.Action.{Action}
 use Rattle.arrival.specs.declared.Action.the-variants.{Enqueue, Dequeue, Step}
-use Rattle.laws.specs.Counting.{every-at, every-fails}
+use Rattle.laws.specs.Counting.{every-at, every-fails, every-same}
 use Rattle.laws.specs.Tests.{parts}
 use Rattle.calendar.specs.rules.Layout.{current, started, lastNode}
 use Rattle.calendar.specs.rules.Ranges.{wordsInRange, recordInRange, tableInRange, worker}
@@ -29,7 +29,7 @@ use Rattle.calendar.specs.rules.Operations.{Memory, actor}
 use Rattle.calendar.specs.rules.NarrowCalls.{ownInRange, recordsInRange, narrowOut, narrowRefusal}
 use Rattle.calendar.specs.facts.RangeFacts.{WordRanges, word-ranges, RecordRanges, record-ranges, table-ranges}
 use Rattle.calendar.specs.facts.Accepted.{Lent, lent}
-use Rattle.calendar.specs.facts.FirstOf.{first-parts, first-none}
+use Rattle.calendar.specs.facts.FirstOf.{first-parts, first-behind, first-none}
 use Rattle.calendar.specs.facts.RefusalParts.{ownOf}
 use Rattle.calendar.specs.facts.Untouched.{SameSize}
 
@@ -40,6 +40,70 @@ narrowMemory sh m a = memoryTests sh (tooShort sh (m .store) (m .table)) (narrow
 pub narrow-parts : (sh : Shape) (m : Memory) (a : Action) → narrowRefusal sh m a ≡ firstOf (narrowMemory sh m a ++ ownOf sh m a)
 unfolding narrowRefusal
 narrow-parts sh m a = refl
+
+-- ── what is looked at ──
+-- of the records, and of the nodes: a put looks for a free one
+abbrev pub SameRecords : Shape → Memory → Memory → Action → Type 0
+SameRecords sh m m′ (Enqueue i x) =
+    ((j : ℕ) → j < sh .workers → worker (m .table) j ≡ worker (m′ .table) j) × (firstFree sh (m .store) (m .table) ≡ firstFree sh (m′ .store) (m′ .table))
+SameRecords sh m m′ (Dequeue i) = worker (m .table) i ≡ worker (m′ .table) i
+SameRecords sh m m′ (Step i) = worker (m .table) i ≡ worker (m′ .table) i
+
+pub record SameLooked (sh : Shape) (m m′ : Memory) (a : Action) : Type 0 where
+  pub size : SameSize m m′
+  pub current : current sh (m .store) ≡ current sh (m′ .store)
+  pub started : started sh (m .store) ≡ started sh (m′ .store)
+  pub last : lastNode sh (m .store) ≡ lastNode sh (m′ .store)
+  pub records : SameRecords sh m m′ a
+
+put-looks : (sh : Shape) (m m′ : Memory) (i : ℕ) (x : Arrival) → SameLooked sh m m′ (Enqueue i x)
+    → narrowRefusal sh m (Enqueue i x) ≡ narrowRefusal sh m′ (Enqueue i x)
+unfolding tableInRange
+put-looks sh m m′ i x S =
+    let a = Enqueue i x in
+    let tables : tableInRange sh (m .table) ≡ tableInRange sh (m′ .table) =
+    every-same (λ j. recordInRange sh (worker (m .table) j)) (λ j. recordInRange sh (worker (m′ .table) j)) (sh .workers)
+    (λ j l. ap (recordInRange sh) (S .records .0 j l)) in
+    let memory : narrowMemory sh m a ≡ narrowMemory sh m′ a = rw (S .size .store, S .size .table, S .current, S .started, S .last, tables) in
+    narrow-parts sh m a
+    ∙ ap (λ (xs : List (ℕ × Bool)). firstOf (xs ++ ownOf sh m a)) memory
+    ∙ first-behind (narrowMemory sh m′ a) (ownOf sh m a) (ownOf sh m′ a)
+    (λ e. let (one, (two, (three, (four, last)))) = first-none (narrowMemory sh m′ a) refl e in
+    rw (S .records .0 i (leb-false _ _ four), S .records .1, S .started))
+    ∙ sym (narrow-parts sh m′ a)
+
+pub narrow-looks : (sh : Shape) (m m′ : Memory) (a : Action) → SameLooked sh m m′ a → narrowRefusal sh m a ≡ narrowRefusal sh m′ a
+unfolding narrowRefusal
+narrow-looks sh m m′ (Enqueue i x) S = put-looks sh m m′ i x S
+narrow-looks sh m m′ (Dequeue i) S = rw (S .records, S .size .store, S .size .table, S .current, S .started, S .last)
+narrow-looks sh m m′ (Step i) S = rw (S .records, S .size .store, S .size .table, S .current, S .started, S .last)
+
+-- ── refused by 3 ──
+module _ (sh : Shape) (m : Memory) (one : badShape sh ≡ false) (two : tooShort sh (m .store) (m .table) ≡ false) where
+  by-3 : (a : Action) → narrowOut sh (m .store) (m .table) a ≡ true → narrowRefusal sh m a ≡ 3
+  unfolding narrowRefusal
+  by-3 a out = rw (one, two, out)
+
+  pub narrow-3-words : (a : Action) → wordsInRange sh (m .store) ≡ false → narrowRefusal sh m a ≡ 3
+  narrow-3-words a out = by-3 a (rw out)
+
+  records-out : (a : Action) → recordsInRange sh (m .table) a ≡ false → narrowRefusal sh m a ≡ 3
+  records-out a out = by-3 a (rw (out, and-false (wordsInRange sh (m .store))))
+
+  table-out : (j : ℕ) → j < sh .workers → recordInRange sh (worker (m .table) j) ≡ false → tableInRange sh (m .table) ≡ false
+  unfolding tableInRange
+  table-out j l out = every-fails (λ i. recordInRange sh (worker (m .table) i)) (sh .workers) j l out
+
+  pub narrow-3-any : (i : ℕ) (x : Arrival) (j : ℕ) → j < sh .workers → recordInRange sh (worker (m .table) j) ≡ false → narrowRefusal sh m (Enqueue i x) ≡ 3
+  narrow-3-any i x j l out = records-out (Enqueue i x) (table-out j l out)
+
+  own-out : (i : ℕ) → i < sh .workers → recordInRange sh (worker (m .table) i) ≡ false → ownInRange sh (m .table) i ≡ false
+  own-out i l out = rw (lt-leb (sh .workers) i l, out)
+
+  pub narrow-3-own : (a : Action) → actor a < sh .workers → recordInRange sh (worker (m .table) (actor a)) ≡ false → narrowRefusal sh m a ≡ 3
+  narrow-3-own (Enqueue i x) l out = records-out (Enqueue i x) (table-out i l out)
+  narrow-3-own (Dequeue i) l out = records-out (Dequeue i) (own-out i l out)
+  narrow-3-own (Step i) l out = records-out (Step i) (own-out i l out)
 
 -- ── not refused ──
 pub record NarrowAccepted (sh : Shape) (m : Memory) (a : Action) : Type 0 where
@@ -84,50 +148,3 @@ narrow-records sh m i x e =
 
 pub narrow-passes : (sh : Shape) (m : Memory) (a : Action) → narrowRefusal sh m a ≡ 0 → firstOf (ownOf sh m a) ≡ 0
 narrow-passes sh m a e = first-parts (narrowMemory sh m a) (ownOf sh m a) refl (sym (narrow-parts sh m a) ∙ e) .1
-
--- ── refused by 3 ──
-module _ (sh : Shape) (m : Memory) (one : badShape sh ≡ false) (two : tooShort sh (m .store) (m .table) ≡ false) where
-  by-3 : (a : Action) → narrowOut sh (m .store) (m .table) a ≡ true → narrowRefusal sh m a ≡ 3
-  unfolding narrowRefusal
-  by-3 a out = rw (one, two, out)
-
-  pub narrow-3-words : (a : Action) → wordsInRange sh (m .store) ≡ false → narrowRefusal sh m a ≡ 3
-  narrow-3-words a out = by-3 a (rw out)
-
-  records-out : (a : Action) → recordsInRange sh (m .table) a ≡ false → narrowRefusal sh m a ≡ 3
-  records-out a out = by-3 a (rw (out, and-false (wordsInRange sh (m .store))))
-
-  table-out : (j : ℕ) → j < sh .workers → recordInRange sh (worker (m .table) j) ≡ false → tableInRange sh (m .table) ≡ false
-  unfolding tableInRange
-  table-out j l out = every-fails (λ i. recordInRange sh (worker (m .table) i)) (sh .workers) j l out
-
-  own-out : (i : ℕ) → i < sh .workers → recordInRange sh (worker (m .table) i) ≡ false → ownInRange sh (m .table) i ≡ false
-  own-out i l out = rw (lt-leb (sh .workers) i l, out)
-
-  pub narrow-3-own : (a : Action) → actor a < sh .workers → recordInRange sh (worker (m .table) (actor a)) ≡ false → narrowRefusal sh m a ≡ 3
-  narrow-3-own (Enqueue i x) l out = records-out (Enqueue i x) (table-out i l out)
-  narrow-3-own (Dequeue i) l out = records-out (Dequeue i) (own-out i l out)
-  narrow-3-own (Step i) l out = records-out (Step i) (own-out i l out)
-
-  pub narrow-3-any : (i : ℕ) (x : Arrival) (j : ℕ) → j < sh .workers → recordInRange sh (worker (m .table) j) ≡ false → narrowRefusal sh m (Enqueue i x) ≡ 3
-  narrow-3-any i x j l out = records-out (Enqueue i x) (table-out j l out)
-
--- ── what is looked at ──
--- of the records, and of the nodes: a put looks for a free one
-abbrev pub SameRecords : Shape → Memory → Memory → Action → Type 0
-SameRecords sh m m′ (Enqueue i x) = (m .table ≡ m′ .table) × (firstFree sh (m .store) (m .table) ≡ firstFree sh (m′ .store) (m′ .table))
-SameRecords sh m m′ (Dequeue i) = worker (m .table) i ≡ worker (m′ .table) i
-SameRecords sh m m′ (Step i) = worker (m .table) i ≡ worker (m′ .table) i
-
-pub record SameLooked (sh : Shape) (m m′ : Memory) (a : Action) : Type 0 where
-  pub size : SameSize m m′
-  pub current : current sh (m .store) ≡ current sh (m′ .store)
-  pub started : started sh (m .store) ≡ started sh (m′ .store)
-  pub last : lastNode sh (m .store) ≡ lastNode sh (m′ .store)
-  pub records : SameRecords sh m m′ a
-
-pub narrow-looks : (sh : Shape) (m m′ : Memory) (a : Action) → SameLooked sh m m′ a → narrowRefusal sh m a ≡ narrowRefusal sh m′ a
-unfolding narrowRefusal
-narrow-looks sh m m′ (Enqueue i x) S = rw (S .records .1, S .records .0, S .size .store, S .current, S .started, S .last)
-narrow-looks sh m m′ (Dequeue i) S = rw (S .records, S .size .store, S .size .table, S .current, S .started, S .last)
-narrow-looks sh m m′ (Step i) S = rw (S .records, S .size .store, S .size .table, S .current, S .started, S .last)
