@@ -1,9 +1,10 @@
 -- What a narrow start or turn looks at, what refuses it by 3, and what one that is not refused may count on.
 --     narrow-parts                 its refusal is the first of 1 to 4, and behind them of its own
---     SameLooked, narrow-looks     what it looks at: where that is the same, so is the refusal
+--     SameLooked                   what it looks at is the same
 --     narrow-3-words               one of the three first words out of range: refused by 3, where 1 and 2 do not apply;
 --     narrow-3-any                 so is a put by the record of any worker,
 --     narrow-3-own                 and any start or turn by that of its own
+--     narrow-looks                 where what it looks at is the same, so is the refusal
 --     NarrowAccepted               lengths, the three first words, its worker's record
 --     narrow-accepted              one that is not refused has them;
 --     narrow-records               a put has all records;
@@ -56,27 +57,13 @@ pub record SameLooked (sh : Shape) (m m′ : Memory) (a : Action) : Type 0 where
   pub last : lastNode sh (m .store) ≡ lastNode sh (m′ .store)
   pub records : SameRecords sh m m′ a
 
-put-looks : (sh : Shape) (m m′ : Memory) (i : ℕ) (x : Arrival) → SameLooked sh m m′ (Enqueue i x)
-    → narrowRefusal sh m (Enqueue i x) ≡ narrowRefusal sh m′ (Enqueue i x)
-unfolding tableInRange
-put-looks sh m m′ i x S =
-    let a = Enqueue i x in
-    let tables : tableInRange sh (m .table) ≡ tableInRange sh (m′ .table) =
-    every-same (λ j. recordInRange sh (worker (m .table) j)) (λ j. recordInRange sh (worker (m′ .table) j)) (sh .workers)
-    (λ j l. ap (recordInRange sh) (S .records .0 j l)) in
-    let memory : narrowMemory sh m a ≡ narrowMemory sh m′ a = rw (S .size .store, S .size .table, S .current, S .started, S .last, tables) in
-    narrow-parts sh m a
-    ∙ ap (λ (xs : List (ℕ × Bool)). firstOf (xs ++ ownOf sh m a)) memory
-    ∙ first-behind (narrowMemory sh m′ a) (ownOf sh m a) (ownOf sh m′ a)
-    (λ e. let (one, (two, (three, (four, last)))) = first-none (narrowMemory sh m′ a) refl e in
-    rw (S .records .0 i (leb-false _ _ four), S .records .1, S .started))
-    ∙ sym (narrow-parts sh m′ a)
-
-pub narrow-looks : (sh : Shape) (m m′ : Memory) (a : Action) → SameLooked sh m m′ a → narrowRefusal sh m a ≡ narrowRefusal sh m′ a
+take-looks : (sh : Shape) (m m′ : Memory) (i : ℕ) → SameLooked sh m m′ (Dequeue i) → narrowRefusal sh m (Dequeue i) ≡ narrowRefusal sh m′ (Dequeue i)
 unfolding narrowRefusal
-narrow-looks sh m m′ (Enqueue i x) S = put-looks sh m m′ i x S
-narrow-looks sh m m′ (Dequeue i) S = rw (S .records, S .size .store, S .size .table, S .current, S .started, S .last)
-narrow-looks sh m m′ (Step i) S = rw (S .records, S .size .store, S .size .table, S .current, S .started, S .last)
+take-looks sh m m′ i S = rw (S .records, S .size .store, S .size .table, S .current, S .started, S .last)
+
+turn-looks : (sh : Shape) (m m′ : Memory) (i : ℕ) → SameLooked sh m m′ (Step i) → narrowRefusal sh m (Step i) ≡ narrowRefusal sh m′ (Step i)
+unfolding narrowRefusal
+turn-looks sh m m′ i S = rw (S .records, S .size .store, S .size .table, S .current, S .started, S .last)
 
 -- ── refused by 3 ──
 module _ (sh : Shape) (m : Memory) (one : badShape sh ≡ false) (two : tooShort sh (m .store) (m .table) ≡ false) where
@@ -104,6 +91,28 @@ module _ (sh : Shape) (m : Memory) (one : badShape sh ≡ false) (two : tooShort
   narrow-3-own (Enqueue i x) l out = records-out (Enqueue i x) (table-out i l out)
   narrow-3-own (Dequeue i) l out = records-out (Dequeue i) (own-out i l out)
   narrow-3-own (Step i) l out = records-out (Step i) (own-out i l out)
+
+-- ── nothing else is looked at ──
+put-looks : (sh : Shape) (m m′ : Memory) (i : ℕ) (x : Arrival) → SameLooked sh m m′ (Enqueue i x)
+    → narrowRefusal sh m (Enqueue i x) ≡ narrowRefusal sh m′ (Enqueue i x)
+unfolding tableInRange
+put-looks sh m m′ i x S =
+    let a = Enqueue i x in
+    let tables : tableInRange sh (m .table) ≡ tableInRange sh (m′ .table) =
+    every-same (λ j. recordInRange sh (worker (m .table) j)) (λ j. recordInRange sh (worker (m′ .table) j)) (sh .workers)
+    (λ j l. ap (recordInRange sh) (S .records .0 j l)) in
+    let memory : narrowMemory sh m a ≡ narrowMemory sh m′ a = rw (S .size .store, S .size .table, S .current, S .started, S .last, tables) in
+    narrow-parts sh m a
+    ∙ ap (λ (xs : List (ℕ × Bool)). firstOf (xs ++ ownOf sh m a)) memory
+    ∙ first-behind (narrowMemory sh m′ a) (ownOf sh m a) (ownOf sh m′ a)
+    (λ e. let (one, (two, (three, (four, last)))) = first-none (narrowMemory sh m′ a) refl e in
+    rw (S .records .0 i (leb-false _ _ four), S .records .1, S .started))
+    ∙ sym (narrow-parts sh m′ a)
+
+pub narrow-looks : (sh : Shape) (m m′ : Memory) (a : Action) → SameLooked sh m m′ a → narrowRefusal sh m a ≡ narrowRefusal sh m′ a
+narrow-looks sh m m′ (Enqueue i x) S = put-looks sh m m′ i x S
+narrow-looks sh m m′ (Dequeue i) S = take-looks sh m m′ i S
+narrow-looks sh m m′ (Step i) S = turn-looks sh m m′ i S
 
 -- ── not refused ──
 pub record NarrowAccepted (sh : Shape) (m : Memory) (a : Action) : Type 0 where
