@@ -6,6 +6,7 @@
 --     host-memory, host-answers                          a list of requests
 --     made-single                                        without turns behind them they are their starts and turns, on any memory
 --     host-single                                        and answered as those are
+--     host-same-size, host-same-beyond                   on any memory lengths stay, and what lies beyond
 -- Assumes nothing.
 use mathlib.Core.Path.{_≡_, refl, sym, ap, subst, _∙_}
 use mathlib.Core.List.{List, [], _∷_, _++_, map, append-assoc}
@@ -26,8 +27,9 @@ use Rattle.calendar.specs.rules.Operations.{Memory, Result, act, run, re
 use Rattle.calendar.specs.rules.NarrowCalls.{narrowAct, narrowCall, narrowMade, narrowRun, narrowResponses}
 use Rattle.calendar.specs.rules.HostHistory.{Request, whole, narrow, requested, hostRun, hostAnswers, madeBy, oneByOne, counts, lastOfEach, single}
 use Rattle.calendar.specs.rules.HostHistory.{actionOf}
+use Rattle.calendar.specs.facts.Untouched.{SameSize, SameBeyond, act-same-size, act-same-beyond}
 use Rattle.calendar.specs.facts.Narrow.{narrow-same}
-use Rattle.calendar.specs.facts.NarrowTurns.{one-by-one}
+use Rattle.calendar.specs.facts.NarrowTurns.{one-by-one, narrow-call-same-size, narrow-call-same-beyond}
 
 -- ── a history in two parts ──
 pub run-append : (sh : Shape) (m : Memory) (h k : List Action) → run sh m (h ++ k) ≡ run sh (run sh m h) k
@@ -160,3 +162,28 @@ answers-single sh m (narrow a n ∷ qs) S e =
 pub host-single : (sh : Shape) (m : Memory) (qs : List Request) → StaysInRange sh m → single qs ≡ true
     → (hostRun sh m qs ≡ run sh m (map actionOf qs)) × (hostAnswers sh m qs ≡ responses sh m (map actionOf qs))
 host-single sh m qs S e = (host-memory sh m qs S ∙ ap (run sh m) (made-single sh m qs e), answers-single sh m qs S e)
+
+-- ── on any memory ──
+requested-same-size : (sh : Shape) (m : Memory) (q : Request) → SameSize m (requested sh m q .memory)
+requested-same-size sh m (whole a) = act-same-size sh m a
+requested-same-size sh m (narrow a n) = narrow-call-same-size sh m a n
+
+requested-same-beyond : (sh : Shape) (m : Memory) (q : Request) → SameBeyond sh m (requested sh m q .memory)
+requested-same-beyond sh m (whole a) = act-same-beyond sh m a
+requested-same-beyond sh m (narrow a n) = narrow-call-same-beyond sh m a n
+
+pub host-same-size : (sh : Shape) (m : Memory) (qs : List Request) → SameSize m (hostRun sh m qs)
+unfolding hostRun
+host-same-size sh m [] = record { store = refl; table = refl }
+host-same-size sh m (q ∷ qs) =
+    let x = requested-same-size sh m q in
+    let y = host-same-size sh (requested sh m q .memory) qs in
+    record { store = y .store ∙ x .store; table = y .table ∙ x .table }
+
+pub host-same-beyond : (sh : Shape) (m : Memory) (qs : List Request) → SameBeyond sh m (hostRun sh m qs)
+unfolding hostRun
+host-same-beyond sh m [] = record { store = refl; table = refl }
+host-same-beyond sh m (q ∷ qs) =
+    let x = requested-same-beyond sh m q in
+    let y = host-same-beyond sh (requested sh m q .memory) qs in
+    record { store = y .store ∙ x .store; table = y .table ∙ x .table }

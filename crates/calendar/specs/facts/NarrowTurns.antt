@@ -3,26 +3,32 @@
 --     narrow-call-same-size, narrow-call-same-beyond     lengths stay, and what lies beyond
 --     narrow-call-others-untouched                       other workers' records stay
 --     narrow-call-refused                                what is refused at once changes nothing
+--     narrow-call-goes                                   one that ends without a refusal goes on where the call is in progress
+--     narrow-call-spent                                  and goes on only where all its turns are made
 -- Assumes nothing.
 use mathlib.Core.Path.{_≡_, refl, sym, ap, _∙_}
 use mathlib.Core.List.{List, [], _∷_, _++_}
-use mathlib.Core.Bool.{Bool, true, false, _&&_}
+use mathlib.Core.Bool.{Bool, true, false, cond, _&&_}
 use mathlib.Core.Logic.{_≢_}
 use Prim.Native.Nat.{ℕ, zero, suc, _<_, _≤_}
 use native.Mathlib.Omega.{arith}
 use lib.ListN.{replicate, take}
-use borrow.Author.Tests.{ne-eqb}
+use lib.Dec.{eqb}
+use borrow.Author.Tests.{eqb-true, eqb-false, ne-eqb}
 use Rattle.arrival.specs.declared.Shape.{Shape}
 use Rattle.arrival.specs.declared.Action.{Action}
 use Rattle.arrival.specs.declared.Action.the-variants.{Step}
 use Rattle.arrival.specs.declared.Response.{Response}
 use Rattle.arrival.specs.declared.Response.the-variants.{Refused}
-use Rattle.laws.specs.Tests.{by-test}
+use Rattle.arrival.specs.Responses.{said}
+use Rattle.laws.specs.Tests.{never, by-test, by-size}
 use Rattle.calendar.specs.rules.Ranges.{worker}
-use Rattle.calendar.specs.rules.Operations.{Memory, Result, actor}
+use Rattle.calendar.specs.rules.Reclaim.{inProgress}
+use Rattle.calendar.specs.rules.Operations.{Memory, Result, perform, actor, outcome}
 use Rattle.calendar.specs.rules.NarrowCalls.{narrowRefusal, narrowAct, goesOn, narrowCall, narrowMade, narrowRun, narrowResponses}
 use Rattle.calendar.specs.facts.Untouched.{SameSize, SameBeyond}
 use Rattle.calendar.specs.facts.Narrow.{narrow-refused-untouched, narrow-same-size, narrow-same-beyond, narrow-others-untouched}
+use Rattle.calendar.specs.facts.GoesOn.{narrow-goes}
 
 -- ── one by one ──
 abbrev pub allGoOn : List Response → Bool
@@ -144,3 +150,32 @@ pub narrow-call-refused : (sh : Shape) (m : Memory) (a : Action) (n : ℕ) → n
 unfolding narrowCall narrowAct
 narrow-call-refused sh m a zero h = rw (ne-eqb (narrowRefusal sh m a) 0 h)
 narrow-call-refused sh m a (suc n) h = rw (ne-eqb (narrowRefusal sh m a) 0 h)
+
+-- ── whether it goes on ──
+abbrev Goes : ℕ → Result → Type 0
+Goes i r = said (r .response) .number ≡ 0 → goesOn (r .response) ≡ inProgress (worker (r .memory .table) i)
+
+act-goes : (sh : Shape) (m : Memory) (a : Action) → Goes (actor a) (narrowAct sh m a)
+unfolding narrowAct
+act-goes sh m a s = go (eqb (narrowRefusal sh m a) 0) refl s
+  where
+    go : (b : Bool) → eqb (narrowRefusal sh m a) 0 ≡ b
+        → said (cond b (perform sh m (actor a) (outcome sh m a)) (record { memory = m; response = Refused (narrowRefusal sh m a) }) .response) .number ≡ 0
+        → goesOn (narrowAct sh m a .response) ≡ inProgress (worker (narrowAct sh m a .memory .table) (actor a))
+    go true e s = narrow-goes sh m a (eqb-true (narrowRefusal sh m a) 0 e)
+    go false e s = absurd (eqb-false (narrowRefusal sh m a) 0 e s)
+
+pub narrow-call-goes : (sh : Shape) (m : Memory) (a : Action) (n : ℕ) → said (narrowCall sh m a n .response) .number ≡ 0
+    → goesOn (narrowCall sh m a n .response) ≡ inProgress (worker (narrowCall sh m a n .memory .table) (actor a))
+unfolding narrowCall
+narrow-call-goes sh m a zero = act-goes sh m a
+narrow-call-goes sh m a (suc n) =
+    by-test (Goes (actor a)) (goesOn (narrowAct sh m a .response)) (λ e. narrow-call-goes sh (narrowAct sh m a .memory) (Step (actor a)) n)
+    (λ e. act-goes sh m a)
+
+pub narrow-call-spent : (sh : Shape) (m : Memory) (a : Action) (n : ℕ) → goesOn (narrowCall sh m a n .response) ≡ true
+    → narrowMade sh m a n ≡ a ∷ replicate n (Step (actor a))
+narrow-call-spent sh m a n e =
+    let R = one-by-one sh m a n in
+    let all : R .turns ≡ n = by-size (R .turns) n (λ l. never (sym (R .stops l) ∙ e)) (λ l. omega (arith, R .at-most)) in
+    R .made ∙ ap (λ k. a ∷ replicate k (Step (actor a))) all
