@@ -10,6 +10,11 @@ pub mod Inside
 pub mod FirstFree
 pub mod NodeCounts
 pub mod Untouched
+pub mod NarrowAccepted
+pub mod Narrow
+pub mod GoesOn
+pub mod NarrowTurns
+pub mod HostRun
 pub mod Starred
 pub mod RecordsKept
 pub mod RangesKept

@@ -16,3 +16,4 @@ pub mod NarrowCalls
 pub mod Ledger
 pub mod Snapshot
 pub mod Linearizability
+pub mod HostHistory

@@ -14,4 +14,5 @@ pub mod Sequential
 pub mod Extraction
 pub mod TakenOnce
 pub mod Demand3
+pub mod HostDemand3
 pub mod WorkedCorrect

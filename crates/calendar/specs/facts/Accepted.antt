@@ -3,6 +3,8 @@
 --     EnqueueAccepted, DequeueAccepted, StepAccepted        and without those of a put, of a take, of a turn
 --     lent, open-accepted                                   an opening that is not refused has the first
 --     memory-accepted                                       an action that the memory's tests let pass has the second
+--     EnqueuePassed                                         without those of a put, whatever the memory's tests say
+--     enqueue-passed, dequeue-passed, step-passed           an action that its own tests let pass may count on what they look at
 --     enqueue-accepted, dequeue-accepted, step-accepted     an action that is not refused has its own
 -- Assumes nothing.
 use mathlib.Core.Path.{_≡_, refl}
@@ -76,17 +78,25 @@ memory-accepted sh s t i e =
     let (p, q) = parts (storeInRange sh s) (tableInRange sh t) (not-false _ three) in
     record { lent = lent sh s t one two; store = store-ranges sh s p; table = table-ranges sh t q; exists = leb-false _ _ four }
 
-pub enqueue-accepted : (sh : Shape) (s : List ℕ) (t : List Worker) (i : ℕ) (a : Arrival) → enqueueRefusal sh s t i a ≡ 0 → EnqueueAccepted sh s t i a
-unfolding enqueueRefusal
-enqueue-accepted sh s t i a e =
-    let own = enqueueOwn sh a (worker t i) (noTicket sh s) (noNode sh s t) in
-    let (z, none) = first-parts (memoryOf sh s t i) own refl e in
-    let (five, (six, (nine, (eleven, (twelve, last))))) = first-none own refl none in
+-- ── an action's own tests ──
+pub record EnqueuePassed (sh : Shape) (s : List ℕ) (t : List Worker) (i : ℕ) (a : Arrival) : Type 0 where
+  pub path : a .path ≤ 65535
+  pub order : a .order ≤ 63
+  pub some-distance : 1 ≤ a .distance
+  pub distance : a .distance ≤ 1024
+  pub time : a .time < sh .buckets * sh .width
+  pub idle : worker t i .stage ≡ 0
+  pub ticket : started sh s ≢ 4294967295
+  pub node : firstFree sh s t ≢ sh .nodes
+
+pub enqueue-passed : (sh : Shape) (s : List ℕ) (t : List Worker) (i : ℕ) (a : Arrival)
+    → firstOf (enqueueOwn sh a (worker t i) (noTicket sh s) (noNode sh s t)) ≡ 0 → EnqueuePassed sh s t i a
+enqueue-passed sh s t i a e =
+    let (five, (six, (nine, (eleven, (twelve, last))))) = first-none (enqueueOwn sh a (worker t i) (noTicket sh s) (noNode sh s t)) refl e in
     let (p, far) = parts _ _ (not-false _ five) in
     let (path, order) = parts _ _ p in
     let (some-distance, distance) = parts _ _ far in
     record {
-      usable = memory-accepted sh s t i z;
       path = leb-true _ _ path;
       order = leb-true _ _ order;
       some-distance = leb-true _ _ some-distance;
@@ -97,18 +107,44 @@ enqueue-accepted sh s t i a e =
       node = eqb-false _ _ twelve;
     }
 
+pub dequeue-passed : (sh : Shape) (s : List ℕ) (w : Worker) → firstOf (dequeueOwn w (noTicket sh s)) ≡ 0 → (w .stage ≡ 0) × (started sh s ≢ 4294967295)
+dequeue-passed sh s w e =
+    let (nine, (eleven, last)) = first-none (dequeueOwn w (noTicket sh s)) refl e in
+    (eqb-true _ _ (not-false _ nine), eqb-false _ _ eleven)
+
+pub step-passed : (sh : Shape) (s : List ℕ) (w : Worker) → firstOf (stepOwn sh s w) ≡ 0 → (w .stage ≢ 0) × (noEpoch sh s w ≡ false)
+step-passed sh s w e =
+    let (ten, (eleven, last)) = first-none (stepOwn sh s w) refl e in
+    (eqb-false _ _ (not-true _ (not-false _ ten)), eleven)
+
+-- ── an action that is not refused ──
+pub enqueue-accepted : (sh : Shape) (s : List ℕ) (t : List Worker) (i : ℕ) (a : Arrival) → enqueueRefusal sh s t i a ≡ 0 → EnqueueAccepted sh s t i a
+unfolding enqueueRefusal
+enqueue-accepted sh s t i a e =
+    let (z, own) = first-parts (memoryOf sh s t i) (enqueueOwn sh a (worker t i) (noTicket sh s) (noNode sh s t)) refl e in
+    let P = enqueue-passed sh s t i a own in
+    record {
+      usable = memory-accepted sh s t i z;
+      path = P .path;
+      order = P .order;
+      some-distance = P .some-distance;
+      distance = P .distance;
+      time = P .time;
+      idle = P .idle;
+      ticket = P .ticket;
+      node = P .node;
+    }
+
 pub dequeue-accepted : (sh : Shape) (s : List ℕ) (t : List Worker) (i : ℕ) → dequeueRefusal sh s t i ≡ 0 → DequeueAccepted sh s t i
 unfolding dequeueRefusal
 dequeue-accepted sh s t i e =
-    let own = dequeueOwn (worker t i) (noTicket sh s) in
-    let (z, none) = first-parts (memoryOf sh s t i) own refl e in
-    let (nine, (eleven, last)) = first-none own refl none in
-    record { usable = memory-accepted sh s t i z; idle = eqb-true _ _ (not-false _ nine); ticket = eqb-false _ _ eleven }
+    let (z, own) = first-parts (memoryOf sh s t i) (dequeueOwn (worker t i) (noTicket sh s)) refl e in
+    let (idle, ticket) = dequeue-passed sh s (worker t i) own in
+    record { usable = memory-accepted sh s t i z; idle = idle; ticket = ticket }
 
 pub step-accepted : (sh : Shape) (s : List ℕ) (t : List Worker) (i : ℕ) → stepRefusal sh s t i ≡ 0 → StepAccepted sh s t i
 unfolding stepRefusal
 step-accepted sh s t i e =
-    let own = stepOwn sh s (worker t i) in
-    let (z, none) = first-parts (memoryOf sh s t i) own refl e in
-    let (ten, (eleven, last)) = first-none own refl none in
-    record { usable = memory-accepted sh s t i z; busy = eqb-false _ _ (not-true _ (not-false _ ten)); epoch = eleven }
+    let (z, own) = first-parts (memoryOf sh s t i) (stepOwn sh s (worker t i)) refl e in
+    let (busy, epoch) = step-passed sh s (worker t i) own in
+    record { usable = memory-accepted sh s t i z; busy = busy; epoch = epoch }

@@ -8,8 +8,12 @@ use native.Mathlib.Omega.{arith}
 use Rattle.arrival.specs.declared.Shape.{Shape}
 use Rattle.arrival.specs.declared.Arrival.{Arrival}
 use Rattle.arrival.specs.declared.Worker.{Worker}
+use Rattle.arrival.specs.declared.Action.{Action}
+use Rattle.arrival.specs.declared.Action.the-variants.{Enqueue, Dequeue, Step}
 use Rattle.calendar.specs.rules.Refusals.{firstOf, openTests, enqueueTests, dequeueTests, stepTests, openRefusal, enqueueRefusal, dequeueRefusal}
 use Rattle.calendar.specs.rules.Refusals.{stepRefusal}
+use Rattle.calendar.specs.rules.Operations.{Memory}
+use Rattle.calendar.specs.rules.NarrowCalls.{narrowTests, narrowRefusal}
 use Rattle.calendar.specs.facts.FirstOf.{Rising, rises, by-numbers}
 
 -- number n is in the list, and its test holds
@@ -59,3 +63,9 @@ dequeue-lowest sh s t i = lowest-of (dequeueTests sh s t i) refl
 pub step-lowest : (sh : Shape) (s : List ℕ) (t : List Worker) (i : ℕ) → Lowest (stepRefusal sh s t i) (stepTests sh s t i)
 unfolding stepRefusal
 step-lowest sh s t i = lowest-of (stepTests sh s t i) refl
+
+pub narrow-lowest : (sh : Shape) (m : Memory) (a : Action) → Lowest (narrowRefusal sh m a) (narrowTests sh m a)
+unfolding narrowRefusal
+narrow-lowest sh m (Enqueue i x) = lowest-of (narrowTests sh m (Enqueue i x)) refl
+narrow-lowest sh m (Dequeue i) = lowest-of (narrowTests sh m (Dequeue i)) refl
+narrow-lowest sh m (Step i) = lowest-of (narrowTests sh m (Step i)) refl

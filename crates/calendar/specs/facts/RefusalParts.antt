@@ -1,7 +1,7 @@
 -- An action's refusal in two parts, for all actions at once: the memory's tests, and behind them its own.
 --     ownOf, testsOf                the tests of its own; all of them
 --     refusal-first, tests-rise     the first of all of them is its refusal; their numbers rise
---     act-accepted                  an action that is not refused may count on memory and worker
+--     act-accepted, act-passes      an action that is not refused may count on memory and worker; none of its own applies
 --     refused-first                 what refuses an opening refuses every action
 --     refusal-alike                 two memories with the same tests refuse alike
 -- Assumes nothing.
@@ -43,6 +43,9 @@ pub act-accepted : (sh : Shape) (m : Memory) (a : Action) → refusal sh m a ≡
 act-accepted sh m a e =
     memory-accepted sh (m .store) (m .table) (actor a)
     (first-parts (memoryOf sh (m .store) (m .table) (actor a)) (ownOf sh m a) refl (sym (refusal-first sh m a) ∙ e) .0)
+
+pub act-passes : (sh : Shape) (m : Memory) (a : Action) → refusal sh m a ≡ 0 → firstOf (ownOf sh m a) ≡ 0
+act-passes sh m a e = first-parts (memoryOf sh (m .store) (m .table) (actor a)) (ownOf sh m a) refl (sym (refusal-first sh m a) ∙ e) .1
 
 pub refused-first : (sh : Shape) (s : List ℕ) (t : List Worker) → openRefusal sh s t ≢ 0 → (a : Action)
     → refusal sh (record { store = s; table = t }) a ≡ openRefusal sh s t

@@ -1,10 +1,13 @@
 -- What no operation changes: a refused one changes nothing; words beyond the layout, records beyond the workers and the
 -- records of other workers stay; lengths stay.
---     outcome-said                                      what is accepted answers no refusal
+--     refused                                           an operation that answers a refusal leaves the memory as it was, whatever refuses it
+--     rule-said, outcome-said                           what its own tests let pass answers no refusal; so what is accepted does not
 --     act-refused-untouched, open-refused-untouched     what is refused changes nothing
 --     SameSize, SameBeyond                              as long; the same beyond the layout and the workers
+--     by-refusal                                        what holds of the memory as it was, and after the operation, holds whatever refuses it
+--     perform-size, perform-beyond                      a worker's outcome keeps both, where it writes in the layout
 --     act-same-size                                     starts and turns keep the first
---     outcome-inside                                    an accepted action acts for a worker of the shape, and writes in the layout
+--     rule-inside, outcome-inside                       an action that its own tests let pass, or that is accepted, writes in the layout
 --     act-same-beyond                                   starts and turns keep the second
 --     others-untouched                                  other workers' records stay
 --     open-same-size, open-same-beyond                  the opening keeps both
@@ -27,23 +30,26 @@ use Rattle.arrival.specs.declared.Response.{Response}
 use Rattle.arrival.specs.declared.Response.the-variants.{Opened, Refused}
 use Rattle.arrival.specs.Responses.{said}
 use Rattle.laws.specs.Lists.{wordsFrom, length-words}
-use Rattle.calendar.specs.rules.Layout.{Write, _≔_, write, writeAll, layout, address}
+use Rattle.calendar.specs.rules.Layout.{Write, _≔_, write, writeAll, layout, address, lastNode}
 use Rattle.calendar.specs.rules.Ranges.{blank, worker}
 use Rattle.calendar.specs.rules.Opening.{openWord, openStore, openTable}
 use Rattle.calendar.specs.rules.Reclaim.{firstFree}
 use Rattle.calendar.specs.rules.Outcome.{Outcome}
 use Rattle.calendar.specs.rules.Starts.{enqueueStart, dequeueStart}
-use Rattle.calendar.specs.rules.Refusals.{openRefusal}
+use Rattle.calendar.specs.rules.Refusals.{firstOf, openRefusal}
 use Rattle.calendar.specs.rules.Operations.{Memory, Result, unless, perform, open-pool, actor, refusal, outcome, act, run}
 use Rattle.calendar.specs.facts.FirstFree.{first-free-node}
-use Rattle.calendar.specs.facts.Accepted.{open-accepted, enqueue-accepted, dequeue-accepted, step-accepted}
+use Rattle.calendar.specs.facts.RangeFacts.{RecordRanges}
+use Rattle.calendar.specs.facts.Accepted.{open-accepted, enqueue-passed, step-passed}
+use Rattle.calendar.specs.facts.RefusalParts.{ownOf, act-accepted, act-passes}
 use Rattle.calendar.specs.facts.Views.{AllInside}
 use Rattle.calendar.specs.facts.Changes.{step-is}
 use Rattle.calendar.specs.facts.Inside.{enqueue-inside, dequeue-inside, change-inside, change-said, length-writeAll}
 
 -- ── a refused operation ──
 -- A refusal as response: the memory is as it was.
-refused : (k n : ℕ) (m : Memory) (r : Result) → (k ≡ 0 → said (r .response) .number ≡ 0) → unless k m r .response ≡ Refused (suc n) → unless k m r .memory ≡ m
+pub refused : (k n : ℕ) (m : Memory) (r : Result) → (k ≡ 0 → said (r .response) .number ≡ 0)
+    → unless k m r .response ≡ Refused (suc n) → unless k m r .memory ≡ m
 refused k n m r ok e = go (eqb k 0) refl e
   where
     go : (t : Bool) → eqb k 0 ≡ t → cond t r (record { memory = m; response = Refused k }) .response ≡ Refused (suc n)
@@ -51,13 +57,18 @@ refused k n m r ok e = go (eqb k 0) refl e
     go true q e = absurd (omega (arith, ok (eqb-true k 0 q), ap (λ (x : Response). said x .number) e))
     go false q e = refl
 
-pub outcome-said : (sh : Shape) (m : Memory) (a : Action) → refusal sh m a ≡ 0 → said (outcome sh m a .response) .number ≡ 0
+pub rule-said : (sh : Shape) (m : Memory) (a : Action) → RecordRanges sh (worker (m .table) (actor a)) → firstOf (ownOf sh m a) ≡ 0
+    → said (outcome sh m a .response) .number ≡ 0
 unfolding enqueueStart dequeueStart
-outcome-said sh m (Enqueue i a) e = refl
-outcome-said sh m (Dequeue i) e = refl
-outcome-said sh m (Step i) e =
-    let A = step-accepted sh (m .store) (m .table) i e in
-    change-said sh (m .store) (step-is sh (m .store) (worker (m .table) i) (A .busy) (A .usable .table i (A .usable .exists) .stage))
+rule-said sh m (Enqueue i a) r e = refl
+rule-said sh m (Dequeue i) r e = refl
+rule-said sh m (Step i) r e =
+    change-said sh (m .store) (step-is sh (m .store) (worker (m .table) i) (step-passed sh (m .store) (worker (m .table) i) e .0) (r .stage))
+
+pub outcome-said : (sh : Shape) (m : Memory) (a : Action) → refusal sh m a ≡ 0 → said (outcome sh m a .response) .number ≡ 0
+outcome-said sh m a e =
+    let A = act-accepted sh m a e in
+    rule-said sh m a (A .table (actor a) (A .exists)) (act-passes sh m a e)
 
 pub act-refused-untouched : (sh : Shape) (m : Memory) (a : Action) (n : ℕ) → act sh m a .response ≡ Refused (suc n) → act sh m a .memory ≡ m
 unfolding act
@@ -79,7 +90,7 @@ pub record SameBeyond (sh : Shape) (m m′ : Memory) : Type 0 where
   pub table : drop (sh .workers) (m′ .table) ≡ drop (sh .workers) (m .table)
 
 -- an operation that keeps both unless it is refused keeps both
-by-refusal : (P : Memory → Type 0) (k : ℕ) (m : Memory) (r : Result) → P m → (k ≡ 0 → P (r .memory)) → P (unless k m r .memory)
+pub by-refusal : (P : Memory → Type 0) (k : ℕ) (m : Memory) (r : Result) → P m → (k ≡ 0 → P (r .memory)) → P (unless k m r .memory)
 by-refusal P k m r same h = go (eqb k 0) refl
   where
     go : (t : Bool) → eqb k 0 ≡ t → P (cond t r (record { memory = m; response = Refused k }) .memory)
@@ -91,10 +102,10 @@ unfolding write
 writeAll-beyond sh s [] h = refl
 writeAll-beyond sh s ((p ≔ v) ∷ ws) h = writeAll-beyond sh (write sh s p v) ws (h .2) ∙ drop-set-lt (layout sh) s (address sh p) v (h .1)
 
-perform-size : (sh : Shape) (m : Memory) (i : ℕ) (o : Outcome) → SameSize m (perform sh m i o .memory)
+pub perform-size : (sh : Shape) (m : Memory) (i : ℕ) (o : Outcome) → SameSize m (perform sh m i o .memory)
 perform-size sh m i o = record { store = length-writeAll sh (m .store) (o .writes); table = length-set (m .table) i (o .worker) }
 
-perform-beyond : (sh : Shape) (m : Memory) (i : ℕ) (o : Outcome) → i < sh .workers → AllInside sh (o .writes) → SameBeyond sh m (perform sh m i o .memory)
+pub perform-beyond : (sh : Shape) (m : Memory) (i : ℕ) (o : Outcome) → i < sh .workers → AllInside sh (o .writes) → SameBeyond sh m (perform sh m i o .memory)
 perform-beyond sh m i o l h = record { store = writeAll-beyond sh (m .store) (o .writes) h; table = drop-set-lt (sh .workers) (m .table) i (o .worker) l }
 
 pub act-same-size : (sh : Shape) (m : Memory) (a : Action) → SameSize m (act sh m a .memory)
@@ -103,19 +114,22 @@ act-same-size sh m a =
     by-refusal (SameSize m) (refusal sh m a) m (perform sh m (actor a) (outcome sh m a)) (record { store = refl; table = refl })
     (λ e. perform-size sh m (actor a) (outcome sh m a))
 
+-- what an action writes lies in the layout, where word 2, its worker's record and its own tests are as they should be
+pub rule-inside : (sh : Shape) (m : Memory) (a : Action) → lastNode sh (m .store) < sh .nodes → RecordRanges sh (worker (m .table) (actor a))
+    → firstOf (ownOf sh m a) ≡ 0 → AllInside sh (outcome sh m a .writes)
+rule-inside sh m (Enqueue i a) last r e =
+    enqueue-inside sh (m .store) (firstFree sh (m .store) (m .table)) a (worker (m .table) i)
+    (first-free-node sh (m .store) (m .table) last (enqueue-passed sh (m .store) (m .table) i a e .node))
+rule-inside sh m (Dequeue i) last r e = dequeue-inside sh (m .store) (worker (m .table) i)
+rule-inside sh m (Step i) last r e =
+    change-inside sh (m .store) (worker (m .table) i) r
+    (step-is sh (m .store) (worker (m .table) i) (step-passed sh (m .store) (worker (m .table) i) e .0) (r .stage))
+
 -- an accepted action acts for a worker of the shape, and writes inside the layout
 pub outcome-inside : (sh : Shape) (m : Memory) (a : Action) → refusal sh m a ≡ 0 → (actor a < sh .workers) × AllInside sh (outcome sh m a .writes)
-outcome-inside sh m (Enqueue i a) e =
-    let A = enqueue-accepted sh (m .store) (m .table) i a e in (
-      A .usable .exists,
-      enqueue-inside sh (m .store) (firstFree sh (m .store) (m .table)) a (worker (m .table) i)
-          (first-free-node sh (m .store) (m .table) (A .usable .store .last) (A .node)),
-    )
-outcome-inside sh m (Dequeue i) e = (dequeue-accepted sh (m .store) (m .table) i e .usable .exists, dequeue-inside sh (m .store) (worker (m .table) i))
-outcome-inside sh m (Step i) e =
-    let A = step-accepted sh (m .store) (m .table) i e in
-    let r = A .usable .table i (A .usable .exists) in
-    (A .usable .exists, change-inside sh (m .store) (worker (m .table) i) r (step-is sh (m .store) (worker (m .table) i) (A .busy) (r .stage)))
+outcome-inside sh m a e =
+    let A = act-accepted sh m a e in
+    (A .exists, rule-inside sh m a (A .store .last) (A .table (actor a) (A .exists)) (act-passes sh m a e))
 
 pub act-same-beyond : (sh : Shape) (m : Memory) (a : Action) → SameBeyond sh m (act sh m a .memory)
 unfolding act

@@ -5,8 +5,10 @@
 --     narrowAct                      what is refused leaves the memory as it was, the rest does its rule with the words it finds
 --     goesOn                         the call is still in progress
 --     narrowCall                     a start or turn, and at most so many turns of its worker behind it
+--     narrowMade                     the starts and turns that it makes
+--     narrowRun, narrowResponses     narrow starts and turns one after the other: the memory after them, and the responses on the way
 -- Assumes nothing.
-use mathlib.Core.List.{List, _++_}
+use mathlib.Core.List.{List, [], _∷_, _++_}
 use mathlib.Core.Bool.{Bool, true, false, cond, not, _&&_, _||_}
 use Prim.Native.Nat.{ℕ, zero, suc}
 use Rattle.arrival.specs.declared.Shape.{Shape}
@@ -62,3 +64,18 @@ narrowCall sh m a zero = narrowAct sh m a
 narrowCall sh m a (suc n) =
     let r = narrowAct sh m a in
     cond (goesOn (r .response)) (narrowCall sh (r .memory) (Step (actor a)) n) r
+
+unfoldable pub narrowMade : Shape → Memory → Action → ℕ → List Action
+narrowMade sh m a zero = a ∷ []
+narrowMade sh m a (suc n) =
+    let r = narrowAct sh m a in
+    a ∷ cond (goesOn (r .response)) (narrowMade sh (r .memory) (Step (actor a)) n) []
+
+-- ── one after the other ──
+unfoldable pub narrowRun : Shape → Memory → List Action → Memory
+narrowRun sh m [] = m
+narrowRun sh m (a ∷ h) = narrowRun sh (narrowAct sh m a .memory) h
+
+unfoldable pub narrowResponses : Shape → Memory → List Action → List Response
+narrowResponses sh m [] = []
+narrowResponses sh m (a ∷ h) = narrowAct sh m a .response ∷ narrowResponses sh (narrowAct sh m a .memory) h
