@@ -66,11 +66,17 @@ pub struct Key {
     pub ticket: u64,
 }
 
-// What a host asks of an open pool: a put start, a take start or a turn, each of one worker.
+// What is done to an open pool: a put start, a take start or a turn, each of one worker.
 pub enum Action {
     Enqueue(u64, Arrival),
     Dequeue(u64),
     Step(u64),
+}
+
+// What a host asks of it: an action by a look at the whole of the lent memory; or a narrow one, with at most so many turns behind it.
+pub enum Request {
+    Whole(Action),
+    Narrow(Action, u64),
 }
 
 // What the pool answers. `Begun` and `Stored` carry the ticket, `Refused` the refusal's number.

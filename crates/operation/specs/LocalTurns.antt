@@ -1,9 +1,7 @@
 -- Several turns of one record: narrow turns behind a start or turn, while the call goes on.
 --     localTurn, localTurns           one narrow turn of a record; at most n of them behind what was done
---     turnsAfter                      the same in lent memory
---     call-is                         a narrow start or turn with n turns behind it is that
 --     act-length                      an action leaves the store as long as it was
---     turns-back                      put back into the table, the first is the second
+--     turns-back                      put back into the table, they are the turns behind it in lent memory
 --     turns-over, turns-none          what has ended, or may have no turn more, stays
 --     ended, not-ended                by the test of the loop
 --     Going, going                    what is known where a call goes on: only `right` and `seen` can be out of range
@@ -30,7 +28,7 @@ use Rattle.calendar.specs.rules.Layout.{layout, writeAll, started}
 use Rattle.calendar.specs.rules.Ranges.{blank, worker, wordsInRange, recordInRange}
 use Rattle.calendar.specs.rules.Refusals.{firstOf, ownTests, enqueueOwn, dequeueOwn, stepOwn, noTicket}
 use Rattle.calendar.specs.rules.Operations.{Memory, Result, actor, outcomeOf}
-use Rattle.calendar.specs.rules.NarrowCalls.{recordsInRange, narrowAct, goesOn, narrowCall}
+use Rattle.calendar.specs.rules.NarrowCalls.{recordsInRange, narrowAct, goesOn, turnsAfter}
 use Rattle.calendar.specs.facts.FirstOf.{first-none}
 use Rattle.calendar.specs.facts.RangeFacts.{Limits, WordRanges, word-tests, RecordRanges, record-ranges, record-tests}
 use Rattle.calendar.specs.facts.Accepted.{Lent}
@@ -50,16 +48,6 @@ localTurn sh s w = cond (wordsInRange sh s && recordInRange sh w) (localAct sh 0
 unfoldable pub localTurns : Shape → ℕ → Done → Done
 localTurns sh zero d = d
 localTurns sh (suc n) d = cond (goesOn (d .response)) (localTurns sh n (localTurn sh (d .store) (d .worker))) d
-
--- narrow turns of worker i
-unfoldable pub turnsAfter : Shape → ℕ → ℕ → Result → Result
-turnsAfter sh i zero r = r
-turnsAfter sh i (suc n) r = cond (goesOn (r .response)) (turnsAfter sh i n (narrowAct sh (r .memory) (Step i))) r
-
-pub call-is : (sh : Shape) (m : Memory) (a : Action) (n : ℕ) → narrowCall sh m a n ≡ turnsAfter sh (actor a) n (narrowAct sh m a)
-unfolding narrowCall turnsAfter
-call-is sh m a zero = refl
-call-is sh m a (suc n) = ap (λ (r : Result). cond (goesOn (narrowAct sh m a .response)) r (narrowAct sh m a)) (call-is sh (narrowAct sh m a .memory) (Step (actor a)) n)
 
 -- ── in the table ──
 -- no action changes how long the store is

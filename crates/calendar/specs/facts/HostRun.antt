@@ -19,13 +19,15 @@ use lib.Seq.{getD-append-seam, drop-at}
 use borrow.Author.Tests.{eqb-true}
 use Rattle.arrival.specs.declared.Shape.{Shape}
 use Rattle.arrival.specs.declared.Action.{Action}
+use Rattle.arrival.specs.declared.Request.{Request}
+use Rattle.arrival.specs.declared.Request.the-variants.{Whole, Narrow}
 use Rattle.arrival.specs.declared.Response.{Response}
 use Rattle.arrival.specs.declared.Response.the-variants.{Opened}
 use Rattle.laws.specs.Tests.{parts}
 use Rattle.calendar.specs.rules.Ranges.{storeInRange, tableInRange}
 use Rattle.calendar.specs.rules.Operations.{Memory, Result, act, run, responses}
-use Rattle.calendar.specs.rules.NarrowCalls.{narrowAct, narrowCall, narrowMade, narrowRun, narrowResponses}
-use Rattle.calendar.specs.rules.HostHistory.{Request, whole, narrow, requested, hostRun, hostAnswers, madeBy, oneByOne, counts, lastOfEach, single}
+use Rattle.calendar.specs.rules.NarrowCalls.{turnsAfter, narrowAct, narrowCall, narrowMade, narrowRun, narrowResponses}
+use Rattle.calendar.specs.rules.HostHistory.{requested, hostRun, hostAnswers, madeBy, oneByOne, counts, lastOfEach, single}
 use Rattle.calendar.specs.rules.HostHistory.{actionOf}
 use Rattle.calendar.specs.facts.Untouched.{SameSize, SameBeyond, act-same-size, act-same-beyond}
 use Rattle.calendar.specs.facts.Narrow.{narrow-same}
@@ -84,8 +86,8 @@ pub record Replied (sh : Shape) (m : Memory) (q : Request) : Type 0 where
 
 pub replied : (sh : Shape) (m : Memory) (q : Request) → StaysInRange sh m → Replied sh m q
 unfolding run responses
-replied sh m (whole a) S = record { memory = refl; before = []; responses = refl }
-replied sh m (narrow a n) S =
+replied sh m (Whole a) S = record { memory = refl; before = []; responses = refl }
+replied sh m (Narrow a n) S =
     let R = one-by-one sh m a n in
     record {
       memory = R .memory ∙ narrow-run-same sh m (narrowMade sh m a n) S;
@@ -139,22 +141,22 @@ made-alone sh m a n e = rw e
 pub made-single : (sh : Shape) (m : Memory) (qs : List Request) → single qs ≡ true → oneByOne sh m qs ≡ map actionOf qs
 unfolding oneByOne
 made-single sh m [] e = refl
-made-single sh m (whole a ∷ qs) e = ap (λ h. a ∷ h) (made-single sh (act sh m a .memory) qs e)
-made-single sh m (narrow a n ∷ qs) e =
+made-single sh m (Whole a ∷ qs) e = ap (λ h. a ∷ h) (made-single sh (act sh m a .memory) qs e)
+made-single sh m (Narrow a n ∷ qs) e =
     let (none, rest) = parts (eqb n 0) (single qs) e in
     ap (λ h. h ++ oneByOne sh (narrowCall sh m a n .memory) qs) (made-alone sh m a n (eqb-true n 0 none))
     ∙ ap (λ h. a ∷ h) (made-single sh (narrowCall sh m a n .memory) qs rest)
 
 call-alone : (sh : Shape) (m : Memory) (a : Action) (n : ℕ) → n ≡ 0 → StaysInRange sh m → narrowCall sh m a n ≡ act sh m a
-unfolding narrowCall
+unfolding narrowCall turnsAfter
 call-alone sh m a n e S = rw e (same-now sh m a S)
 
 answers-single : (sh : Shape) (m : Memory) (qs : List Request) → StaysInRange sh m → single qs ≡ true
     → hostAnswers sh m qs ≡ responses sh m (map actionOf qs)
 unfolding hostAnswers responses
 answers-single sh m [] S e = refl
-answers-single sh m (whole a ∷ qs) S e = ap (λ rs. act sh m a .response ∷ rs) (answers-single sh (act sh m a .memory) qs (stays-next sh m a S) e)
-answers-single sh m (narrow a n ∷ qs) S e =
+answers-single sh m (Whole a ∷ qs) S e = ap (λ rs. act sh m a .response ∷ rs) (answers-single sh (act sh m a .memory) qs (stays-next sh m a S) e)
+answers-single sh m (Narrow a n ∷ qs) S e =
     let (none, rest) = parts (eqb n 0) (single qs) e in
     ap (λ (r : Result). r .response ∷ hostAnswers sh (r .memory) qs) (call-alone sh m a n (eqb-true n 0 none) S)
     ∙ ap (λ rs. act sh m a .response ∷ rs) (answers-single sh (act sh m a .memory) qs (stays-next sh m a S) rest)
@@ -165,12 +167,12 @@ host-single sh m qs S e = (host-memory sh m qs S ∙ ap (run sh m) (made-single 
 
 -- ── on any memory ──
 requested-same-size : (sh : Shape) (m : Memory) (q : Request) → SameSize m (requested sh m q .memory)
-requested-same-size sh m (whole a) = act-same-size sh m a
-requested-same-size sh m (narrow a n) = narrow-call-same-size sh m a n
+requested-same-size sh m (Whole a) = act-same-size sh m a
+requested-same-size sh m (Narrow a n) = narrow-call-same-size sh m a n
 
 requested-same-beyond : (sh : Shape) (m : Memory) (q : Request) → SameBeyond sh m (requested sh m q .memory)
-requested-same-beyond sh m (whole a) = act-same-beyond sh m a
-requested-same-beyond sh m (narrow a n) = narrow-call-same-beyond sh m a n
+requested-same-beyond sh m (Whole a) = act-same-beyond sh m a
+requested-same-beyond sh m (Narrow a n) = narrow-call-same-beyond sh m a n
 
 pub host-same-size : (sh : Shape) (m : Memory) (qs : List Request) → SameSize m (hostRun sh m qs)
 unfolding hostRun

@@ -25,7 +25,7 @@ use Rattle.laws.specs.Tests.{never, by-test, by-size}
 use Rattle.calendar.specs.rules.Ranges.{worker}
 use Rattle.calendar.specs.rules.Reclaim.{inProgress}
 use Rattle.calendar.specs.rules.Operations.{Memory, Result, perform, actor, outcome}
-use Rattle.calendar.specs.rules.NarrowCalls.{narrowRefusal, narrowAct, goesOn, narrowCall, narrowMade, narrowRun, narrowResponses}
+use Rattle.calendar.specs.rules.NarrowCalls.{turnsAfter, narrowRefusal, narrowAct, goesOn, narrowCall, narrowMade, narrowRun, narrowResponses}
 use Rattle.calendar.specs.facts.Untouched.{SameSize, SameBeyond}
 use Rattle.calendar.specs.facts.Narrow.{narrow-refused-untouched, narrow-same-size, narrow-same-beyond, narrow-others-untouched}
 use Rattle.calendar.specs.facts.GoesOn.{narrow-goes}
@@ -51,11 +51,11 @@ pub record OneByOne (sh : Shape) (m : Memory) (a : Action) (n : ℕ) : Type 0 wh
 
 module _ (sh : Shape) (m : Memory) (a : Action) (n : ℕ) where
   call-on : goesOn (narrowAct sh m a .response) ≡ true → narrowCall sh m a (suc n) ≡ narrowCall sh (narrowAct sh m a .memory) (Step (actor a)) n
-  unfolding narrowCall
+  unfolding narrowCall turnsAfter
   call-on e = rw e
 
   call-stops : goesOn (narrowAct sh m a .response) ≡ false → narrowCall sh m a (suc n) ≡ narrowAct sh m a
-  unfolding narrowCall
+  unfolding narrowCall turnsAfter
   call-stops e = rw e
 
   made-on : goesOn (narrowAct sh m a .response) ≡ true → narrowMade sh m a (suc n) ≡ a ∷ narrowMade sh (narrowAct sh m a .memory) (Step (actor a)) n
@@ -102,7 +102,7 @@ further sh m a n e R =
     }
 
 at-once : (sh : Shape) (m : Memory) (a : Action) → OneByOne sh m a zero
-unfolding narrowCall narrowMade
+unfolding narrowCall turnsAfter narrowMade
 at-once sh m a = alone sh m a zero refl refl (λ l. absurd (omega arith))
 
 -- A NARROW CALL IS ITS STARTS AND TURNS ONE BY ONE
@@ -118,7 +118,7 @@ one-by-one sh m a (suc n) = go (goesOn (narrowAct sh m a .response)) refl (one-b
 -- what every start and turn of worker i keeps
 call-keeps : (sh : Shape) (P : Memory → Type 0) (i : ℕ) → ((m : Memory) (a : Action) → actor a ≡ i → P m → P (narrowAct sh m a .memory))
     → (m : Memory) (a : Action) → actor a ≡ i → (n : ℕ) → P m → P (narrowCall sh m a n .memory)
-unfolding narrowCall
+unfolding narrowCall turnsAfter
 call-keeps sh P i keep m a own zero h = keep m a own h
 call-keeps sh P i keep m a own (suc n) h =
     by-test (λ (r : Result). P (r .memory)) (goesOn (narrowAct sh m a .response))
@@ -147,7 +147,7 @@ narrow-call-others-untouched sh m a n j other = call-keeps sh (λ k. worker (k .
 -- whatever the limit
 pub narrow-call-refused : (sh : Shape) (m : Memory) (a : Action) (n : ℕ) → narrowRefusal sh m a ≢ 0
     → narrowCall sh m a n ≡ record { memory = m; response = Refused (narrowRefusal sh m a) }
-unfolding narrowCall narrowAct
+unfolding narrowCall turnsAfter narrowAct
 narrow-call-refused sh m a zero h = rw (ne-eqb (narrowRefusal sh m a) 0 h)
 narrow-call-refused sh m a (suc n) h = rw (ne-eqb (narrowRefusal sh m a) 0 h)
 
@@ -167,7 +167,7 @@ act-goes sh m a s = go (eqb (narrowRefusal sh m a) 0) refl s
 
 pub narrow-call-goes : (sh : Shape) (m : Memory) (a : Action) (n : ℕ) → said (narrowCall sh m a n .response) .number ≡ 0
     → goesOn (narrowCall sh m a n .response) ≡ inProgress (worker (narrowCall sh m a n .memory .table) (actor a))
-unfolding narrowCall
+unfolding narrowCall turnsAfter
 narrow-call-goes sh m a zero = act-goes sh m a
 narrow-call-goes sh m a (suc n) =
     by-test (Goes (actor a)) (goesOn (narrowAct sh m a .response)) (λ e. narrow-call-goes sh (narrowAct sh m a .memory) (Step (actor a)) n)

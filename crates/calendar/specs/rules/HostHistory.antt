@@ -1,5 +1,4 @@
 -- What a host asks of a pool, request by request, and what is promised of it.
---     Request                            a start or turn, as Operations has it; or a narrow one, with a limit to the turns behind it
 --     requested                          what one request leaves and answers
 --     hostRun, hostAnswers               the memory after a list of requests, and their answers
 --     madeBy, oneByOne, counts           the starts and turns that a request makes; those of a list, one by one; how many each request makes
@@ -15,6 +14,8 @@ use lib.Dec.{eqb}
 use lib.ListN.{length, getD, drop}
 use Rattle.arrival.specs.declared.Shape.{Shape}
 use Rattle.arrival.specs.declared.Action.{Action}
+use Rattle.arrival.specs.declared.Request.{Request}
+use Rattle.arrival.specs.declared.Request.the-variants.{Whole, Narrow}
 use Rattle.arrival.specs.declared.Response.{Response}
 use Rattle.arrival.specs.declared.Response.the-variants.{Opened}
 use Rattle.calendar.specs.rules.Operations.{Memory, Result, open-pool, act, run, responses}
@@ -23,14 +24,10 @@ use Rattle.calendar.specs.rules.Ledger.{new, ledger}
 use Rattle.calendar.specs.rules.Linearizability.{Correct}
 
 -- ── requests ──
--- `whole` looks at the whole memory; `narrow a n` only at what it needs, and makes at most n turns behind a
-pub data Request : Type 0 where
-  whole : Action → Request
-  narrow : Action → ℕ → Request
-
+-- `Whole a` looks at the whole memory; `Narrow a n` only at what it needs, and makes at most n turns behind a
 abbrev pub requested : Shape → Memory → Request → Result
-requested sh m (whole a) = act sh m a
-requested sh m (narrow a n) = narrowCall sh m a n
+requested sh m (Whole a) = act sh m a
+requested sh m (Narrow a n) = narrowCall sh m a n
 
 unfoldable pub hostRun : Shape → Memory → List Request → Memory
 hostRun sh m [] = m
@@ -42,8 +39,8 @@ hostAnswers sh m (q ∷ qs) = requested sh m q .response ∷ hostAnswers sh (req
 
 -- ── the same, one by one ──
 abbrev pub madeBy : Shape → Memory → Request → List Action
-madeBy sh m (whole a) = a ∷ []
-madeBy sh m (narrow a n) = narrowMade sh m a n
+madeBy sh m (Whole a) = a ∷ []
+madeBy sh m (Narrow a n) = narrowMade sh m a n
 
 unfoldable pub oneByOne : Shape → Memory → List Request → List Action
 oneByOne sh m [] = []
@@ -61,12 +58,12 @@ lastOfEach (k ∷ ks) rs = getD rs (k - 1) Opened ∷ lastOfEach ks (drop k rs)
 -- ── without turns behind ──
 abbrev pub single : List Request → Bool
 single [] = true
-single (whole a ∷ qs) = single qs
-single (narrow a n ∷ qs) = eqb n 0 && single qs
+single (Whole a ∷ qs) = single qs
+single (Narrow a n ∷ qs) = eqb n 0 && single qs
 
 abbrev pub actionOf : Request → Action
-actionOf (whole a) = a
-actionOf (narrow a n) = a
+actionOf (Whole a) = a
+actionOf (Narrow a n) = a
 
 -- ── the promise ──
 pub record HostCorrect (sh : Shape) (m : Memory) (qs : List Request) : Type 0 where

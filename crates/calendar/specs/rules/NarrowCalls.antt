@@ -4,7 +4,7 @@
 --     narrowTests, narrowRefusal     all that it can get; the lowest that applies, or 0
 --     narrowAct                      what is refused leaves the memory as it was, the rest does its rule with the words it finds
 --     goesOn                         the call is still in progress
---     narrowCall                     a start or turn, and at most so many turns of its worker behind it
+--     turnsAfter, narrowCall         at most so many turns behind what was done; behind a narrow start or turn
 --     narrowMade                     the starts and turns that it makes
 --     narrowRun, narrowResponses     narrow starts and turns one after the other: the memory after them, and the responses on the way
 -- Assumes nothing.
@@ -58,12 +58,13 @@ goesOn (Took time path order distance energy) = false
 goesOn Empty = false
 goesOn (Refused number) = false
 
--- a start or turn, and while the call goes on at most n turns more: the last response is the answer
+-- after a response that goes on, narrow turns of worker i, at most n: the last response is the answer
+unfoldable pub turnsAfter : Shape → ℕ → ℕ → Result → Result
+turnsAfter sh i zero r = r
+turnsAfter sh i (suc n) r = cond (goesOn (r .response)) (turnsAfter sh i n (narrowAct sh (r .memory) (Step i))) r
+
 unfoldable pub narrowCall : Shape → Memory → Action → ℕ → Result
-narrowCall sh m a zero = narrowAct sh m a
-narrowCall sh m a (suc n) =
-    let r = narrowAct sh m a in
-    cond (goesOn (r .response)) (narrowCall sh (r .memory) (Step (actor a)) n) r
+narrowCall sh m a n = turnsAfter sh (actor a) n (narrowAct sh m a)
 
 unfoldable pub narrowMade : Shape → Memory → Action → ℕ → List Action
 narrowMade sh m a zero = a ∷ []
