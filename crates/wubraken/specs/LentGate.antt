@@ -1,4 +1,4 @@
--- Refusals 1 to 4 of a call on lent memory, the flag computed by a look at every field. Assumes nothing.
+-- Refusals 1 to 4 of a call on lent memory, the flag computed by a look at every field, or a narrow one. Assumes nothing.
 use mathlib.Core.Path.{_≡_, refl}
 use mathlib.Core.List.{List}
 use mathlib.Core.Bool.{Bool, true, false, cond, _&&_}
@@ -6,37 +6,45 @@ use Prim.Native.Nat.{ℕ, _<_, _≤_}
 use native.Mathlib.Omega.{arith}
 use lib.Dec.{eqb}
 use lib.ListN.{length}
-use borrow.Author.Tests.{eqb-true}
+use borrow.Author.Tests.{eq-eqb}
 use Rattle.arrival.specs.declared.Shape.{Shape}
 use Rattle.laws.specs.Tests.{parts}
-use Rattle.calendar.specs.facts.Views.{view}
-use Rattle.calendar.specs.rules.Ranges.{storeInRange}
-use Rattle.calendar.specs.facts.RangeFacts.{Limits, StoreRanges, store-ranges}
+use Rattle.calendar.specs.rules.Ranges.{wordsInRange, storeInRange}
+use Rattle.calendar.specs.facts.RangeFacts.{Limits, WordRanges, word-ranges}
 use Rattle.words.specs.Laid.{Laid, laid}
-use Rattle.admission.specs.Gate.{gateOf, gate-passed, openGate, open-passed, soundOf}
+use Rattle.admission.specs.Gate.{gateOf, gate-passed, gate-opens, openGate, open-passed, soundOf}
+use Rattle.admission.specs.NarrowGate.{nearOf}
 
--- of n records, where `ok` says that the workers' are in range
-unfoldable pub gateOn : Shape → List ℕ → ℕ → ℕ → Bool → ℕ
-gateOn sh s i n ok = gateOf sh (length s) n i (soundOf sh s n ok)
+-- of n records, where `ok` says that those looked at are in range; the flag by a look at all words, or at the three first
+abbrev pub flagOf : Bool → Shape → List ℕ → ℕ → Bool → Bool
+flagOf whole sh s n ok = cond whole (soundOf sh s n ok) (nearOf sh s n ok)
+
+unfoldable pub gateOn : Bool → Shape → List ℕ → ℕ → ℕ → Bool → ℕ
+gateOn whole sh s i n ok = gateOf sh (length s) n i (flagOf whole sh s n ok)
 
 -- what no refusal tells
 pub record Passed (sh : Shape) (s : List ℕ) (i n : ℕ) (ok : Bool) : Type 0 where
   pub limits : Limits sh
   pub laid : Laid sh s
-  pub store : StoreRanges sh (view sh s)
+  pub words : WordRanges sh s
   pub table : sh .workers ≤ n
   pub records : ok ≡ true
   pub worker : i < sh .workers
 
-pub passed : (sh : Shape) (s : List ℕ) (i n : ℕ) (ok : Bool) → gateOn sh s i n ok ≡ 0 → Passed sh s i n ok
-unfolding gateOn soundOf
-passed sh s i n ok e =
-    let (sound, worker) = gate-passed sh (length s) n i _ e in
-    go (eqb (openGate sh (length s) n) 0) refl sound worker
+-- a store in range has its three first words in range
+first-words : (sh : Shape) (s : List ℕ) → storeInRange sh s ≡ true → wordsInRange sh s ≡ true
+unfolding storeInRange
+first-words sh s e = parts _ _ (parts _ _ e .0) .0
+
+pub passed : (whole : Bool) (sh : Shape) (s : List ℕ) (i n : ℕ) (ok : Bool) → gateOn whole sh s i n ok ≡ 0 → Passed sh s i n ok
+unfolding gateOn soundOf nearOf
+passed whole sh s i n ok e =
+    let (up, worker) = gate-passed sh (length s) n i _ e in
+    let opens = gate-opens sh (length s) n i _ e in
+    let p = open-passed sh (length s) n opens in
+    let (words, records) = go whole (eq-eqb _ 0 opens) up in
+    record { limits = p .0; laid = laid sh s (p .0) (p .1); words = word-ranges sh s words; table = p .2; records = records; worker = worker }
   where
-    go : (b : Bool) → eqb (openGate sh (length s) n) 0 ≡ b → cond b (storeInRange sh s && ok) false ≡ true → i < sh .workers → Passed sh s i n ok
-    go true opens sound worker =
-        let p = open-passed sh (length s) n (eqb-true _ 0 opens) in
-        let (ranged, records) = parts (storeInRange sh s) ok sound in
-        record { limits = p .0; laid = laid sh s (p .0) (p .1); store = store-ranges sh s ranged; table = p .2; records = records; worker = worker }
-    go false opens sound worker = absurd (let z : _≡_ {A = ℕ} 0 1 = cc in omega arith)
+    go : (whole : Bool) → eqb (openGate sh (length s) n) 0 ≡ true → flagOf whole sh s n ok ≡ true → (wordsInRange sh s ≡ true) × (ok ≡ true)
+    go true opens up = let (ranged, records) = parts (storeInRange sh s) ok (rw opens at up) in (first-words sh s ranged, records)
+    go false opens up = parts (wordsInRange sh s) ok (rw opens at up)

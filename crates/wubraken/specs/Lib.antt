@@ -1,4 +1,5 @@
 pub mod Answers
+pub mod Requests
 pub mod Survey
 pub mod LentGate
 pub mod Results

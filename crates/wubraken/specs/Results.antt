@@ -1,10 +1,11 @@
 -- What the by-value functions leave, and that it is what the operations of the pool are defined to give.
 --     Told, leaves, told             memory and answer after a call: of what the code left, and of an operation's result
 --     put-back-told                  what is done on one record, put back, is told of the table
---     ActsAs                         the claim of a function that does an action
+--     ActsAs                         the claim of a function that does what is requested
+--     nearBy                         whether the records that a request looks at are in range
 --     actOn, refused-on, done-on     refused by 1 to 4, or done; by what the gate said
---     acted                          what is done on one record and put back is the operation
---     away-is                        so is the refusal of a worker past the records that were looked at
+--     acted                          what is done on one record and put back is what was requested
+--     away-is                        so is the refusal of a worker past the workers' records
 --     recordsOpened                  how many records an opening clears, by the number that refuses it
 --     opened-bound, open-is          no more than there are; with the store opened and the records cleared it is the opening
 -- Assumes nothing.
@@ -12,32 +13,41 @@ use mathlib.Core.Path.{_≡_, refl, sym, ap, _∙_}
 use mathlib.Core.List.{List, _++_}
 use mathlib.Core.Bool.{Bool, true, false, cond}
 use mathlib.Core.Logic.{_≢_}
-use Prim.Native.Nat.{ℕ, _≤_}
+use Prim.Native.Nat.{ℕ, zero, suc, _<_, _≤_}
 use native.Mathlib.Omega.{arith}
 use lib.Dec.{eqb, ltb}
 use lib.ListN.{length, set, drop, replicate}
 use lib.Seq.{set-getD}
-use borrow.Author.Tests.{eqb-true, eqb-false, ltb-false, le-ltb, eq-eqb, ne-eqb}
+use borrow.Author.Tests.{eqb-true, eqb-false, ltb-false, le-leb, lt-leb, le-ltb, eq-eqb, ne-eqb}
 use Rattle.arrival.specs.declared.Shape.{Shape}
 use Rattle.arrival.specs.declared.Worker.{Worker}
 use Rattle.arrival.specs.declared.Response.the-variants.{Opened, Refused}
 use Rattle.arrival.specs.declared.Action.{Action}
 use Rattle.arrival.specs.declared.Action.the-variants.{Enqueue, Dequeue, Step}
+use Rattle.arrival.specs.declared.Request.{Request}
+use Rattle.arrival.specs.declared.Request.the-variants.{Whole, Narrow}
 use Rattle.arrival.specs.Responses.{Said, said}
-use Rattle.calendar.specs.rules.Ranges.{blank, worker}
+use Rattle.calendar.specs.rules.Ranges.{blank, worker, recordInRange, tableInRange}
 use Rattle.calendar.specs.rules.Opening.{openStore, openTable}
 use Rattle.calendar.specs.rules.Refusals.{openRefusal}
 use Rattle.calendar.specs.rules.Operations.{Memory, Result, actor, act, open-pool}
+use Rattle.calendar.specs.rules.NarrowCalls.{recordsInRange, narrowAct, turnsAfter, narrowCall}
+use Rattle.calendar.specs.rules.HostHistory.{requested, actionOf}
+use Rattle.calendar.specs.facts.Accepted.{Lent}
 use Rattle.words.specs.Done.{Done, gives, refused, unlessRefused}
 use Rattle.words.specs.declared.replies.Reply.{Reply}
-use Rattle.operation.specs.LocalAct.{localAct, LowFor, back, act-is}
+use Rattle.operation.specs.LocalAct.{localAct, LowFor, back, act-is, narrow-is}
+use Rattle.operation.specs.LocalTurns.{localTurns, act-length, turns-back}
+use Rattle.starts.specs.LeastTicket.{leastTicket}
 use Rattle.admission.specs.Watched.{Watched}
-use Rattle.admission.specs.Gate.{soundOf, sound-watched, shape-tests, usable, refused-is, openGate, openResponse, open-passed}
+use Rattle.admission.specs.Gate.{gateOf, soundOf, sound-watched, shape-tests, refused-is, openGate, openResponse, open-passed}
+use Rattle.admission.specs.NarrowGate.{RecordsSeen, narrow-away}
 use Rattle.wubraken.specs.declared.table.Survey.{Survey}
 use Rattle.wubraken.specs.declared.answers.Answer.{Answer}
 use Rattle.wubraken.specs.Answers.{answerOf, saidBy, answer-said}
-use Rattle.wubraken.specs.Survey.{surveyed, survey, survey-records, survey-ok-is, survey-low-is}
-use Rattle.wubraken.specs.LentGate.{gateOn}
+use Rattle.wubraken.specs.Survey.{surveyed, surveyed-worker, survey, survey-none, survey-ok-is, survey-low-is}
+use Rattle.wubraken.specs.Requests.{turnsOf, isWhole, looksAtAll}
+use Rattle.wubraken.specs.LentGate.{flagOf, gateOn, passed}
 
 -- ── what a call leaves ──
 abbrev pub lent : List ℕ → List Worker → Memory
@@ -63,69 +73,173 @@ put-back-told t i s r a d given answer =
     ∙ (λ k. record { memory = lent s (set t i (r .worker)); answer = answerOf (r .response); said = answer-said (r .response) k })
     ∙ ap (λ (e : Done). told (back t i e)) given
 
--- ── the operation on a record ──
--- what a function that does the action a claims of its answer and of the last store and table
-abbrev pub ActsAs : Shape → Action → List ℕ → List Worker → Answer → List ℕ → List Worker → Type 0
-ActsAs sh a s t r s′ t′ = leaves s′ t′ r ≡ told (act sh (lent s t) a)
+-- ── a request on a record ──
+-- what a function that does what is requested claims of its answer and of the last store and table
+abbrev pub ActsAs : Shape → Request → List ℕ → List Worker → Answer → List ℕ → List Worker → Type 0
+ActsAs sh q s t r s′ t′ = leaves s′ t′ r ≡ told (requested sh (lent s t) q)
+
+-- the records that the request looks at are in range; w is its worker's
+abbrev pub nearBy : Shape → Request → Survey → Worker → Bool
+nearBy sh q seen w = cond (looksAtAll q) (seen .ok) (recordInRange sh w)
 
 -- refused by 1 to 4, or done, with n records lent
-unfoldable pub actOn : Shape → Action → ℕ → Survey → List ℕ → Worker → Done
-actOn sh a n seen s w = unlessRefused (gateOn sh s (actor a) n (seen .ok)) s w (localAct sh (seen .low) s a w)
+unfoldable pub actOn : Shape → Request → ℕ → Survey → List ℕ → Worker → Done
+actOn sh q n seen s w =
+    unlessRefused (gateOn (isWhole q) sh s (actor (actionOf q)) n (nearBy sh q seen w)) s w (localTurns sh (turnsOf q) (localAct sh (seen .low) s (actionOf q) w))
 
 -- by what the gate said
-module _ (sh : Shape) (a : Action) (n : ℕ) (seen : Survey) (s : List ℕ) (w : Worker) (k : ℕ) (is : k ≡ gateOn sh s (actor a) n (seen .ok)) where
-  pub refused-on : k ≢ 0 → refused s w k ≡ actOn sh a n seen s w
+module _ (sh : Shape) (q : Request) (n : ℕ) (seen : Survey) (s : List ℕ) (w : Worker) (k : ℕ)
+    (is : k ≡ gateOn (isWhole q) sh s (actor (actionOf q)) n (nearBy sh q seen w)) where
+  pub refused-on : k ≢ 0 → refused s w k ≡ actOn sh q n seen s w
   unfolding actOn
   refused-on h = rw (← is, ne-eqb k 0 h)
 
-  pub done-on : k ≡ 0 → localAct sh (seen .low) s a w ≡ actOn sh a n seen s w
+  pub done-on : k ≡ 0 → localTurns sh (turnsOf q) (localAct sh (seen .low) s (actionOf q) w) ≡ actOn sh q n seen s w
   unfolding actOn
   done-on z = rw (← is, eq-eqb k 0 z)
 
-module _ (sh : Shape) (s : List ℕ) (t : List Worker) where
-  abbrev found : Survey
-  found = survey sh t
+-- the first start or turn of a request
+abbrev first : Shape → Memory → Request → Result
+first sh m q = cond (isWhole q) (act sh m (actionOf q)) (narrowAct sh m (actionOf q))
 
-  abbrev sound : Bool
-  sound = soundOf sh s (length t) (survey sh t .ok)
+request-is : (sh : Shape) (m : Memory) (q : Request) → turnsAfter sh (actor (actionOf q)) (turnsOf q) (first sh m q) ≡ requested sh m q
+unfolding turnsAfter narrowCall
+request-is sh m (Whole a) = refl
+request-is sh m (Narrow a n) = refl
 
+-- what is refused has no turns behind it
+nothing-after : (sh : Shape) (i n k : ℕ) (m : Memory) → turnsAfter sh i n (record { memory = m; response = Refused k }) ≡ record { memory = m; response = Refused k }
+unfolding turnsAfter
+nothing-after sh i zero k m = refl
+nothing-after sh i (suc n) k m = refl
+
+module _ (sh : Shape) (s : List ℕ) (t : List Worker) (q : Request) where
   abbrev m : Memory
   m = record { store = s; table = t }
 
-  W : Watched sh (record { store = s; table = t }) (soundOf sh s (length t) (survey sh t .ok))
-  W = sound-watched sh m (found .ok) (λ l. survey-ok-is sh t (shape-tests sh (l .limits)) (le-ltb (length t) (sh .workers) (l .table)))
+  abbrev a : Action
+  a = actionOf q
 
-  abbrev gate : ℕ → ℕ
-  gate i = gateOn sh s i (length t) (survey sh t .ok)
+  abbrev i : ℕ
+  i = actor (actionOf q)
 
-  -- the look at the table gives the least ticket
-  low-for : (a : Action) → gate (actor a) ≡ 0 → LowFor sh t a (survey sh t .low)
-  unfolding gateOn
-  low-for (Enqueue i x) z =
-      let l = usable sh m sound W i z .lent in
-      survey-low-is sh t (shape-tests sh (l .limits)) (le-ltb (length t) (sh .workers) (l .table))
-  low-for (Dequeue i) z = tt
-  low-for (Step i) z = tt
+  abbrev gate : Bool → ℕ
+  gate ok = gateOn (isWhole q) sh s (actor (actionOf q)) (length t) ok
 
-  pub acted : (a : Action) → back t (actor a) (actOn sh a (length t) (survey sh t) s (worker t (actor a))) ≡ act sh (lent s t) a
-  unfolding actOn gateOn
-  acted a = go (eqb (gate (actor a)) 0) refl
+  -- a flag for the records that says what the request asks
+  abbrev Tells : Bool → Type 0
+  Tells ok = Lent sh s t → ok ≡ cond (isWhole q) (tableInRange sh t) (recordsInRange sh t (actionOf q))
+
+  module _ (ok : Bool) (tells : Tells ok) where
+    W : isWhole q ≡ true → Watched sh m (soundOf sh s (length t) ok)
+    W e = sound-watched sh m ok (λ l. tells l ∙ rw e)
+
+    N : isWhole q ≡ false → RecordsSeen sh m a ok
+    N e = λ l. tells l ∙ rw e
+
+    -- what the gate refuses does nothing
+    first-refused : gate ok ≢ 0 → record { memory = m; response = Refused (gate ok) } ≡ first sh m q
+    unfolding gateOn
+    first-refused = go (isWhole q) refl
+      where
+        go : (b : Bool) → isWhole q ≡ b → gateOf sh (length s) (length t) i (flagOf b sh s (length t) ok) ≢ 0
+            → record { memory = m; response = Refused (gateOf sh (length s) (length t) i (flagOf b sh s (length t) ok)) } ≡ cond b (act sh m a) (narrowAct sh m a)
+        go true e n = refused-is sh m (soundOf sh s (length t) ok) (W e) a n
+        go false e n = narrow-away sh m a ok (N e) n
+
+    refused-whole : gate ok ≢ 0 → record { memory = m; response = Refused (gate ok) } ≡ requested sh m q
+    refused-whole n =
+        sym (nothing-after sh i (turnsOf q) (gate ok) m) ∙ ap (turnsAfter sh i (turnsOf q)) (first-refused n) ∙ request-is sh m q
+
+    -- what it lets pass is done
+    first-done : gate ok ≡ 0 → (low : ℕ) → LowFor sh t a low → back t i (localAct sh low s a (worker t i)) ≡ first sh m q
+    unfolding gateOn
+    first-done z low f = go (isWhole q) refl z
+      where
+        go : (b : Bool) → isWhole q ≡ b → gateOf sh (length s) (length t) i (flagOf b sh s (length t) ok) ≡ 0
+            → back t i (localAct sh low s a (worker t i)) ≡ cond b (act sh m a) (narrowAct sh m a)
+        go true e z = act-is sh m (soundOf sh s (length t) ok) (W e) a low f z
+        go false e z = narrow-is sh m a ok (N e) low f z
+
+    done-whole : gate ok ≡ 0 → (low : ℕ) → LowFor sh t a low
+        → back t i (localTurns sh (turnsOf q) (localAct sh low s a (worker t i))) ≡ requested sh m q
+    done-whole z low f =
+        let p = passed (isWhole q) sh s i (length t) ok z in
+        turns-back sh t i (p .limits) (p .worker) (p .table) (turnsOf q) (localAct sh low s a (worker t i))
+        (omega (arith, p .laid .fits, act-length sh low s a (worker t i)))
+        ∙ ap (turnsAfter sh i (turnsOf q)) (first-done z low f) ∙ request-is sh m q
+
+  -- the look at the table tells what is asked of the records,
+  in-table : Lent sh s t → looksAtAll q ≡ true → survey sh q t .ok ≡ tableInRange sh t
+  in-table l = survey-ok-is sh q t (shape-tests sh (l .limits)) (le-ltb (length t) (sh .workers) (l .table))
+
+  tells-near : i < sh .workers → Tells (nearBy sh q (survey sh q t) (worker t i))
+  tells-near h l = go q (in-table l) h
     where
-      go : (b : Bool) → eqb (gate (actor a)) 0 ≡ b → back t (actor a) (cond b (localAct sh (survey sh t .low) s a (worker t (actor a)))
-          (refused s (worker t (actor a)) (gate (actor a)))) ≡ act sh (record { store = s; table = t }) a
-      go true e = act-is sh m sound W a (survey sh t .low) (low-for a (eqb-true _ 0 e)) (eqb-true _ 0 e)
-      go false e =
-          ap (λ (u : List Worker). record { memory = lent s u; response = Refused (gate (actor a)) }) (set-getD t (actor a) blank)
-          ∙ refused-is sh m sound W a (eqb-false _ 0 e)
+      go : (q : Request) → (looksAtAll q ≡ true → survey sh q t .ok ≡ tableInRange sh t) → actor (actionOf q) < sh .workers
+          → nearBy sh q (survey sh q t) (worker t (actor (actionOf q))) ≡ cond (isWhole q) (tableInRange sh t) (recordsInRange sh t (actionOf q))
+      go (Whole x) e h = e refl
+      go (Narrow (Enqueue j x) n) e h = e refl
+      go (Narrow (Dequeue j) n) e h = rw (lt-leb (sh .workers) j h)
+      go (Narrow (Step j) n) e h = rw (lt-leb (sh .workers) j h)
 
-  -- past the records that were looked at there is no worker, or the gate refuses anyway
-  pub away-is : (a : Action) → ltb (actor a) (survey sh t .records) ≡ false
-      → leaves s t (answerOf (Refused (gateOn sh s (actor a) (length t) (survey sh t .ok)))) ≡ told (act sh (lent s t) a)
-  unfolding gateOn
-  away-is a beyond = ap told (refused-is sh m sound W a (λ z.
-      let p = usable sh m sound W (actor a) z in
-      let all : surveyed sh (length t) ≡ sh .workers = rw (shape-tests sh (p .lent .limits), le-ltb (length t) (sh .workers) (p .lent .table)) in
-      omega (arith, ltb-false (actor a) (survey sh t .records) beyond, survey-records sh t (surveyed sh (length t)) (surveyed sh (length t)), all, p .exists)))
+  tells-away : sh .workers ≤ i → Tells (survey sh q t .ok)
+  tells-away h l = go q (in-table l) (survey-none sh q t) h
+    where
+      go : (q : Request) → (looksAtAll q ≡ true → survey sh q t .ok ≡ tableInRange sh t) → (looksAtAll q ≡ false → survey sh q t .ok ≡ true)
+          → sh .workers ≤ actor (actionOf q) → survey sh q t .ok ≡ cond (isWhole q) (tableInRange sh t) (recordsInRange sh t (actionOf q))
+      go (Whole x) e f h = e refl
+      go (Narrow (Enqueue j x) n) e f h = e refl
+      go (Narrow (Dequeue j) n) e f h = rw (le-leb (sh .workers) j h) (f refl)
+      go (Narrow (Step j) n) e f h = rw (le-leb (sh .workers) j h) (f refl)
+
+  -- and the least ticket
+  low-for : Lent sh s t → LowFor sh t a (survey sh q t .low)
+  low-for l = go q (λ all. survey-low-is sh q t (shape-tests sh (l .limits)) (le-ltb (length t) (sh .workers) (l .table)) all)
+    where
+      go : (q : Request) → (looksAtAll q ≡ true → survey sh q t .low ≡ leastTicket t (sh .workers)) → LowFor sh t (actionOf q) (survey sh q t .low)
+      go (Whole (Enqueue j x)) e = e refl
+      go (Whole (Dequeue j)) e = tt
+      go (Whole (Step j)) e = tt
+      go (Narrow (Enqueue j x) n) e = e refl
+      go (Narrow (Dequeue j) n) e = tt
+      go (Narrow (Step j) n) e = tt
+
+  -- What is done on one record, where the worker has one, and put back is what was requested.
+  pub acted : i < surveyed sh (length t) → back t i (actOn sh q (length t) (survey sh q t) s (worker t i)) ≡ requested sh (lent s t) q
+  unfolding actOn
+  acted h = go (eqb (gate near) 0) refl
+    where
+      near : Bool
+      near = nearBy sh q (survey sh q t) (worker t i)
+
+      exists : i < sh .workers
+      exists = surveyed-worker sh (length t) i h
+
+      go : (b : Bool) → eqb (gate near) 0 ≡ b
+          → back t i (cond b (localTurns sh (turnsOf q) (localAct sh (survey sh q t .low) s a (worker t i))) (refused s (worker t i) (gate near))) ≡ requested sh m q
+      go true e =
+          let z = eqb-true _ 0 e in
+          let p = passed (isWhole q) sh s i (length t) near z in
+          done-whole near (tells-near exists) z (survey sh q t .low) (low-for (record { limits = p .limits; store = p .laid .fits; table = p .table }))
+      go false e =
+          ap (λ (u : List Worker). record { memory = lent s u; response = Refused (gate near) }) (set-getD t i blank)
+          ∙ refused-whole near (tells-near exists) (eqb-false _ 0 e)
+
+  -- Past the workers' records there is no worker, or the gate refuses anyway.
+  pub away-is : ltb i (surveyed sh (length t)) ≡ false
+      → leaves s t (answerOf (Refused (gateOn (isWhole q) sh s i (length t) (survey sh q t .ok)))) ≡ told (requested sh (lent s t) q)
+  away-is beyond = ap told (refused-whole (survey sh q t .ok) tells (λ z.
+      let p = passed (isWhole q) sh s i (length t) (survey sh q t .ok) z in
+      omega (arith, p .worker, past (record { limits = p .limits; store = p .laid .fits; table = p .table }))))
+    where
+      past : Lent sh s t → sh .workers ≤ i
+      past l =
+          let all : surveyed sh (length t) ≡ sh .workers = rw (shape-tests sh (l .limits), le-ltb (length t) (sh .workers) (l .table)) in
+          omega (arith, ltb-false i (surveyed sh (length t)) beyond, all)
+
+      tells : Tells (survey sh q t .ok)
+      tells l = tells-away (past l) l
 
 -- ── opening ──
 -- how many records it clears, by the number k that refuses it, or 0

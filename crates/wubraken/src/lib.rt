@@ -6,26 +6,36 @@ ghost use Rattle.arrival.specs.declared.Action.the-variants.{Enqueue, Dequeue, 
 ghost use Rattle.calendar.specs.rules.Layout.{layout};
 ghost use Rattle.calendar.specs.rules.Ranges.{shapeInRange};
 ghost use Rattle.calendar.specs.rules.Operations.{act, open-pool};
+ghost use Rattle.calendar.specs.rules.NarrowCalls.{narrowCall};
+ghost use Rattle.calendar.specs.rules.HostHistory.{requested};
 ghost use Rattle.wubraken.specs.Results.{lent, leaves, told};
 use admission::ranges::shape_in_range;
 use answers::Answer;
 use answers::answer_of;
-use arrival::Action;
 use arrival::Arrival;
+use arrival::Request;
 use arrival::Shape;
 use arrival::Worker;
 use operation::open_lent;
 use records::act_on_record;
-use records::index_of;
 use records::open_answer;
 use records::records_opened;
 use records::turn_away;
+use requests::index_of;
+use requests::narrow_dequeue;
+use requests::narrow_enqueue;
+use requests::narrow_step;
+use requests::whole_dequeue;
+use requests::whole_enqueue;
+use requests::whole_step;
 use table::clear_table;
+use table::records_surveyed;
 use table::survey_table;
 use words::layout_words;
 
 pub mod answers;
 pub mod records;
+pub mod requests;
 pub mod table;
 
 // How many words to lend for a shape; 0 where it is outside its limits.
@@ -51,20 +61,21 @@ pub extern "C" fn wubraken_open(shape: Shape, store: &mut [u64], table: &mut [Wo
     open_answer(k)
 }
 
-// A start or turn: its worker's record is copied out, worked on by value, and stored back.
-pub fn act_lent(shape: Shape, action: Action, store: &mut [u64], table: &mut [Worker]) -> Answer
-    ensures { λ r. ⌜ leaves (now (store .exit)) (now (table .exit)) r ≡ told (act shape (lent (now (store .entry)) (now (table .entry))) action) ⌝ }
+// What a host requests: its worker's record is copied out, worked on by value, and stored back.
+pub fn act_lent(shape: Shape, request: Request, store: &mut [u64], table: &mut [Worker]) -> Answer
+    ensures { λ r. ⌜ leaves (now (store .exit)) (now (table .exit)) r ≡ told (requested shape (lent (now (store .entry)) (now (table .entry))) request) ⌝ }
 {
     let n = table.len();
-    let seen = survey_table(shape, table);
-    let i = index_of(action);
-    if i < seen.records {
+    let records = records_surveyed(shape, n);
+    let seen = survey_table(shape, request, table);
+    let i = index_of(request);
+    if i < records {
         let w = table[i];
-        let r = act_on_record(shape, action, n, seen, w, store);
+        let r = act_on_record(shape, request, n, seen, w, store);
         table[i] = r.worker;
         return answer_of(r.response);
     } else {
-        return turn_away(shape, i, n, seen, store);
+        return turn_away(shape, request, n, seen, store);
     }
 }
 
@@ -80,7 +91,7 @@ pub extern "C" fn wubraken_enqueue(
     ensures { λ r. ⌜ leaves (now (store .exit)) (now (table .exit)) r ≡ told (act shape (lent (now (store .entry)) (now (table .entry)))
         (Enqueue i arrival)) ⌝ }
 {
-    act_lent(shape, Action::Enqueue(i as u64, arrival), store, table)
+    act_lent(shape, whole_enqueue(i, arrival), store, table)
 }
 
 // A take start of worker i.
@@ -93,7 +104,7 @@ pub extern "C" fn wubraken_dequeue(
 ) -> Answer
     ensures { λ r. ⌜ leaves (now (store .exit)) (now (table .exit)) r ≡ told (act shape (lent (now (store .entry)) (now (table .entry))) (Dequeue i)) ⌝ }
 {
-    act_lent(shape, Action::Dequeue(i as u64), store, table)
+    act_lent(shape, whole_dequeue(i), store, table)
 }
 
 // A turn of worker i.
@@ -106,5 +117,49 @@ pub extern "C" fn wubraken_step(
 ) -> Answer
     ensures { λ r. ⌜ leaves (now (store .exit)) (now (table .exit)) r ≡ told (act shape (lent (now (store .entry)) (now (table .entry))) (Step i)) ⌝ }
 {
-    act_lent(shape, Action::Step(i as u64), store, table)
+    act_lent(shape, whole_step(i), store, table)
+}
+
+// The three that look only at what they need, each with at most so many turns of worker i behind it.
+#[no_mangle]
+pub extern "C" fn wubraken_narrow_enqueue(
+    shape: Shape,
+    i: usize,
+    arrival: Arrival,
+    turns: u64,
+    store: &mut [u64],
+    table: &mut [Worker],
+) -> Answer
+    ensures { λ r. ⌜ leaves (now (store .exit)) (now (table .exit)) r ≡ told (narrowCall shape (lent (now (store .entry)) (now (table .entry)))
+        (Enqueue i arrival) turns) ⌝ }
+{
+    act_lent(shape, narrow_enqueue(i, arrival, turns), store, table)
+}
+
+#[no_mangle]
+pub extern "C" fn wubraken_narrow_dequeue(
+    shape: Shape,
+    i: usize,
+    turns: u64,
+    store: &mut [u64],
+    table: &mut [Worker],
+) -> Answer
+    ensures { λ r. ⌜ leaves (now (store .exit)) (now (table .exit)) r ≡ told (narrowCall shape (lent (now (store .entry)) (now (table .entry)))
+        (Dequeue i) turns) ⌝ }
+{
+    act_lent(shape, narrow_dequeue(i, turns), store, table)
+}
+
+#[no_mangle]
+pub extern "C" fn wubraken_narrow_step(
+    shape: Shape,
+    i: usize,
+    turns: u64,
+    store: &mut [u64],
+    table: &mut [Worker],
+) -> Answer
+    ensures { λ r. ⌜ leaves (now (store .exit)) (now (table .exit)) r ≡ told (narrowCall shape (lent (now (store .entry)) (now (table .entry)))
+        (Step i) turns) ⌝ }
+{
+    act_lent(shape, narrow_step(i, turns), store, table)
 }

@@ -1,4 +1,4 @@
-// An operation on one record: refusals 1 to 4, by a look at every field, then `operation::perform`; and what an opening clears and answers.
+// A request on one record: refusals 1 to 4, by a look at every field or a narrow one, then `operation::perform_turns`; and what an opening clears and answers.
 ghost use mathlib.Core.Path.{_≡_};
 ghost use Rattle.arrival.specs.declared.Response.the-variants.{Refused};
 ghost use Rattle.wubraken.specs.Answers.{answerOf};
@@ -6,64 +6,103 @@ ghost use Rattle.wubraken.specs.Survey.{Surveyed};
 ghost use Rattle.wubraken.specs.LentGate.{gateOn};
 ghost use Rattle.words.specs.Done.{gives};
 ghost use Rattle.calendar.specs.rules.Operations.{actor as actorOf};
-ghost use Rattle.wubraken.specs.Results.{actOn, recordsOpened};
+ghost use Rattle.calendar.specs.rules.HostHistory.{actionOf};
+ghost use Rattle.calendar.specs.rules.Ranges.{shapeInRange};
+ghost use Rattle.wubraken.specs.Requests.{isWhole};
+ghost use Rattle.wubraken.specs.Results.{nearBy, actOn, recordsOpened};
+ghost use mathlib.Core.Bool.{true};
 ghost use Rattle.admission.specs.Gate.{openResponse};
 use super::answers::Answer;
 use super::answers::answer_of;
+use super::requests::action_of;
+use super::requests::index_of;
+use super::requests::is_whole;
+use super::requests::looks_at_all;
+use super::requests::turns_of;
 use super::table::Survey;
 use admission::gate;
+use admission::is_near;
 use admission::is_sound;
-use arrival::Action;
+use admission::ranges::record_in_range;
+use arrival::Request;
 use arrival::Response;
 use arrival::Shape;
 use arrival::Worker;
-use operation::actor;
-use operation::perform;
+use operation::perform_turns;
 use words::replies::Reply;
 use words::replies::refuse;
 
-// Refusals 1 to 4, or 0, of n records.
-fn gate_on(shape: Shape, i: usize, n: usize, seen: Survey, store: &[u64]) -> u64
-    ensures { λ r. ⌜ r ≡ gateOn shape (now (store .entry)) i n (seen .ok) ⌝ }
+// Refusals 1 to 4, or 0, of n records; ok: those looked at are in range.
+fn gate_on(shape: Shape, whole: bool, i: usize, n: usize, ok: bool, store: &[u64]) -> u64
+    ensures { λ r. ⌜ r ≡ gateOn whole shape (now (store .entry)) i n ok ⌝ }
 {
-    let ok = seen.ok;
-    let sound = is_sound(shape, n, ok, store);
-    gate(shape, store.len(), n, i as u64, sound)
+    let words = store.len();
+    let sound = if whole {
+        is_sound(shape, n, ok, store)
+    } else {
+        is_near(shape, n, ok, store)
+    };
+    gate(shape, words, n, i as u64, sound)
 }
 
-// The answer where worker i's record was not looked at.
-pub fn turn_away(shape: Shape, i: usize, n: usize, seen: Survey, store: &mut [u64]) -> Answer
-    ensures { λ r. ⌜ (r ≡ answerOf (Refused (gateOn shape (now (store .entry)) i n (seen .ok)))) × (now (store .exit) ≡ now (store .entry)) ⌝ }
+// The answer where worker i has no record.
+pub fn turn_away(
+    shape: Shape,
+    request: Request,
+    n: usize,
+    seen: Survey,
+    store: &mut [u64],
+) -> Answer
+    ensures { λ r. ⌜ (r ≡ answerOf (Refused (gateOn (isWhole request) shape (now (store .entry)) (actorOf (actionOf request)) n (seen .ok))))
+        × (now (store .exit) ≡ now (store .entry)) ⌝ }
 {
-    let k = gate_on(shape, i, n, seen, store);
+    let k = gate_on(
+        shape,
+        is_whole(request),
+        index_of(request),
+        n,
+        seen.ok,
+        store,
+    );
     answer_of(Response::Refused(k))
 }
 
-// The worker of an action, as an index.
-pub fn index_of(action: Action) -> usize
-    ensures { λ r. ⌜ r ≡ actorOf action ⌝ }
+// Whether the records that the request looks at are in range; w: its worker's.
+fn are_near(shape: Shape, request: Request, seen: Survey, w: Worker) -> bool
+    requires { ⌜ shapeInRange shape ≡ true ⌝ }
+    ensures { λ r. ⌜ r ≡ nearBy shape request seen w ⌝ }
 {
-    actor(action) as usize
+    if looks_at_all(request) {
+        return seen.ok;
+    }
+    record_in_range(shape, w)
 }
 
-// An action on its worker's record w.
+// A request on its worker's record w.
 pub fn act_on_record(
     shape: Shape,
-    action: Action,
+    request: Request,
     n: usize,
     seen: Survey,
     w: Worker,
     store: &mut [u64],
 ) -> Reply
-    requires { ⌜ Surveyed shape (actorOf action) seen w ⌝ }
-    ensures { λ r. ⌜ gives (now (store .exit)) r ≡ actOn shape action n seen (now (store .entry)) w ⌝ }
+    requires { ⌜ Surveyed shape request seen w ⌝ }
+    ensures { λ r. ⌜ gives (now (store .exit)) r ≡ actOn shape request n seen (now (store .entry)) w ⌝ }
 {
-    let i = index_of(action);
-    let k = gate_on(shape, i, n, seen, store);
+    let near = are_near(shape, request, seen, w);
+    let k = gate_on(shape, is_whole(request), index_of(request), n, near, store);
     if k != 0 {
         return refuse(w, k);
     }
-    perform(shape, seen.low, action, w, store)
+    perform_turns(
+        shape,
+        seen.low,
+        action_of(request),
+        turns_of(request),
+        w,
+        store,
+    )
 }
 
 // How many records an opening clears; k: the number that refuses it, or 0.

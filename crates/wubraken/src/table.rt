@@ -5,20 +5,21 @@ ghost use mathlib.Core.List.{_++_};
 ghost use Prim.Native.Nat.{_≤_};
 ghost use lib.ListN.{length, drop, replicate};
 ghost use Rattle.calendar.specs.rules.Ranges.{shapeInRange, blank};
-ghost use Rattle.wubraken.specs.Survey.{seen, surveyed, survey};
+ghost use Rattle.wubraken.specs.Survey.{seen, surveyed, lookedAt, survey};
+use super::requests::looks_at_all;
 use admission::ranges::record_in_range;
 use admission::ranges::shape_in_range;
 use arrival::IDLE_WORKER;
+use arrival::Request;
 use arrival::Shape;
 use arrival::Worker;
 use starts::free::lower_ticket;
 use words::word;
 
-// What a look over records finds: whether all are in range, and the least ticket in progress; and how many they are.
+// What a look over records finds: whether all are in range, and the least ticket in progress.
 pub struct Survey {
     pub ok: bool,
     pub low: u64,
-    pub records: usize,
 }
 
 // One record more.
@@ -29,11 +30,10 @@ pub fn look(shape: Shape, found: Survey, w: Worker) -> Survey
     Survey {
         ok: found.ok & record_in_range(shape, w),
         low: lower_ticket(found.low, w),
-        records: found.records,
     }
 }
 
-// How many of n records are looked at.
+// How many of n records are the workers'.
 pub fn records_surveyed(shape: Shape, n: usize) -> usize
     ensures { λ r. ⌜ r ≡ surveyed shape n ⌝ }
 {
@@ -46,15 +46,24 @@ pub fn records_surveyed(shape: Shape, n: usize) -> usize
     shape.workers as usize
 }
 
-// The look over the workers' records.
-pub fn survey_table(shape: Shape, table: &[Worker]) -> Survey
-    ensures { λ r. ⌜ r ≡ survey shape (now (table .entry)) ⌝ }
+// How many of them the request looks at: all, or none.
+pub fn records_looked_at(shape: Shape, request: Request, n: usize) -> usize
+    ensures { λ r. ⌜ r ≡ lookedAt shape request n ⌝ }
 {
-    let n = records_surveyed(shape, table.len());
+    if !looks_at_all(request) {
+        return 0;
+    }
+    records_surveyed(shape, n)
+}
+
+// The look over the workers' records.
+pub fn survey_table(shape: Shape, request: Request, table: &[Worker]) -> Survey
+    ensures { λ r. ⌜ r ≡ survey shape request (now (table .entry)) ⌝ }
+{
+    let n = records_looked_at(shape, request, table.len());
     let mut found = Survey {
         ok: true,
         low: word::COUNTS,
-        records: n,
     };
     let mut k: usize = 0;
     while k < n {
