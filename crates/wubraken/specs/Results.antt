@@ -4,6 +4,7 @@
 --     ActsAs                         the claim of a function that does what is requested
 --     nearBy                         whether the records that a request looks at are in range
 --     actOn, refused-on, done-on     refused by 1 to 4, or done; by what the gate said
+--     admits                         what the gate lets pass may be worked on
 --     acted                          what is done on one record and put back is what was requested
 --     away-is                        so is the refusal of a worker past the workers' records
 --     recordsOpened                  how many records an opening clears, by the number that refuses it
@@ -34,9 +35,10 @@ use Rattle.calendar.specs.rules.Operations.{Memory, Result, actor, act, open-po
 use Rattle.calendar.specs.rules.NarrowCalls.{recordsInRange, narrowAct, turnsAfter, narrowCall}
 use Rattle.calendar.specs.rules.HostHistory.{requested, actionOf}
 use Rattle.calendar.specs.facts.Accepted.{Lent}
+use Rattle.calendar.specs.facts.RangeFacts.{record-ranges}
 use Rattle.words.specs.Done.{Done, gives, refused, unlessRefused}
 use Rattle.words.specs.declared.replies.Reply.{Reply}
-use Rattle.operation.specs.LocalAct.{localAct, LowFor, back, act-is, narrow-is}
+use Rattle.operation.specs.LocalAct.{localAct, Admitted, LowFor, back, act-is, narrow-is}
 use Rattle.operation.specs.LocalTurns.{localTurns, act-length, turns-back}
 use Rattle.starts.specs.LeastTicket.{leastTicket}
 use Rattle.admission.specs.Watched.{Watched}
@@ -45,7 +47,7 @@ use Rattle.admission.specs.NarrowGate.{RecordsSeen, narrow-away}
 use Rattle.wubraken.specs.declared.table.Survey.{Survey}
 use Rattle.wubraken.specs.declared.answers.Answer.{Answer}
 use Rattle.wubraken.specs.Answers.{answerOf, saidBy, answer-said}
-use Rattle.wubraken.specs.Survey.{surveyed, surveyed-worker, survey, survey-none, survey-ok-is, survey-low-is}
+use Rattle.wubraken.specs.Survey.{Surveyed, surveyed, surveyed-worker, survey, survey-none, survey-ok-is, survey-low-is}
 use Rattle.wubraken.specs.Requests.{turnsOf, isWhole, looksAtAll}
 use Rattle.wubraken.specs.LentGate.{flagOf, gateOn, passed}
 
@@ -97,6 +99,17 @@ module _ (sh : Shape) (q : Request) (n : ℕ) (seen : Survey) (s : List ℕ) (w 
   pub done-on : k ≡ 0 → localTurns sh (turnsOf q) (localAct sh (seen .low) s (actionOf q) w) ≡ actOn sh q n seen s w
   unfolding actOn
   done-on z = rw (← is, eq-eqb k 0 z)
+
+-- what no refusal of the gate's leaves: the record may be worked on
+pub admits : (sh : Shape) (q : Request) (n : ℕ) (seen : Survey) (s : List ℕ) (w : Worker) → Surveyed sh q seen w
+    → gateOn (isWhole q) sh s (actor (actionOf q)) n (nearBy sh q seen w) ≡ 0 → Admitted sh s w
+admits sh q n seen s w S z =
+    let p = passed (isWhole q) sh s (actor (actionOf q)) n (nearBy sh q seen w) z in
+    record { limits = p .limits; laid = p .laid; words = p .words; worker = record-ranges sh w (go (looksAtAll q) refl (p .records)) }
+  where
+    go : (b : Bool) → looksAtAll q ≡ b → cond b (seen .ok) (recordInRange sh w) ≡ true → recordInRange sh w ≡ true
+    go true e ok = S .ranged e ok
+    go false e ok = ok
 
 -- the first start or turn of a request
 abbrev first : Shape → Memory → Request → Result

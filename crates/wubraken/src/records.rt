@@ -36,13 +36,12 @@ use words::replies::refuse;
 fn gate_on(shape: Shape, whole: bool, i: usize, n: usize, ok: bool, store: &[u64]) -> u64
     ensures { λ r. ⌜ r ≡ gateOn whole shape (now (store .entry)) i n ok ⌝ }
 {
-    let words = store.len();
-    let sound = if whole {
-        is_sound(shape, n, ok, store)
-    } else {
-        is_near(shape, n, ok, store)
-    };
-    gate(shape, words, n, i as u64, sound)
+    if whole {
+        let sound = is_sound(shape, n, ok, store);
+        return gate(shape, store.len(), n, i as u64, sound);
+    }
+    let near = is_near(shape, n, ok, store);
+    gate(shape, store.len(), n, i as u64, near)
 }
 
 // The answer where worker i has no record.

@@ -6,6 +6,12 @@ use borrow.Author.Needs.{needs}
 use Rattle.wubraken.proofs.records.turn_away.Statement.{statement}
 use Rattle.wubraken.proofs.records.turn_away.Tie as tie
 
+is-whole-requires : tie.Need-is-whole-requires
+is-whole-requires c κs = search needs
+
+index-of-requires : tie.Need-index-of-requires
+index-of-requires c κs = search needs
+
 gate-on-requires : tie.Need-gate-on-requires
 gate-on-requires c κs = search needs
 
@@ -16,7 +22,11 @@ same-length : tie.Need-same-length
 same-length c = search needs
 
 returns : tie.Need-returns
-returns c = (c .answer-of .ensures ∙ ap (λ k. answerOf (Refused k)) (c .before .gate-on .ensures), refl)
+returns c = (
+  c .answer-of .ensures
+      ∙ ap (λ k. answerOf (Refused k)) (c .before .gate-on .ensures ∙ rw (c .before .before .before .before .is-whole .ensures, c .before .before .before .index-of .ensures)),
+  refl,
+)
 
 pub turn-away-spec : {M : Type 1} → statement M
-turn-away-spec = tie.close (tie.spec gate-on-requires answer-of-requires same-length returns)
+turn-away-spec = tie.close (tie.spec is-whole-requires index-of-requires gate-on-requires answer-of-requires same-length returns)

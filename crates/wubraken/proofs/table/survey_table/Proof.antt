@@ -6,7 +6,7 @@
 --     Look .. count-of             the contracts that the proof cites, and of what they ensure the clause alone
 --     s .. Had                     the table, how many records are looked at, what is to be had at exit, and what is had throughout
 --     exits                        what is had after the last turn is what is to be had
---     to-count .. made-typed       `records_surveyed` and `look` get what they ask; the types of the values
+--     to-count .. made-typed       `records_looked_at` and `look` get what they ask; the types of the values
 --     Upto .. Nearer-wf            the variant
 --     C .. Turned                  the invariant, and what a turn leaves
 --     turn-at .. next-fits         a turn, by whether there is a record left
@@ -54,6 +54,7 @@ use denote.Index.{place-is, elem-out, elem-back, looks-slice, shuts-slice}
 use denote.Signature.{plain}
 use denote.Steps.{only, owned, peeks, heard, nothing}
 use denote.Struct.Laws as LL
+use denote.Enum.Laws as EL
 use denote.Triple.Entry.{Vals, onEntry}
 use denote.Triple.Spec.{Meets, tripleOf}
 use denote.Triple.Statement.{Contract, Triple}
@@ -64,11 +65,14 @@ use denote.Triple.Walked.{says, Stays, stay-none-slice, stay-none, walkOf, Walks
 use denote.Exit.{yes}
 use Rattle.arrival.specs.declared.Shape.{Shape}
 use Rattle.arrival.specs.declared.Worker.{Worker}
+use Rattle.arrival.specs.declared.Request.{Request}
 use Rattle.calendar.specs.rules.Ranges.{blank, shapeInRange}
 use Rattle.wubraken.specs.declared.table.Survey.{Survey}
-use Rattle.wubraken.specs.Survey.{unseen, seen, surveyOf, surveyed, surveyed-bound, surveyed-shape, survey-start, survey-more}
+use Rattle.wubraken.specs.Survey.{unseen, seen, surveyOf, surveyed, surveyed-bound, surveyed-shape, lookedAt, looked-at-bound, survey-start, survey-more}
 use Rattle.arrival.proofs.Shape as Sh
 use Rattle.arrival.proofs.Shape.Laws as Sh′
+use Rattle.arrival.proofs.Request as Rq
+use Rattle.arrival.proofs.Request.Laws as Rq′
 use Rattle.arrival.proofs.Worker as T
 use Rattle.arrival.proofs.Worker.Laws as T′
 use Rattle.wubraken.proofs.table.Survey as S
@@ -78,10 +82,10 @@ use Rattle.wubraken.proofs.table.look as look-fn
 use Rattle.wubraken.proofs.table.look.Symbol as look-def
 use Rattle.wubraken.proofs.table.look.Symbol.{name as #look}
 use Rattle.wubraken.proofs.table.look.Met as look-thm
-use Rattle.wubraken.proofs.table.records_surveyed as count
-use Rattle.wubraken.proofs.table.records_surveyed.Symbol as count-def
-use Rattle.wubraken.proofs.table.records_surveyed.Symbol.{name as #count}
-use Rattle.wubraken.proofs.table.records_surveyed.Met as count-thm
+use Rattle.wubraken.proofs.table.records_looked_at as count
+use Rattle.wubraken.proofs.table.records_looked_at.Symbol as count-def
+use Rattle.wubraken.proofs.table.records_looked_at.Symbol.{name as #count}
+use Rattle.wubraken.proofs.table.records_looked_at.Met as count-thm
 use Rattle.wubraken.proofs.table.survey_table.Key.{name as #key}
 use Rattle.wubraken.proofs.table.survey_table as f
 use Rattle.wubraken.proofs.table.survey_table.Statement as stated
@@ -89,7 +93,7 @@ use Rattle.wubraken.proofs.table.survey_table.Code as code
 use Rattle.wubraken.proofs.table.survey_table.Code.Mir as mir
 
 abbrev stayed : Stays (f.ended .signature .params) (f.ended .kept)
-stayed = (stay-none (λ _. Sh.the-row) yes, (stay-none-slice (0 ∷ []) tt (plain (λ _. T.the-row)) yes, tt))
+stayed = (stay-none (λ _. Sh.the-row) yes, (stay-none (λ _. Rq.the-row) yes, (stay-none-slice (0 ∷ []) tt (plain (λ _. T.the-row)) yes, tt)))
 
 abbrev vals : Worker → List Val
 vals = LL.vals T.the-type T′.the-laws
@@ -109,6 +113,12 @@ vals-sh = LL.vals Sh.the-type Sh′.the-laws
 abbrev val-sh : Shape → Val
 val-sh = LL.val Sh.the-type Sh′.the-laws
 
+abbrev vals-q : Request → List Val
+vals-q = EL.vals Rq.the-type Rq′.the-laws
+
+abbrev val-q : Request → Val
+val-q = EL.val Rq.the-type Rq′.the-laws
+
 -- the types of the locals, as the function itself spells them
 abbrev type-at : ℕ → List Local → Ty
 type-at i [] = tyBool
@@ -116,38 +126,41 @@ type-at zero (local τ h ∷ ls) = τ
 type-at (suc i) (l ∷ ls) = type-at i ls
 
 abbrev ty-s : Ty
-ty-s = type-at 4 mir.locals
+ty-s = type-at 5 mir.locals
 
 abbrev ty-w : Ty
-ty-w = type-at 6 mir.locals
+ty-w = type-at 7 mir.locals
 
 abbrev ty-sh : Ty
 ty-sh = type-at 1 mir.locals
 
 abbrev ty-t : Ty
-ty-t = type-at 2 mir.locals
+ty-t = type-at 3 mir.locals
+
+abbrev ty-q : Ty
+ty-q = type-at 2 mir.locals
 
 -- a survey, and that its fields fit
 abbrev Fits : Survey → Type 0
 Fits m = Is S.the-row m (vals-s m)
 
 -- the accumulator at the start: the machine value that MIR makes is that of `unseen`
-abbrev made : ℕ → Val
-made e = vstruct (ofList (vbool true ∷ vint w64 4294967296 ∷ vint w64 e ∷ []))
+abbrev made : Val
+made = vstruct (ofList (vbool true ∷ vint w64 4294967296 ∷ []))
 
-made-unseen : (e : ℕ) → made e ≡ val-s (unseen e)
+made-unseen : made ≡ val-s unseen
 unfolding unseen
-made-unseen e = refl
+made-unseen = refl
 
-unseen-is : (e : ℕ) → e < 2 ^ 64 → Fits (unseen e)
+unseen-is : Fits unseen
 unfolding unseen
-unseen-is e h = LL.owes S.the-type S′.the-laws (unseen e) (refl, ((refl, lit< tt), ((refl, h), tt)))
+unseen-is = LL.owes S.the-type S′.the-laws unseen (refl, ((refl, lit< tt), tt))
 
-begins : (sh : Shape) (ys : List Worker) (e : ℕ) → e < 2 ^ 64 → Fits (surveyOf sh ys e 0)
-begins sh ys e h = subst Fits (survey-start sh ys e) (unseen-is e h)
+begins : (sh : Shape) (ys : List Worker) → Fits (surveyOf sh ys 0)
+begins sh ys = subst Fits (survey-start sh ys) unseen-is
 
-made-start : (sh : Shape) (ys : List Worker) (e : ℕ) → made e ≡ val-s (surveyOf sh ys e 0)
-made-start sh ys e = made-unseen e ∙ ap val-s (survey-start sh ys e)
+made-start : (sh : Shape) (ys : List Worker) → made ≡ val-s (surveyOf sh ys 0)
+made-start sh ys = made-unseen ∙ ap val-s (survey-start sh ys)
 
 module _ {M : Type 1} (𝓤 : URA M) (H : Heap 𝓤) (A : Atoms 𝓤) (mem : Memory → SProp 𝓤) (run : Routine → Fun 𝓤) where
   -- the contracts that the proof cites, and of what they ensure the clause alone
@@ -161,29 +174,31 @@ module _ {M : Type 1} (𝓤 : URA M) (H : Heap 𝓤) (A : Atoms 𝓤) (mem : Mem
       → ent 𝓤 (ensured 𝓤 H A look-fn.ended (look-fn.clauses 𝓤 H A mem run) tt (sh, (m, (w, tt))) tt r) (fact 𝓤 (r ≡ seen sh m w))
   look-of sh m w r = exE 𝓤 _ (λ ws. snd∗ 𝓤 (sem 𝓤 H A (lasts look-fn.ended tt (sh, (m, (w, tt))) ws)) (fact 𝓤 (r ≡ seen sh m w)))
 
-  count-of : (sh : Shape) (n r : ℕ) → ent 𝓤 (ensured 𝓤 H A count.ended (count.clauses 𝓤 H A mem run) tt (sh, (n, tt)) tt r) (fact 𝓤 (r ≡ surveyed sh n))
-  count-of sh n r = exE 𝓤 _ (λ ws. snd∗ 𝓤 (sem 𝓤 H A (lasts count.ended tt (sh, (n, tt)) ws)) (fact 𝓤 (r ≡ surveyed sh n)))
+  count-of : (sh : Shape) (q : Request) (n r : ℕ)
+      → ent 𝓤 (ensured 𝓤 H A count.ended (count.clauses 𝓤 H A mem run) tt (sh, (q, (n, tt))) tt r) (fact 𝓤 (r ≡ lookedAt sh q n))
+  count-of sh q n r = exE 𝓤 _ (λ ws. snd∗ 𝓤 (sem 𝓤 H A (lasts count.ended tt (sh, (q, (n, tt))) ws)) (fact 𝓤 (r ≡ lookedAt sh q n)))
 
 module _ {M : Type 1} (𝓤 : URA M) (H : Heap 𝓤) (A : Atoms 𝓤) (W : Given 𝓤 H A) (mem : Memory → SProp 𝓤) (run : Routine → Fun 𝓤) (κ : Lft) (q : Share)
-    (sh : Shape) (b o : ℕ) (γ : GName) (ys : List Worker) (sh-is : Is Sh.the-row sh (vals-sh sh)) (room : Room T.the-row (length ys)) where
+    (sh : Shape) (rq : Request) (b o : ℕ) (γ : GName) (ys : List Worker) (sh-is : Is Sh.the-row sh (vals-sh sh)) (rq-is : Is Rq.the-row rq (vals-q rq))
+    (room : Room T.the-row (length ys)) where
   abbrev s : RefT (List Worker)
   s = record { ptr = (b, o); name = γ; now = ys }
 
-  abbrev x : Shape × (RefT (List Worker) × Unit {0})
-  x = (sh, (s, tt))
+  abbrev x : Shape × (Request × (RefT (List Worker) × Unit {0}))
+  x = (sh, (rq, (s, tt)))
 
   abbrev sv : Val
   sv = sliceVal (b, o) (length ys)
 
   abbrev at : Vals f.signature (κ, tt)
-  at = (vals-sh sh, (sv ∷ [], tt))
+  at = (vals-sh sh, (vals-q rq, (sv ∷ [], tt)))
 
   -- how many records are looked at
   abbrev n : ℕ
-  n = surveyed sh (length ys)
+  n = lookedAt sh rq (length ys)
 
   within : n ≤ length ys
-  within = surveyed-bound sh (length ys)
+  within = omega (arith, looked-at-bound sh rq (length ys), surveyed-bound sh (length ys))
 
   abbrev Post : Val → SProp 𝓤
   Post = walkOf 𝓤 H A f.ended stayed (f.clauses 𝓤 H A mem run) .post (((κ, tt), (q, tt), tt, x, at), tt)
@@ -194,23 +209,25 @@ module _ {M : Type 1} (𝓤 : URA M) (H : Heap 𝓤) (A : Atoms 𝓤) (W : Given
       ‵ (flft κ q) ∷ ‵ (fshr-bor κ (λ r. arr-parts (shares T.the-row) (length ys) .part r ys b o))
       ∷ ‵ (fres γ (codedHoleys T.the-row .code (heres T.the-row ys))) ∷ ‵ (at-slice T.the-row s (sv ∷ [])) ∷ Γ
 
-  exits : (r : Survey) → r ≡ surveyOf sh ys n n → Fits r → ent 𝓤 (⋆ 𝓤 H A (Had [])) (Post (val-s r))
+  exits : (r : Survey) → r ≡ surveyOf sh ys n → Fits r → ent 𝓤 (⋆ 𝓤 H A (Had [])) (Post (val-s r))
   exits r e fits =
       qed W (Had []) ∵
-      suffices ! _ (ends-at 𝓤 H A f.ended stayed (f.clauses 𝓤 H A mem run) W (((κ, tt), (q, tt), tt, x, at), tt) (val-s r) r (tt, (tt, tt)) (tt, (tt, tt))) $
+      suffices ! _ (ends-at 𝓤 H A f.ended stayed (f.clauses 𝓤 H A mem run) W (((κ, tt), (q, tt), tt, x, at), tt) (val-s r) r (tt, (tt, (tt, tt))) (tt, (tt, (tt, tt)))) $
       says ! e $
       nothing ! $ move ! (1 ∷ 0 ∷ []) $ join ! $ frame ! $ move ! (1 ∷ 0 ∷ []) $ fjoin ! $ move ! (1 ∷ 0 ∷ []) $ fjoin ! $ nothing ! $ move ! (1 ∷ 0 ∷ []) $
       fjoin ! $
+      owned ! Rq.the-row (Is Rq.the-row) (EL.makes Rq.the-type Rq′.the-plain 𝓤 H A) rq _ rq-is $ fjoin ! $
       owned ! Sh.the-row (Is Sh.the-row) (LL.makes Sh.the-type Sh′.the-plain 𝓤 H A) sh _ sh-is $ fjoin ! $ frame ! $
       owned ! S.the-row (Is S.the-row) (LL.makes S.the-type S′.the-plain 𝓤 H A) r _ fits $ done !
 
   -- what the callees' triples bind outside, and that the walk has what they ask
   abbrev to-count : Count 𝓤 H A mem run .Ghost
-  to-count = ((tt, tt, tt, (sh, (length ys, tt)), (vals-sh sh, (vint w64 (length ys) ∷ [], tt))), tt)
+  to-count = ((tt, tt, tt, (sh, (rq, (length ys, tt))), (vals-sh sh, (vals-q rq, (vint w64 (length ys) ∷ [], tt)))), tt)
 
   goes-count : ent 𝓤 (emp 𝓤) (Count 𝓤 H A mem run .pre to-count)
   goes-count =
       qed W [] ∵ nothing ! $ owned ! usize (Is usize) (uint-makes 𝓤 H A W w64) (length ys) _ (refl, room .0) $ fjoin ! $
+      owned ! Rq.the-row (Is Rq.the-row) (EL.makes Rq.the-type Rq′.the-plain 𝓤 H A) rq _ rq-is $ fjoin ! $
       owned ! Sh.the-row (Is Sh.the-row) (LL.makes Sh.the-type Sh′.the-plain 𝓤 H A) sh _ sh-is $ fjoin ! $ nothing ! $ join ! $ frame ! $ done !
 
   abbrev to-look : Survey → Worker → Look 𝓤 H A mem run .Ghost
@@ -231,15 +248,18 @@ module _ {M : Type 1} (𝓤 : URA M) (H : Heap 𝓤) (A : Atoms 𝓤) (W : Given
   typed-sh : Holds (hasTy Sh′.mir (val-sh sh)) × WT (val-sh sh)
   typed-sh = LL.lawful Sh.the-type Sh′.the-laws 𝓤 H A W .typed sh _ sh-is .0
 
+  typed-q : Holds (hasTy Rq′.mir (val-q rq)) × WT (val-q rq)
+  typed-q = EL.lawful Rq.the-type Rq′.the-laws 𝓤 H A W tt .typed rq _ rq-is .0
+
   n-fits : n < 2 ^ 64
   n-fits = omega (arith, within, room .0)
 
-  made-typed : Holds (hasTy S′.mir (made n)) × WT (made n)
-  made-typed = subst (λ (v : Val). Holds (hasTy S′.mir v) × WT v) (sym (made-unseen n)) (typed-s (unseen n) (val-s (unseen n)) (unseen-is n n-fits))
+  made-typed : Holds (hasTy S′.mir made) × WT made
+  made-typed = subst (λ (v : Val). Holds (hasTy S′.mir v) × WT v) (sym made-unseen) (typed-s unseen (val-s unseen) unseen-is)
 
   -- the variant
   abbrev Upto : Type 0
-  Upto = (k : ℕ) × ((k ≤ n) × Fits (surveyOf sh ys n k))
+  Upto = (k : ℕ) × ((k ≤ n) × Fits (surveyOf sh ys k))
 
   abbrev Nearer : Upto → Upto → Type 0
   Nearer j k = n - j .0 < n - k .0
@@ -247,7 +267,7 @@ module _ {M : Type 1} (𝓤 : URA M) (H : Heap 𝓤) (A : Atoms 𝓤) (W : Given
   Nearer-wf : WellFounded Nearer
   Nearer-wf = InvImage·wf (λ (k : Upto). n - k .0) (Nat·lt-wfRel .wf)
 
-  module _ (𝓣 : Tables 𝓤 H) (known : Triple 𝓤 (𝓣 .C #look) (Look 𝓤 H A mem run)) (l₀ l₁ l₂ l₃ l₄ l₅ l₆ l₇ l₈ l₉ l₁₀ l₁₁ : ℕ) where
+  module _ (𝓣 : Tables 𝓤 H) (known : Triple 𝓤 (𝓣 .C #look) (Look 𝓤 H A mem run)) (l₀ l₁ lq l₂ l₃ l₄ l₅ l₆ l₇ l₈ l₉ l₁₀ l₁₁ : ℕ) where
     abbrev C : Calls 𝓤 H
     C = 𝓣 .C
 
@@ -259,19 +279,19 @@ module _ {M : Type 1} (𝓤 : URA M) (H : Heap 𝓤) (A : Atoms 𝓤) (W : Given
 
     abbrev En : Env 𝓤 H
     En =
-        (ty-s, l₀) ∷ (ty-sh, l₁) ∷ (ty-t, l₂) ∷ (word, l₃) ∷ (ty-s, l₄) ∷ (word, l₅) ∷ (ty-w, l₆) ∷ (word, l₇) ∷ (tyBool, l₈) ∷ (word, l₉) ∷ (tyPtr, l₁₀)
+        (ty-s, l₀) ∷ (ty-sh, l₁) ∷ (ty-q, lq) ∷ (ty-t, l₂) ∷ (word, l₃) ∷ (ty-s, l₄) ∷ (word, l₅) ∷ (ty-w, l₆) ∷ (word, l₇) ∷ (tyBool, l₈) ∷ (word, l₉) ∷ (tyPtr, l₁₀)
         ∷ (ty-w, l₁₁) ∷ []
 
-    -- the invariant: what is had of the table; _11 to _8 and _6, which are room; the table's length; k, what was found, n, the table, the shape; and room for
+    -- the invariant: what is had of the table; _11 to _8 and _6, which are room; the table's length; k, what was found, n, the table, the request, the shape; and room for
     -- the result
     abbrev At : Upto → List (Item 𝓤)
     At k = Had (
         ‵ (froom ty-w l₁₁ 0) ∷ ‵ (fdies ty-w l₁₁) ∷ ‵ (froom tyPtr l₁₀ 0) ∷ ‵ (fdies tyPtr l₁₀) ∷ ‵ (froom word l₉ 0) ∷ ‵ (fdies word l₉)
         ∷ ‵ (froom tyBool l₈ 0) ∷ ‵ (fdies tyBool l₈)
         ∷ ‵ (fat fullShare word l₇ 0 (vint w64 (length ys))) ∷ ‵ (fdies word l₇) ∷ ‵ (froom ty-w l₆ 0) ∷ ‵ (fdies ty-w l₆)
-        ∷ ‵ (fat fullShare word l₅ 0 (vint w64 (k .0))) ∷ ‵ (fdies word l₅) ∷ ‵ (fat fullShare ty-s l₄ 0 (val-s (surveyOf sh ys n (k .0)))) ∷ ‵ (fdies ty-s l₄)
+        ∷ ‵ (fat fullShare word l₅ 0 (vint w64 (k .0))) ∷ ‵ (fdies word l₅) ∷ ‵ (fat fullShare ty-s l₄ 0 (val-s (surveyOf sh ys (k .0)))) ∷ ‵ (fdies ty-s l₄)
         ∷ ‵ (fat fullShare word l₃ 0 (vint w64 n)) ∷ ‵ (fdies word l₃) ∷ ‵ (fat fullShare ty-t l₂ 0 sv) ∷ ‵ (fdies ty-t l₂)
-        ∷ ‵ (fat fullShare ty-sh l₁ 0 (val-sh sh)) ∷ ‵ (fdies ty-sh l₁) ∷ ‵ (froom ty-s l₀ 0) ∷ ‵ (fdies ty-s l₀) ∷ [])
+        ∷ ‵ (fat fullShare ty-q lq 0 (val-q rq)) ∷ ‵ (fdies ty-q lq) ∷ ‵ (fat fullShare ty-sh l₁ 0 (val-sh sh)) ∷ ‵ (fdies ty-sh l₁) ∷ ‵ (froom ty-s l₀ 0) ∷ ‵ (fdies ty-s l₀) ∷ [])
 
     abbrev Turned : Upto → Out → SProp 𝓤
     Turned k = afterTurn 𝓤 H (Below 𝓤 H A Nearer At k) (afterBlock 𝓤 H (afterSeq 𝓤 H (Wp 𝓤 H C Λ En mir.t-6 (atReturn 𝓤 H En Post)) (atReturn 𝓤 H En Post)))
@@ -296,24 +316,24 @@ module _ {M : Type 1} (𝓤 : URA M) (H : Heap 𝓤) (A : Atoms 𝓤) (W : Given
         assigns ! (of-opd ! (load ! (from ! (stop !)) (look ! 7 refl))) (from ! (stop !)) (init ! 17 refl (typed elem g)) $
         elem-back ! T.the-row q′ ys (k .0) blank (vals elem) b o inside $ shuts-slice ! tt T.the-row q′ ys b o $
         -- `look`
-        use0 W (raw (Look 𝓤 H A mem run .pre (to-look (surveyOf sh ys n (k .0)) elem))) (goes-look (surveyOf sh ys n (k .0)) elem
-        (surveyed-shape sh (length ys) (k .0) less) (k .1 .1) g) $
-        calls-at ! (fmOf 𝓤 H (W .laws) 𝓣) (Look 𝓤 H A mem run) known (to-look (surveyOf sh ys n (k .0)) elem)
-        (and-then ! (load ! (from ! (stop !)) (look ! 25 refl))
+        use0 W (raw (Look 𝓤 H A mem run .pre (to-look (surveyOf sh ys (k .0)) elem))) (goes-look (surveyOf sh ys (k .0)) elem
+        (surveyed-shape sh (length ys) (k .0) (omega (arith, less, looked-at-bound sh rq (length ys)))) (k .1 .1) g) $
+        calls-at ! (fmOf 𝓤 H (W .laws) 𝓣) (Look 𝓤 H A mem run) known (to-look (surveyOf sh ys (k .0)) elem)
+        (and-then ! (load ! (from ! (stop !)) (look ! 27 refl))
         (and-then ! (load ! (from ! (stop !)) (look ! 19 refl)) (and-then ! (load ! (from ! (stop !)) (look ! 15 refl)) (no-more !)))) (λ v.
         use1 W (later (some (λ (r : Survey). (‵ ftrue ⊛ ‵ (S.the-row .own r (v ∷ []))) ⊛ raw (ensured 𝓤 H A look-fn.ended (look-fn.clauses 𝓤 H A mem run) tt
-        (sh, (surveyOf sh ys n (k .0), (elem, tt))) tt r)))) (id⊢ 𝓤 _) $ await ! tt $ pick ! (λ r.
-        split ! $ move ! (1 ∷ []) $ use1 W (raw (fact 𝓤 (r ≡ seen sh (surveyOf sh ys n (k .0)) elem)))
-        (look-of 𝓤 H A mem run sh (surveyOf sh ys n (k .0)) elem r) $ heard ! (r ≡ seen sh (surveyOf sh ys n (k .0)) elem) (λ e′. split ! $ drop ! $
+        (sh, (surveyOf sh ys (k .0), (elem, tt))) tt r)))) (id⊢ 𝓤 _) $ await ! tt $ pick ! (λ r.
+        split ! $ move ! (1 ∷ []) $ use1 W (raw (fact 𝓤 (r ≡ seen sh (surveyOf sh ys (k .0)) elem)))
+        (look-of 𝓤 H A mem run sh (surveyOf sh ys (k .0)) elem r) $ heard ! (r ≡ seen sh (surveyOf sh ys (k .0)) elem) (λ e′. split ! $ drop ! $
         peeks ! S.the-row (Is S.the-row) (shows 𝓤 H A S.the-row) r (v ∷ []) (λ is. land ! (from ! (stop !)) (store ! 19 refl (typed-s r v is)) $
         rewrite ! 19 (λ (u : Val). ‵ (fat fullShare ty-s l₄ 0 u)) (ap only (LL.tells S.the-type S′.the-laws r (v ∷ []) is)
-        ∙ ap val-s (e′ ∙ survey-more sh ys n (k .0))) refl $
+        ∙ ap val-s (e′ ∙ survey-more sh ys (k .0))) refl $
         assigns-last ! (bin ! (load ! (from ! (stop !)) (look ! 17 refl)) (lit ! tt) (record { fits = next-fits })) (from ! (stop !)) (store ! 17 refl
         (tt, record { fits = next-fits })) $
         drop ! $ forget ! 4 refl $ forget ! 6 refl $ forget ! 8 refl $ forget ! 10 refl $ forget ! 14 refl $
         again ! Nearer At k (
           k .0 + 1,
-          (add-one-le less, subst Fits (e′ ∙ survey-more sh ys n (k .0)) (subst (Is S.the-row r) (LL.tells S.the-type S′.the-laws r (v ∷ []) is) is)),
+          (add-one-le less, subst Fits (e′ ∙ survey-more sh ys (k .0)) (subst (Is S.the-row r) (LL.tells S.the-type S′.the-laws r (v ∷ []) is) is)),
         ) (add-one-dec n (k .0) less)))))))
       where
         elem : Worker
@@ -335,53 +355,54 @@ module _ {M : Type 1} (𝓤 : URA M) (H : Heap 𝓤) (A : Atoms 𝓤) (W : Given
         (init ! 10 refl (tt, tt)) $
         rewrite ! 10 (λ (t : Bool). ‵ (fat fullShare tyBool l₈ 0 (vbool t))) e refl $ leaves-loop ! (load ! (from ! (stop !)) (look ! 10 refl)) $
         exec ! C Λ En mir.t-6 (atRet En Post) $
-        assigns ! (of-opd ! (load ! (from ! (stop !)) (look ! 18 refl))) (from ! (stop !)) (init ! 26 refl (typed-s (surveyOf sh ys n (k .0))
-        (val-s (surveyOf sh ys n (k .0))) (k .1 .1))) $
-        returns ! (look ! 26 refl) $ forget ! 10 refl $ forget ! 12 refl $ forget ! 16 refl $ forget ! 18 refl $ forget ! 20 refl $ forget ! 22 refl $
-        forget ! 24 refl $ forget ! 26 refl $
-        move ! (26 ∷ 27 ∷ []) $ free1 ! $ move ! (24 ∷ 25 ∷ []) $ free1 ! $ move ! (22 ∷ 23 ∷ []) $ free1 ! $ move ! (20 ∷ 21 ∷ []) $ free1 ! $
+        assigns ! (of-opd ! (load ! (from ! (stop !)) (look ! 18 refl))) (from ! (stop !)) (init ! 28 refl (typed-s (surveyOf sh ys (k .0))
+        (val-s (surveyOf sh ys (k .0))) (k .1 .1))) $
+        returns ! (look ! 28 refl) $ forget ! 10 refl $ forget ! 12 refl $ forget ! 16 refl $ forget ! 18 refl $ forget ! 20 refl $ forget ! 22 refl $
+        forget ! 24 refl $ forget ! 26 refl $ forget ! 28 refl $
+        move ! (28 ∷ 29 ∷ []) $ free1 ! $ move ! (26 ∷ 27 ∷ []) $ free1 ! $ move ! (24 ∷ 25 ∷ []) $ free1 ! $ move ! (22 ∷ 23 ∷ []) $ free1 ! $ move ! (20 ∷ 21 ∷ []) $ free1 ! $
         move ! (18 ∷ 19 ∷ []) $ free1 ! $ move ! (16 ∷ 17 ∷ []) $ free1 ! $ move ! (14 ∷ 15 ∷ []) $ free1 ! $ move ! (12 ∷ 13 ∷ []) $ free1 ! $
         move ! (10 ∷ 11 ∷ []) $ free1 ! $ move ! (8 ∷ 9 ∷ []) $ free1 ! $ move ! (6 ∷ 7 ∷ []) $ free1 ! $ move ! (4 ∷ 5 ∷ []) $ free1 ! $ free0 ! $
-        by ! (exits (surveyOf sh ys n (k .0)) (ap (surveyOf sh ys n) (le-antisymm (k .1 .0) (ltb-false (k .0) n e))) (k .1 .1))
+        by ! (exits (surveyOf sh ys (k .0)) (ap (surveyOf sh ys) (le-antisymm (k .1 .0) (ltb-false (k .0) n e))) (k .1 .1))
 
   walk : (𝓣 : Tables 𝓤 H) → Triple 𝓤 (𝓣 .C #count) (Count 𝓤 H A mem run) → Triple 𝓤 (𝓣 .C #look) (Look 𝓤 H A mem run)
-      → ent 𝓤 (onEntry 𝓤 H A f.signature (κ, tt) (q, tt) x at) (WpFn 𝓤 H (𝓣 .C) (𝓣 .Λ) code.function (val-sh sh ∷ sv ∷ []) Post)
+      → ent 𝓤 (onEntry 𝓤 H A f.signature (κ, tt) (q, tt) x at) (WpFn 𝓤 H (𝓣 .C) (𝓣 .Λ) code.function (val-sh sh ∷ val-q rq ∷ sv ∷ []) Post)
   walk 𝓣 known-count known =
-      qed W ((‵ (flft κ q) ⊛ ‵ ftrue) ∷ ‵ (owns (Sh.the-row ∷ ShrSlice (named 0) κ T.the-row ∷ []) x at) ∷ []) ∵
-      enter ! (𝓣 .C) (𝓣 .Λ) code.function (val-sh sh ∷ sv ∷ []) _ $
-      alloc1 ! (λ l₀. alloc1 ! (λ l₁. alloc1 ! (λ l₂. alloc1 ! (λ l₃. alloc1 ! (λ l₄. alloc1 ! (λ l₅. alloc1 ! (λ l₆. alloc1 ! (λ l₇. alloc1 ! (λ l₈.
+      qed W ((‵ (flft κ q) ⊛ ‵ ftrue) ∷ ‵ (owns (Sh.the-row ∷ Rq.the-row ∷ ShrSlice (named 0) κ T.the-row ∷ []) x at) ∷ []) ∵
+      enter ! (𝓣 .C) (𝓣 .Λ) code.function (val-sh sh ∷ val-q rq ∷ sv ∷ []) _ $
+      alloc1 ! (λ l₀. alloc1 ! (λ l₁. alloc1 ! (λ lq. alloc1 ! (λ l₂. alloc1 ! (λ l₃. alloc1 ! (λ l₄. alloc1 ! (λ l₅. alloc1 ! (λ l₆. alloc1 ! (λ l₇. alloc1 ! (λ l₈.
       alloc1 ! (λ l₉. alloc1 ! (λ l₁₀. alloc1 ! (λ l₁₁. alloc0 ! $ params1 ! $
-      pass1 ! (init ! 20 refl typed-sh) $ pass1 ! (init ! 18 refl (tt, (tt, (record { fits = room .0 }, tt)))) $ pass0 ! $
+      pass1 ! (init ! 22 refl typed-sh) $ pass1 ! (init ! 20 refl typed-q) $ pass1 ! (init ! 18 refl (tt, (tt, (record { fits = room .0 }, tt)))) $ pass0 ! $
       assigns ! (of-opd ! (load ! (from ! (fld ! refl (stop !))) (look-in ! 18 (sub ! 1 refl (whole !))))) (from ! (stop !))
       (init ! 8 refl (tt, record { fits = room .0 })) $
       -- how many records are looked at
       use0 W (raw (Count 𝓤 H A mem run .pre to-count)) goes-count $
       calls-at ! (fmOf 𝓤 H (W .laws) 𝓣) (Count 𝓤 H A mem run) known-count to-count
-      (and-then ! (load ! (from ! (stop !)) (look ! 21 refl)) (and-then ! (load ! (from ! (stop !)) (look ! 9 refl)) (no-more !))) (λ v₀.
+      (and-then ! (load ! (from ! (stop !)) (look ! 23 refl)) (and-then ! (load ! (from ! (stop !)) (look ! 21 refl))
+      (and-then ! (load ! (from ! (stop !)) (look ! 9 refl)) (no-more !)))) (λ v₀.
       use1 W (later (some (λ (r : ℕ). (‵ ftrue ⊛ ‵ (usize .own r (v₀ ∷ [])))
-      ⊛ raw (ensured 𝓤 H A count.ended (count.clauses 𝓤 H A mem run) tt (sh, (length ys, tt)) tt r)))) (id⊢ 𝓤 _) $ await ! tt $ pick ! (λ m.
-      split ! $ move ! (1 ∷ []) $ use1 W (raw (fact 𝓤 (m ≡ n))) (count-of 𝓤 H A mem run sh (length ys) m) $ heard ! (m ≡ n) (λ e₀. split ! $ drop ! $
+      ⊛ raw (ensured 𝓤 H A count.ended (count.clauses 𝓤 H A mem run) tt (sh, (rq, (length ys, tt))) tt r)))) (id⊢ 𝓤 _) $ await ! tt $ pick ! (λ m.
+      split ! $ move ! (1 ∷ []) $ use1 W (raw (fact 𝓤 (m ≡ n))) (count-of 𝓤 H A mem run sh rq (length ys) m) $ heard ! (m ≡ n) (λ e₀. split ! $ drop ! $
       peeks ! usize (Is usize) (shows 𝓤 H A usize) m (v₀ ∷ []) (λ is₀. land ! (from ! (stop !)) (init ! 17 refl (uint-lawful 𝓤 H A W w64 .typed m _ is₀ .0)) $
       rewrite ! 17 (λ (u : Val). ‵ (fat fullShare (tyInt w64) l₃ 0 u)) (ap only (is₀ .0) ∙ ap (vint w64) e₀) refl $ drop ! $
       assigns ! (agg ! (and-then ! (true-lit !)
-      (and-then ! (big-lit ! (record { fits = lit< tt })) (and-then ! (load ! (from ! (stop !)) (look ! 16 refl)) (no-more !))))) (from ! (stop !))
-      (init ! 14 refl made-typed) $ rewrite ! 14 (λ (v : Val). ‵ (fat fullShare ty-s l₄ 0 v)) (made-start sh ys n) refl $
+      (and-then ! (big-lit ! (record { fits = lit< tt })) (no-more !)))) (from ! (stop !))
+      (init ! 14 refl made-typed) $ rewrite ! 14 (λ (v : Val). ‵ (fat fullShare ty-s l₄ 0 v)) (made-start sh ys) refl $
       assigns ! (of-opd ! (lit ! tt)) (from ! (stop !)) (init ! 12 refl (tt, record { fits = lit< tt })) $
-      move ! (25 ∷ []) $ fsplit ! $ drop ! $ fsplit ! $ fsplit ! $ move ! (1 ∷ []) $ fsplit ! $ move ! (28 ∷ []) $ split ! $
-      keep ! (0 ∷ 3 ∷ 2 ∷ 4 ∷ 6 ∷ 7 ∷ 8 ∷ 9 ∷ 10 ∷ 11 ∷ 12 ∷ 13 ∷ 14 ∷ 15 ∷ 16 ∷ 17 ∷ 18 ∷ 19 ∷ 20 ∷ 21 ∷ 22 ∷ 23 ∷ 24 ∷ 25 ∷ 26 ∷ 27 ∷ 28 ∷ 29 ∷ []) $
-      first ! $ blocks ! $ loops ! 𝓣 Nearer Nearer-wf (At 𝓣 known l₀ l₁ l₂ l₃ l₄ l₅ l₆ l₇ l₈ l₉ l₁₀ l₁₁) (λ k.
-      turn-at 𝓣 known l₀ l₁ l₂ l₃ l₄ l₅ l₆ l₇ l₈ l₉ l₁₀ l₁₁ k (ltb (k .0) n) refl)
-      (0, (zero-le, begins sh ys n n-fits))))))))))))))))))
+      move ! (27 ∷ []) $ fsplit ! $ drop ! $ fsplit ! $ drop ! $ fsplit ! $ fsplit ! $ move ! (1 ∷ []) $ fsplit ! $ move ! (30 ∷ []) $ split ! $
+      keep ! (0 ∷ 3 ∷ 2 ∷ 4 ∷ 6 ∷ 7 ∷ 8 ∷ 9 ∷ 10 ∷ 11 ∷ 12 ∷ 13 ∷ 14 ∷ 15 ∷ 16 ∷ 17 ∷ 18 ∷ 19 ∷ 20 ∷ 21 ∷ 22 ∷ 23 ∷ 24 ∷ 25 ∷ 26 ∷ 27 ∷ 28 ∷ 29 ∷ 30 ∷ 31 ∷ []) $
+      first ! $ blocks ! $ loops ! 𝓣 Nearer Nearer-wf (At 𝓣 known l₀ l₁ lq l₂ l₃ l₄ l₅ l₆ l₇ l₈ l₉ l₁₀ l₁₁) (λ k.
+      turn-at 𝓣 known l₀ l₁ lq l₂ l₃ l₄ l₅ l₆ l₇ l₈ l₉ l₁₀ l₁₁ k (ltb (k .0) n) refl)
+      (0, (zero-le, begins sh ys)))))))))))))))))))
 
 module _ {M : Type 1} (𝓤 : URA M) (H : Heap 𝓤) (A : Atoms 𝓤) (W : Given 𝓤 H A) (mem : Memory → SProp 𝓤) (run : Routine → Fun 𝓤) where
   walks : (𝓣 : Tables 𝓤 H) → Triple 𝓤 (𝓣 .C #count) (Count 𝓤 H A mem run) → Triple 𝓤 (𝓣 .C #look) (Look 𝓤 H A mem run)
       → Walks 𝓤 H A f.ended stayed (WpFn 𝓤 H (𝓣 .C) (𝓣 .Λ) code.function) (f.clauses 𝓤 H A mem run)
   walks 𝓣 known-count known =
-      walked 𝓤 H A f.ended stayed (f.clauses 𝓤 H A mem run) (WpFn 𝓤 H (𝓣 .C) (𝓣 .Λ) code.function) (λ κs. (vals-sh, (slice-vals, tt)))
-      (λ κs. (LL.tells Sh.the-type Sh′.the-laws, (shr-slice-tells (named 0) (κs .0) T.the-row, tt)))
+      walked 𝓤 H A f.ended stayed (f.clauses 𝓤 H A mem run) (WpFn 𝓤 H (𝓣 .C) (𝓣 .Λ) code.function) (λ κs. (vals-sh, (vals-q, (slice-vals, tt))))
+      (λ κs. (LL.tells Sh.the-type Sh′.the-laws, (EL.tells Rq.the-type Rq′.the-laws, (shr-slice-tells (named 0) (κs .0) T.the-row, tt))))
       (λ κs qs bounds a g are. via 𝓤 _ (fst∗ 𝓤 _ (emp 𝓤))
-      (walk 𝓤 H A W mem run (κs .0) (qs .0) (a .0) (a .1 .0 .ptr .0) (a .1 .0 .ptr .1) (a .1 .0 .name) (a .1 .0 .now) (are .0)
-      (are .1 .0 .0 .1) 𝓣 known-count known))
+      (walk 𝓤 H A W mem run (κs .0) (qs .0) (a .0) (a .1 .0) (a .1 .1 .0 .ptr .0) (a .1 .1 .0 .ptr .1) (a .1 .1 .0 .name) (a .1 .1 .0 .now) (are .0) (are .1 .0)
+      (are .1 .1 .0 .0 .1) 𝓣 known-count known))
 
 meets : {M : Type 1} (𝓤 : URA M) (H : Heap 𝓤) (A : Atoms 𝓤) → Given 𝓤 H A → (mem : Memory → SProp 𝓤) (run : Routine → Fun 𝓤) (𝓣 : Tables 𝓤 H)
     → Triple 𝓤 (𝓣 .C #count) (Count 𝓤 H A mem run) → Triple 𝓤 (𝓣 .C #look) (Look 𝓤 H A mem run)
@@ -389,7 +410,7 @@ meets : {M : Type 1} (𝓤 : URA M) (H : Heap 𝓤) (A : Atoms 𝓤) → Given �
 meets 𝓤 H A W mem run 𝓣 known-count known =
     walk-meets 𝓤 H A f.ended stayed W (
       goes-none 𝓤 H A W 1 (λ _. Sh.the-row) yes (λ κs x f. refl),
-      (goes-none-slice 𝓤 H A W 1 (0 ∷ []) tt (plain (λ _. T.the-row)) yes, tt),
+      (goes-none 𝓤 H A W 1 (λ _. Rq.the-row) yes (λ κs x f. refl), (goes-none-slice 𝓤 H A W 1 (0 ∷ []) tt (plain (λ _. T.the-row)) yes, tt)),
     ) (f.clauses 𝓤 H A mem run)
     (WpFn 𝓤 H (𝓣 .C) (𝓣 .Λ) code.function) (WpFn-mono 𝓤 H (W .laws) 𝓣 code.function) (walks 𝓤 H A W mem run 𝓣 known-count known)
 
@@ -399,5 +420,5 @@ survey-table-spec 𝓤 H 𝓜 𝓖 𝓡 =
     entered 𝓤 H (tripleOf 𝓤 H (𝓖 .A) f.signature (f.spec 𝓤 H (𝓖 .A) (𝓜 .mem) (𝓡 .run)))
     (tables 𝓤 H 𝓜 𝓡 code.env .C) (tables 𝓤 H 𝓜 𝓡 code.env .Λ) #key code.function (code.unfolded 𝓤 H 𝓜 𝓡)
     (meets 𝓤 H (𝓖 .A) (givenOf 𝓤 H 𝓜 𝓖) (𝓜 .mem) (𝓡 .run) (tablesOf 𝓤 H 𝓜 (tables 𝓤 H 𝓜 𝓡 code.env))
-    (cited 𝓤 H (Count 𝓤 H (𝓖 .A) (𝓜 .mem) (𝓡 .run)) 𝓜 𝓡 code.env #count count-def.routine code.calls-wubraken·table·records-surveyed (count-thm.met 𝓤 H 𝓜 𝓖 𝓡))
+    (cited 𝓤 H (Count 𝓤 H (𝓖 .A) (𝓜 .mem) (𝓡 .run)) 𝓜 𝓡 code.env #count count-def.routine code.calls-wubraken·table·records-looked-at (count-thm.met 𝓤 H 𝓜 𝓖 𝓡))
     (cited 𝓤 H (Look 𝓤 H (𝓖 .A) (𝓜 .mem) (𝓡 .run)) 𝓜 𝓡 code.env #look look-def.routine code.calls-wubraken·table·look (look-thm.met 𝓤 H 𝓜 𝓖 𝓡)))
