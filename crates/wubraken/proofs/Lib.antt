@@ -3,3 +3,4 @@ pub mod Shared
 pub mod ByValue
 pub mod Forms
 pub mod Passing
+pub mod Asked

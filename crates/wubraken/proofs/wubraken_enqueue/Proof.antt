@@ -1,10 +1,18 @@
--- `wubraken_enqueue` meets its contract: it hands on to `act_lent`. Assumes nothing.
+-- `wubraken_enqueue` meets its contract: it hands its request on to `act_lent`. Assumes nothing.
 use mathlib.Core.Path.{refl}
 use contract.Running.{givenOf, tables, tablesOf}
 use denote.Triple.Spec.{tripleOf}
 use denote.Triple.Table.{entered, cited}
+use Rattle.arrival.specs.declared.Action.the-variants.{Enqueue}
+use Rattle.arrival.specs.declared.Request.the-variants.{Whole}
 use Rattle.wubraken.specs.Results.{ActsAs}
-use Rattle.wubraken.proofs.Passing.{with-arrival-meets}
+use Rattle.wubraken.proofs.Forms.{arrival, number}
+use Rattle.wubraken.proofs.Passing.{two-meets}
+use Rattle.wubraken.proofs.Asked.{enqueue-is, whole-is}
+use Rattle.wubraken.proofs.requests.whole_enqueue as make
+use Rattle.wubraken.proofs.requests.whole_enqueue.Symbol as make-def
+use Rattle.wubraken.proofs.requests.whole_enqueue.Symbol.{name as #make}
+use Rattle.wubraken.proofs.requests.whole_enqueue.Met as make-thm
 use Rattle.wubraken.proofs.act_lent as callee
 use Rattle.wubraken.proofs.act_lent.Symbol as callee-def
 use Rattle.wubraken.proofs.act_lent.Symbol.{name as #callee}
@@ -19,6 +27,8 @@ unfolding code.routine tablesOf
 wubraken-enqueue-spec 𝓤 H 𝓜 𝓖 𝓡 =
     entered 𝓤 H (tripleOf 𝓤 H (𝓖 .A) f.signature (f.spec 𝓤 H (𝓖 .A) (𝓜 .mem) (𝓡 .run)))
     (tables 𝓤 H 𝓜 𝓡 code.env .C) (tables 𝓤 H 𝓜 𝓡 code.env .Λ) #key code.function (code.unfolded 𝓤 H 𝓜 𝓡)
-    (with-arrival-meets 𝓤 H (𝓖 .A) (givenOf 𝓤 H 𝓜 𝓖) ActsAs (tablesOf 𝓤 H 𝓜 (tables 𝓤 H 𝓜 𝓡 code.env)) #callee
+    (two-meets 𝓤 H (𝓖 .A) (givenOf 𝓤 H 𝓜 𝓖) ActsAs (tablesOf 𝓤 H 𝓜 (tables 𝓤 H 𝓜 𝓡 code.env)) #make #callee
     (cited 𝓤 H (tripleOf 𝓤 H (𝓖 .A) callee.signature (callee.spec 𝓤 H (𝓖 .A) (𝓜 .mem) (𝓡 .run))) 𝓜 𝓡 code.env #callee callee-def.routine
-    code.calls-wubraken·act-lent (callee-thm.met 𝓤 H 𝓜 𝓖 𝓡)) (f.spec 𝓤 H (𝓖 .A) (𝓜 .mem) (𝓡 .run)) refl)
+    code.calls-wubraken·act-lent (callee-thm.met 𝓤 H 𝓜 𝓖 𝓡)) number arrival (λ i x. Whole (Enqueue i x))
+    (cited 𝓤 H (tripleOf 𝓤 H (𝓖 .A) make.signature (make.spec 𝓤 H (𝓖 .A) (𝓜 .mem) (𝓡 .run))) 𝓜 𝓡 code.env #make make-def.routine
+    code.calls-wubraken·requests·whole-enqueue (make-thm.met 𝓤 H 𝓜 𝓖 𝓡)) (λ i h x x-is. whole-is (Enqueue i x) (enqueue-is i x (h .1) x-is)) (f.spec 𝓤 H (𝓖 .A) (𝓜 .mem) (𝓡 .run)) refl)
