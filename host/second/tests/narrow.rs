@@ -5,7 +5,7 @@
 mod common;
 
 use common::*;
-use schedule::lent::{fields, often_small, small_shape, Field};
+use schedule::lent::{fields, often_small, Field};
 use schedule::script::shape;
 use schedule::{script, Generator, Options, Random};
 use second::layout::{field, CURRENT, LAST_ALLOCATED, STARTED};
@@ -86,7 +86,7 @@ fn runs_in_histories() {
         let mut memory = Memory::zeros(LENT_WORDS, LENT_RECORDS);
         for _ in 0..2_000 {
             let record = generator.propose();
-            let turns = random.below(12).into();
+            let turns = u64::from(random.length(5)) - 1;
             let expected = follow(&mut generator, record, turns);
             assert_eq!(apply(&mut memory, record, turns), expected);
             assert_same(&memory, &generator);
@@ -175,6 +175,22 @@ fn a_limit_used_up_is_an_answer() {
     assert_eq!(lent.narrow(1, Call::Turn, 4), EMPTY);
 }
 
+/// Whole calls in the smallest and the largest shape, at the last time.
+#[test]
+fn calls_run_to_their_end_at_the_limits() {
+    for shape in [shape(1, 1, 1, 1), shape(64, 4_096, 256, 65_535)] {
+        let mut lent = Lent::open(shape);
+        let worker = shape.workers as usize - 1;
+        let last = shape.time_limit() - 1;
+        for round in 0..3 {
+            let put = Call::Put(arrival(last));
+            assert_eq!(lent.narrow(worker, put, u64::MAX), stored(3 * round + 1));
+            assert_eq!(lent.narrow(worker, Call::Take, u64::MAX), took(last.into()));
+            assert_eq!(lent.narrow(worker, Call::Take, u64::MAX), EMPTY);
+        }
+    }
+}
+
 /// A run in a list that leads back to itself ends with its limit.
 #[test]
 fn a_run_round_a_cycle() {
@@ -218,19 +234,6 @@ fn is_looked_at_in_range(memory: &mut Memory, worker: usize, call: Call) -> bool
         !stage_12_of_one_bucket && memory.range(field).contains(*memory.at(field))
     };
     looked_at.iter().all(in_range)
-}
-
-/// The memory with garbage behind.
-fn lend(memory: &Memory) -> Lent {
-    let mut lent = Lent::garbage(memory.shape);
-    lent.store[..memory.store.len()].copy_from_slice(&memory.store);
-    lent.workers[..memory.workers.len()].copy_from_slice(&memory.workers);
-    lent
-}
-
-fn any_in_range(random: &mut Random) -> Memory {
-    let shape = small_shape(random);
-    Memory::in_range(random, shape)
 }
 
 /// In range but for some heads and nodes.
@@ -441,7 +444,8 @@ fn damage_that_no_rule_reads_is_not_noticed() {
     for round in 0..30_000 {
         let sane = any_in_range(&mut random);
         let worker = random.below(sane.shape.workers) as usize;
-        let call = random.choose(&all_calls(random.clone().below(10)));
+        let time = random.below(10);
+        let call = random.choose(&all_calls(time));
         let mut expected = sane.clone();
         let answer = narrow(&mut expected, worker, call, 0);
 

@@ -6,9 +6,10 @@ pub mod program;
 
 use std::ops::{Deref, DerefMut};
 
+use schedule::lent::small_shape;
 pub use schedule::lent::{Memory, GARBAGE, GARBAGE_RECORD};
 pub use schedule::script::arrival;
-use schedule::{to_the_end, Script};
+use schedule::{to_the_end, Random, Script};
 use second::layout::{field, CURRENT};
 use second::{push_line, stage, word, Answer, Arrival, Record, Refusal, Response, Shape, Worker};
 
@@ -264,6 +265,20 @@ pub fn narrow(memory: &mut Memory, worker: usize, call: Call, turns: u64) -> Ans
         Call::Take => second::narrow_dequeue_start(memory.shape, store, workers, worker, turns),
         Call::Turn => second::narrow_step(memory.shape, store, workers, worker, turns),
     }
+}
+
+/// The memory with garbage behind.
+pub fn lend(memory: &Memory) -> Lent {
+    let mut lent = Lent::garbage(memory.shape);
+    lent.store[..memory.store.len()].copy_from_slice(&memory.store);
+    lent.workers[..memory.workers.len()].copy_from_slice(&memory.workers);
+    lent
+}
+
+/// Memory of a small shape, every field somewhere in its range.
+pub fn any_in_range(random: &mut Random) -> Memory {
+    let shape = small_shape(random);
+    Memory::in_range(random, shape)
 }
 
 /// A record at a stage, of a kind that fits it.
