@@ -3,6 +3,8 @@
 use crate::shape::Arrival;
 
 const ENTRIES: usize = Arrival::MAX_DISTANCE as usize;
+/// Its square is 2^24: farther away nothing is left.
+const FARTHEST: u64 = 4_096;
 
 /// Entry i is for distance i + 1.
 static ENERGY: [u32; ENTRIES] = energies();
@@ -11,18 +13,25 @@ const fn energies() -> [u32; ENTRIES] {
     let mut table = [0; ENTRIES];
     let mut i = 0;
     while i < ENTRIES {
-        let distance = i as u32 + 1;
-        table[i] = (1 << 24) / (distance * distance);
+        table[i] = spread(i as u32 + 1);
         i += 1;
     }
     table
 }
 
-/// The energy at a distance within its limits; 0 at any other.
+/// 2^24 / distance², rounded down, for a distance from 1 to the farthest.
+const fn spread(distance: u32) -> u32 {
+    (1 << 24) / (distance * distance)
+}
+
+/// The energy at any distance; 0 at 0. Only a narrow call meets distances that
+/// the table does not have.
 pub fn energy(distance: u64) -> u32 {
     const MOST: u64 = ENTRIES as u64;
     match distance {
+        0 => 0,
         1..=MOST => ENERGY[distance as usize - 1],
+        _ if distance <= FARTHEST => spread(distance as u32),
         _ => 0,
     }
 }

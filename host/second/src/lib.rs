@@ -3,7 +3,9 @@
 //!
 //! The four entry points are [`open`], [`enqueue_start`], [`dequeue_start`] and
 //! [`step`]. Each checks everything it is handed; a refused call leaves all lent
-//! memory as it was. [`run`] is the streaming turn-file program.
+//! memory as it was. [`narrow_enqueue_start`], [`narrow_dequeue_start`] and
+//! [`narrow_step`] do the same, but check only what they need, and can go on with
+//! the call. [`run`] is the streaming turn-file program.
 //!
 //! Names of the document and their names here: put is enqueue, take is dequeue,
 //! turn is step, stamp is ticket, standing is the reclamation state, resting is
@@ -12,6 +14,7 @@
 
 mod energy;
 mod lines;
+mod narrow;
 mod pool;
 mod program;
 mod ranges;
@@ -28,6 +31,7 @@ pub mod word;
 
 pub use energy::energy;
 pub use lines::{push_line, Lines};
+pub use narrow::{narrow_dequeue_start, narrow_enqueue_start, narrow_step};
 pub use pool::{dequeue_start, enqueue_start, open, step};
 pub use program::{run, run_standard, Program, LENT_RECORDS, LENT_WORDS};
 pub use ranges::in_range;

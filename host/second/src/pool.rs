@@ -22,7 +22,7 @@ pub fn enqueue_start(
     worker: usize,
     arrival: Arrival,
 ) -> Answer {
-    Pool::validated(shape, store, workers)?.enqueue_start(worker, arrival)
+    Pool::validated(shape, store, workers, in_range)?.enqueue_start(worker, arrival)
 }
 
 /// Starts a take (refusals 1 to 4, 9 and 11).
@@ -32,12 +32,12 @@ pub fn dequeue_start(
     workers: &mut [Worker],
     worker: usize,
 ) -> Answer {
-    Pool::validated(shape, store, workers)?.dequeue_start(worker)
+    Pool::validated(shape, store, workers, in_range)?.dequeue_start(worker)
 }
 
 /// Gives a worker one turn (refusals 1 to 4, 10 and 11).
 pub fn step(shape: Shape, store: &mut [u64], workers: &mut [Worker], worker: usize) -> Answer {
-    Pool::validated(shape, store, workers)?.step(worker)
+    Pool::validated(shape, store, workers, in_range)?.step(worker)
 }
 
 /// Refusals 1 and 2, in this order: the needed length of a shape within its
@@ -52,8 +52,8 @@ fn check_lengths(shape: Shape, store: &[u64], workers: &[Worker]) -> Result<(), 
     Ok(())
 }
 
-/// Memory that fits its shape and is in range, cut to the shape's layout and
-/// workers. The rules are written on this.
+/// Memory that fits its shape, cut to the shape's layout and workers; what refusal 3
+/// looks at is in range. The rules are written on this.
 pub(crate) struct Pool<'a> {
     pub shape: Shape,
     pub store: Store<'a>,
@@ -61,14 +61,16 @@ pub(crate) struct Pool<'a> {
 }
 
 impl<'a> Pool<'a> {
-    /// For memory from anywhere: checks 1, 2 and 3.
-    fn validated(
+    /// For memory from anywhere: checks 1, 2 and 3. How much 3 looks at depends on
+    /// the call.
+    pub fn validated(
         shape: Shape,
         store: &'a mut [u64],
         workers: &'a mut [Worker],
+        is_in_range: impl FnOnce(Shape, &[u64], &[Worker]) -> bool,
     ) -> Result<Self, Refusal> {
         check_lengths(shape, store, workers)?;
-        if !in_range(shape, store, workers) {
+        if !is_in_range(shape, store, workers) {
             return Err(Refusal::FieldOutOfRange);
         }
         Ok(Self::trusted(shape, store, workers))

@@ -1,7 +1,8 @@
 //! The ranges of every field of store and table (refusal 3).
 //!
 //! Ranges only: lists are not walked, and fields are compared with one another
-//! only where the document ties them together.
+//! only where the document ties them together. In all three tests the shape is
+//! within its limits and both slices are long enough.
 
 use crate::layout::{field, CURRENT, HEADS, LAST_ALLOCATED, NODE_WORDS, STARTED};
 use crate::shape::{Arrival, Shape};
@@ -9,8 +10,7 @@ use crate::word::{current_bucket, is_marked, successor, MAX_COUNT};
 use crate::worker::{kind, stage, Worker};
 
 /// Whether every field of the layout's words and of the workers' records is in
-/// its range. Words and records beyond are not read. The shape is within its
-/// limits and both slices are long enough.
+/// its range. Words and records beyond are not read.
 pub fn in_range(shape: Shape, store: &[u64], workers: &[Worker]) -> bool {
     let bounds = Bounds::new(shape);
     let (fixed, rest) = store[..shape.store_words()].split_at(HEADS);
@@ -21,6 +21,30 @@ pub fn in_range(shape: Shape, store: &[u64], workers: &[Worker]) -> bool {
         && heads.iter().all(|&word| bounds.head(word))
         && nodes.chunks_exact(NODE_WORDS).all(|node| bounds.node(node))
         && records.iter().all(|record| bounds.worker(record))
+}
+
+/// What a narrow turn and the narrow start of a take look at: the first words, and
+/// the worker's record. Where the shape has no such worker there is no record.
+pub(crate) fn worker_in_range(
+    shape: Shape,
+    store: &[u64],
+    workers: &[Worker],
+    worker: usize,
+) -> bool {
+    let bounds = Bounds::new(shape);
+    let records = &workers[..shape.workers as usize];
+    let record = records.get(worker);
+
+    bounds.fixed(store) && record.map_or(true, |record| bounds.worker(record))
+}
+
+/// What the narrow start of a put looks at: the first words, and every worker's
+/// record, as calls in progress decide which nodes are free.
+pub(crate) fn workers_in_range(shape: Shape, store: &[u64], workers: &[Worker]) -> bool {
+    let bounds = Bounds::new(shape);
+    let records = &workers[..shape.workers as usize];
+
+    bounds.fixed(store) && records.iter().all(|record| bounds.worker(record))
 }
 
 /// The shape's bounds, as words.
@@ -37,6 +61,7 @@ impl Bounds {
         }
     }
 
+    /// The words before the heads.
     fn fixed(&self, words: &[u64]) -> bool {
         self.current(words[CURRENT])
             && words[STARTED] <= MAX_COUNT

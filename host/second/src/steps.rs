@@ -3,6 +3,9 @@
 //! The bucket is always the one in the worker's record, the epoch always the one
 //! of the current word seen. Record fields that a step does not name keep their
 //! values.
+//!
+//! The record is in range and so are the first words of the store. Of heads and nodes
+//! nothing is assumed: a step goes to no place that it has only just read.
 
 use crate::energy::energy;
 use crate::layout::field;

@@ -43,8 +43,9 @@ impl Reclamation {
     }
 }
 
-/// Exactly the words of a shape's layout. The shape is within its limits and the
-/// words are in range, so that every place asked for exists.
+/// Exactly the words of a shape's layout. The shape is within its limits, and the
+/// places asked for come from a record and the first words, which are in range: so
+/// every one of them exists, whatever heads and nodes hold.
 pub(crate) struct Store<'a> {
     words: &'a mut [u64],
     buckets: usize,

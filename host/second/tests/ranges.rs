@@ -3,7 +3,7 @@
 mod common;
 
 use common::*;
-use schedule::lent::{fields, often_small, small_shape};
+use schedule::lent::{fields, often_small};
 use schedule::script::shape;
 use schedule::Random;
 use second::layout::{field, CURRENT, LAST_ALLOCATED, STARTED};
@@ -284,19 +284,6 @@ fn the_one_leak() {
     assert_eq!(lent.turn(0), refused(3));
     assert_eq!(lent.take(0), refused(3));
     assert_eq!(lent.put(0, 5), refused(3));
-}
-
-/// The memory with garbage behind.
-fn lend(memory: &Memory) -> Lent {
-    let mut lent = Lent::garbage(memory.shape);
-    lent.store[..memory.store.len()].copy_from_slice(&memory.store);
-    lent.workers[..memory.workers.len()].copy_from_slice(&memory.workers);
-    lent
-}
-
-fn any_in_range(random: &mut Random) -> Memory {
-    let shape = small_shape(random);
-    Memory::in_range(random, shape)
 }
 
 /// No call on memory in range panics, is refused by 3, or leaves the ranges but

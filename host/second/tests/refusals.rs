@@ -9,13 +9,19 @@ use second::layout::{field, CURRENT, LAST_ALLOCATED, STARTED};
 use second::word::{self, MAX_COUNT};
 use second::{Answer, Arrival, Response, Shape};
 
-/// The answers of the four entry points on copies of the same memory.
+/// The answers of the four entry points on copies of the same memory, which are
+/// also those of the narrow calls.
 fn all_entries(lent: &Lent) -> [Answer; 4] {
+    let both = |call| {
+        let answer = lent.clone().whole(0, call);
+        assert_eq!(lent.clone().narrow(0, call, 0), answer);
+        answer
+    };
     [
         lent.clone().reopen(),
-        lent.clone().put(0, 0),
-        lent.clone().take(0),
-        lent.clone().turn(0),
+        both(Call::Put(arrival(0))),
+        both(Call::Take),
+        both(Call::Turn),
     ]
 }
 
@@ -284,6 +290,21 @@ fn the_lowest_number_wins() {
     lowest_wins(&[1, 2, 3, 4, 9, 11], 0, |lent, worker, _| lent.take(worker));
     lowest_wins(&[1, 2, 3, 4, 10, 11], 7, |lent, worker, _| {
         lent.turn(worker)
+    });
+}
+
+#[test]
+fn the_lowest_number_wins_in_narrow_calls() {
+    lowest_wins(
+        &[1, 2, 3, 4, 5, 6, 9, 11, 12],
+        0,
+        |lent, worker, arrival| lent.narrow(worker, Call::Put(arrival), 0),
+    );
+    lowest_wins(&[1, 2, 3, 4, 9, 11], 0, |lent, worker, _| {
+        lent.narrow(worker, Call::Take, 0)
+    });
+    lowest_wins(&[1, 2, 3, 4, 10, 11], 7, |lent, worker, _| {
+        lent.narrow(worker, Call::Turn, 0)
     });
 }
 

@@ -6,9 +6,10 @@ pub mod program;
 
 use std::ops::{Deref, DerefMut};
 
+use schedule::lent::small_shape;
 pub use schedule::lent::{Memory, GARBAGE, GARBAGE_RECORD};
 pub use schedule::script::arrival;
-use schedule::{to_the_end, Script};
+use schedule::{to_the_end, Random, Script};
 use second::layout::{field, CURRENT};
 use second::{push_line, stage, word, Answer, Arrival, Record, Refusal, Response, Shape, Worker};
 
@@ -58,6 +59,14 @@ pub fn refused(number: u8) -> Answer {
     Err(refusal)
 }
 
+/// A start or a turn.
+#[derive(Clone, Copy, Debug)]
+pub enum Call {
+    Put(Arrival),
+    Take,
+    Turn,
+}
+
 /// Memory with something spare behind it.
 #[derive(Clone, Debug, PartialEq)]
 pub struct Lent(Memory);
@@ -73,6 +82,13 @@ impl Deref for Lent {
 impl DerefMut for Lent {
     fn deref_mut(&mut self) -> &mut Memory {
         &mut self.0
+    }
+}
+
+/// Any memory, also one that is too short.
+impl From<Memory> for Lent {
+    fn from(memory: Memory) -> Self {
+        Self(memory)
     }
 }
 
@@ -132,6 +148,32 @@ impl Lent {
 
     pub fn turn(&mut self, worker: usize) -> Answer {
         self.checked(|memory| memory.turn(worker))
+    }
+
+    /// The call that looks at all lent memory.
+    pub fn whole(&mut self, worker: usize, call: Call) -> Answer {
+        match call {
+            Call::Put(arrival) => self.put_arrival(worker, arrival),
+            Call::Take => self.take(worker),
+            Call::Turn => self.turn(worker),
+        }
+    }
+
+    /// The narrow call. No other worker's record may change; a refusal changes
+    /// nothing, unless there were turns before it.
+    pub fn narrow(&mut self, worker: usize, call: Call, turns: u64) -> Answer {
+        let before = self.clone();
+        let answer = narrow(self, worker, call, turns);
+        if turns == 0 && answer.is_err() {
+            assert_eq!(*self, before, "a refusal changed lent memory");
+        }
+        self.keeps_beyond(&before);
+        let mut others = before;
+        if let Some(record) = others.workers.get_mut(worker) {
+            *record = self.workers[worker];
+        }
+        assert_eq!(self.workers, others.workers);
+        answer
     }
 
     /// That many turns, all answered `on`.
@@ -198,14 +240,45 @@ impl Lent {
         let answer = call(self);
         if answer.is_err() {
             assert_eq!(*self, before, "a refusal changed lent memory");
-        } else {
-            let words = self.shape.store_words();
-            let records = self.shape.workers as usize;
-            assert_eq!(self.store[words..], before.store[words..]);
-            assert_eq!(self.workers[records..], before.workers[records..]);
         }
+        self.keeps_beyond(&before);
         answer
     }
+
+    /// Words and records beyond the shape's are as they were.
+    fn keeps_beyond(&self, before: &Self) {
+        let words = self.shape.store_words();
+        let records = self.shape.workers as usize;
+        assert_eq!(self.store.len(), before.store.len());
+        assert_eq!(self.store.get(words..), before.store.get(words..));
+        assert_eq!(self.workers.get(records..), before.workers.get(records..));
+    }
+}
+
+/// The narrow call on any memory.
+pub fn narrow(memory: &mut Memory, worker: usize, call: Call, turns: u64) -> Answer {
+    let (store, workers) = (&mut memory.store, &mut memory.workers);
+    match call {
+        Call::Put(arrival) => {
+            second::narrow_enqueue_start(memory.shape, store, workers, worker, arrival, turns)
+        }
+        Call::Take => second::narrow_dequeue_start(memory.shape, store, workers, worker, turns),
+        Call::Turn => second::narrow_step(memory.shape, store, workers, worker, turns),
+    }
+}
+
+/// The memory with garbage behind.
+pub fn lend(memory: &Memory) -> Lent {
+    let mut lent = Lent::garbage(memory.shape);
+    lent.store[..memory.store.len()].copy_from_slice(&memory.store);
+    lent.workers[..memory.workers.len()].copy_from_slice(&memory.workers);
+    lent
+}
+
+/// Memory of a small shape, every field somewhere in its range.
+pub fn any_in_range(random: &mut Random) -> Memory {
+    let shape = small_shape(random);
+    Memory::in_range(random, shape)
 }
 
 /// A record at a stage, of a kind that fits it.
