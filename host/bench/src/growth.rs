@@ -11,6 +11,7 @@ use crate::arguments::Arguments;
 use crate::hold;
 use crate::hold_model::{Model, Run};
 use crate::report::heading;
+use crate::shapes::of_wrapper;
 use crate::single_calls;
 use crate::svg::{Curve, Panel, Picture};
 use crate::timing::{best, nanoseconds_each};
@@ -129,16 +130,7 @@ fn measure(arguments: &Arguments, &(value, model): &(u32, Model)) -> Measured {
         value,
         turns: turns as f64 / pairs as f64,
         pair: nanoseconds_each(time, pairs),
-        call: single_calls::nanoseconds(lent_shape(model.shape), arguments.rounds),
-    }
-}
-
-fn lent_shape(shape: Shape) -> wubraken::Shape {
-    wubraken::Shape {
-        workers: shape.workers.into(),
-        nodes: shape.nodes.into(),
-        buckets: shape.buckets.into(),
-        width: shape.width.into(),
+        call: single_calls::nanoseconds(of_wrapper(model.shape), arguments.rounds),
     }
 }
 
