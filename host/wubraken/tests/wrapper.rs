@@ -176,7 +176,7 @@ fn runs_up_to_a_limit() {
 #[test]
 fn a_run_of_no_turn_does_nothing() {
     for shape in [SHAPE, Shape::default()] {
-        let mut pool = Pool::resume(shape, [u64::MAX; 3], [Worker::default(); 0]);
+        let mut pool = Pool::resume(shape, [u64::MAX; 3], [] as [Worker; 0]);
         for worker in [0, 2, u64::MAX] {
             assert_eq!(pool.run(worker, 0), Ok(Step::On));
         }
