@@ -7,14 +7,14 @@
  * wubraken_pool, at the end, keeps shape and memory together: begin there.
  *
  * Which calls to use:
- * - Where only the pool has written to the memory since its opening, use the
- *   narrow calls, as the handle does: they look only at what they need, so that a
- *   turn costs the same at every shape.
- * - For memory that came from elsewhere use the calls without the word: each
- *   looks at every field of store and table first, and so does
- *   wubraken_pool_audit, once for all.
- * - Where many turns are known beforehand, as in a turn file, use
- *   wubraken_run_batch: it looks at every field once a batch.
+ * - Where only the pool has written to the memory since its opening, the narrow
+ *   calls, as the handle does: they look only at what they need, and a turn costs
+ *   the same at every shape.
+ * - For memory that came from elsewhere, wubraken_enqueue, wubraken_dequeue and
+ *   wubraken_step, which look at every field of store and table each time; or
+ *   wubraken_pool_audit, which does so once, and then the narrow calls.
+ * - Where many turns are known beforehand, as in a turn file, wubraken_run_batch,
+ *   which looks at every field once a batch.
  *
  * What the caller owes: a pointer leads to as many elements as its length says,
  * is aligned, and is not null even for a length of 0; the buffers of one call
@@ -199,10 +199,10 @@ wubraken_answer wubraken_step(wubraken_shape shape, uint64_t worker,
  * ON. The last answer is the answer:
  *   BEGUN, ON            the turns are used up, and the call is in progress
  *   STORED, TOOK, EMPTY  the call has ended
- *   REFUSED              by a start: nothing was done; by a turn: those before it
- *                        are done, and the call is in progress
- * With turns 0 it is the start or the turn alone. On damaged memory, which may
- * lead in a circle, a call need not end: there give a limit. */
+ *   REFUSED              that start or turn was refused, and changed nothing; the
+ *                        turns before it are done
+ * With turns 0 it is the start or the turn alone. In memory that no pool has left
+ * lists may lead in a circle, and a call needs a limit. */
 
 /* Refusals: 1 to 6, 9, 11, 12; in a turn 3, 11. */
 wubraken_answer wubraken_narrow_enqueue(wubraken_shape shape, uint64_t worker, wubraken_arrival arrival,

@@ -9,9 +9,11 @@ const MOST_CALLS: u64 = u32::MAX as u64;
 /// A pool: its shape, a store of words and a table of workers' records.
 ///
 /// It owns its memory, or borrows it (`&mut [u64]`, `&mut [Worker]`), and so has
-/// it to itself. A start or turn therefore looks only at what it needs, whatever
-/// the shape; [`Pool::audit`] looks at all. The pool tests what it is handed by
-/// itself, at every call; the wrapper tests nothing. A call asks `S` and `T` once for a slice and works on that one, so an
+/// it to itself. A start or turn therefore looks only at what it needs, and a turn
+/// costs the same at every shape; [`Pool::audit`] looks at all.
+///
+/// The pool tests what it is handed by itself, at every call; the wrapper tests
+/// nothing. A call asks `S` and `T` once for a slice and works on that one, so an
 /// `AsMut` that answers another slice at every call does no harm: the call then
 /// speaks of the memory it got.
 #[derive(Clone, Debug)]
@@ -43,8 +45,8 @@ impl Pool {
 
 impl<S, T> Pool<S, T> {
     /// Memory as it is, whatever it holds. Audit what comes from elsewhere first
-    /// ([`Pool::audit`]): later calls notice only what they look at. No memory makes
-    /// them unsafe; on damaged memory they may answer nonsense, and go on for ever.
+    /// ([`Pool::audit`]): the calls notice only what they look at. No memory makes
+    /// them unsafe, but on damaged memory they may answer nonsense, and never end.
     ///
     /// ```
     /// use wubraken::{Pool, Refusal, Shape, Worker};
@@ -162,8 +164,11 @@ impl<S: AsMut<[u64]>, T: AsMut<[Worker]>> Pool<S, T> {
 
     /// Looks at every word and every record, once, and changes nothing: whether
     /// the shape is within its limits (or refusal 1), the memory long enough (2) and
-    /// every field in its range (3). For memory that came from elsewhere; what only
-    /// the pool wrote to since its opening is in order.
+    /// every field in its range (3).
+    ///
+    /// For memory that came from elsewhere; what only the pool has written to since
+    /// its opening is in order. Lists are not walked: in memory that no pool has left
+    /// they may lead in a circle, and a call needs a limit.
     pub fn audit(&mut self) -> Result<(), Refusal> {
         // Refused by 4 exactly where 1 to 3 do not apply.
         let nobody = self.shape.workers;
