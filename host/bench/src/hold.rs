@@ -44,9 +44,11 @@ pub fn run(arguments: &Arguments) {
     }
     println!(
         " The same by narrow calls, through the Rust wrapper: a step a turn, or a put and a take in\n \
-         one go; ratio: how many times as fast as the heap"
+         one go; ratios: how many times as fast as the heap, and as oneTBB"
     );
-    println!(" pending workers      heap  by turns  ratio  by calls  ratio");
+    println!(
+        " pending workers      heap    oneTBB  by turns   heap oneTBB  by calls   heap oneTBB"
+    );
     for (model, times) in narrow {
         times.print_narrow(&model);
     }
@@ -76,19 +78,30 @@ impl Times {
         println!();
     }
 
-    /// The target is for few arrivals; then a put walks no long lists.
+    /// The target is for few arrivals; with many, a put walks along lists.
     fn print_narrow(&self, model: &Model) {
         let (pending, workers, heap) = (model.pending, model.shape.workers, self.heap);
-        print!("{pending:>8}{workers:>8}{heap:>10.1}");
-        print!("{:>10.1}{:>7.2}", self.turns, heap / self.turns);
-        if let Some(calls) = self.calls {
-            let ratio = heap / calls;
-            print!("{calls:>10.1}{ratio:>7.2}");
-            if pending <= 512 {
-                print!("  ({})", Target::AtLeast(0.35).beside(ratio));
-            }
+        let tbb = |time: f64| self.tbb.map(|tbb| tbb / time);
+        print!(
+            "{pending:>8}{workers:>8}{heap:>10.1}{}",
+            cell(10, 1, self.tbb)
+        );
+        for time in [Some(self.turns), self.calls].into_iter().flatten() {
+            let ratios = [Some(heap / time), tbb(time)].map(|ratio| cell(7, 2, ratio));
+            print!("{time:>10.1}{}", ratios.concat());
+        }
+        if let (Some(calls), true) = (self.calls, pending <= 512) {
+            print!("  (heap: {})", Target::AtLeast(0.35).beside(heap / calls));
         }
         println!();
+    }
+}
+
+/// A number so wide, or a dash.
+fn cell(width: usize, decimals: usize, number: Option<f64>) -> String {
+    match number {
+        Some(number) => format!("{number:>width$.decimals$}"),
+        None => format!("{:>width$}", "-"),
     }
 }
 
