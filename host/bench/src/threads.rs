@@ -1,5 +1,6 @@
 //! Threads that share one pool, or one heap, behind a lock.
 
+use std::sync::atomic::{AtomicUsize, Ordering};
 use std::sync::{Barrier, Mutex};
 use std::thread;
 use std::time::{Duration, Instant};
@@ -32,44 +33,65 @@ pub fn run(arguments: &Arguments) {
 fn contest(arguments: &Arguments, model: &Model) {
     let count = (arguments.holds / model.holds).max(1);
     let runs: Vec<Draws> = (0..count as u64).map(|run| model.draws(run)).collect();
-    let each = |hold: &dyn Fn(&Draws) -> Duration| runs.iter().map(hold).collect();
     let [heap, calls, turns] = best(
         arguments.rounds,
         [
-            &mut || each(&|run| share_heap(model, run)),
-            &mut || each(&|run| share_pool(model, run, hold_by_calls)),
-            &mut || each(&|run| share_pool(model, run, hold_by_turns)),
+            &mut || vec![share_heaps(model, &runs)],
+            &mut || vec![share_pools(model, &runs, hold_by_calls)],
+            &mut || vec![share_pools(model, &runs, hold_by_turns)],
         ],
     )
     .map(|time| nanoseconds_each(time, count * model.holds));
-    let pending = model.pending;
-    print!("{pending:>8}{heap:>10.1}");
+    let (pending, ratios) = (model.pending, [heap / calls, heap / turns]);
     println!(
-        "{calls:>15.1}{:>7.2}{turns:>15.1}{:>7.2}",
-        heap / calls,
-        heap / turns
+        "{pending:>8}{heap:>10.1}{calls:>15.1}{:>7.2}{turns:>15.1}{:>7.2}",
+        ratios[0], ratios[1]
     );
 }
 
-/// Deals the holds of a run to the threads; how long they take, from the first that
-/// begins to the last that ends.
-fn share(run: &Draws, hold: impl Fn(u64, &[u32]) + Sync) -> Duration {
-    let each = (run.increments.len() + THREADS - 1) / THREADS;
-    let shares: Vec<&[u32]> = run.increments.chunks(each).collect();
-    let barrier = Barrier::new(shares.len());
-    let (hold, barrier) = (&hold, &barrier);
+/// What the threads share in one run, and how many of its holds have been begun.
+struct Shared<Q> {
+    queue: Mutex<Q>,
+    begun: AtomicUsize,
+}
+
+impl<Q> Shared<Q> {
+    fn new(queue: Q) -> Self {
+        Self {
+            queue: Mutex::new(queue),
+            begun: AtomicUsize::new(0),
+        }
+    }
+}
+
+/// Lets the threads hold, run after run, each the next hold that nobody has begun.
+/// How long they take, from the first that begins to the last that ends.
+fn share<Q: Send>(
+    queues: &[Shared<Q>],
+    runs: &[Draws],
+    hold: impl Fn(&Mutex<Q>, u64, u32) + Sync,
+) -> Duration {
+    let barrier = &Barrier::new(THREADS);
+    let work = |worker| {
+        barrier.wait();
+        let start = Instant::now();
+        for (shared, run) in queues.iter().zip(runs) {
+            let next = || {
+                run.increments
+                    .get(shared.begun.fetch_add(1, Ordering::Relaxed))
+            };
+            while let Some(&increment) = next() {
+                hold(&shared.queue, worker, increment);
+            }
+        }
+        (start, Instant::now())
+    };
+    let work = &work;
     let spans: Vec<(Instant, Instant)> = thread::scope(|scope| {
-        let threads = (0..).zip(shares).map(|(worker, increments)| {
-            scope.spawn(move || {
-                barrier.wait();
-                let start = Instant::now();
-                hold(worker, increments);
-                (start, Instant::now())
-            })
-        });
-        let threads: Vec<_> = threads.collect();
-        let join = threads.into_iter().map(|thread| thread.join());
-        join.map(|span| span.expect("a thread holds")).collect()
+        let workers = 0..THREADS as u64;
+        let threads: Vec<_> = workers.map(|it| scope.spawn(move || work(it))).collect();
+        let ends = threads.into_iter().map(|thread| thread.join());
+        ends.map(|span| span.expect("a thread holds")).collect()
     });
     let first = spans.iter().map(|span| span.0).min();
     let last = spans.iter().map(|span| span.1).max();
@@ -78,33 +100,39 @@ fn share(run: &Draws, hold: impl Fn(u64, &[u32]) + Sync) -> Duration {
         .map_or(Duration::ZERO, |(first, last)| last - first)
 }
 
-fn share_heap(model: &Model, run: &Draws) -> Duration {
-    let heap = Mutex::new(Heap::filled(model, run));
-    let time = share(run, |_, increments| {
-        for &increment in increments {
-            let taken = heap.lock().unwrap().take();
-            let mut taken = taken.expect("fewer threads than arrivals");
-            taken.time = model.later(taken.time, increment);
-            heap.lock().unwrap().put(taken);
-        }
+fn share_heaps(model: &Model, runs: &[Draws]) -> Duration {
+    let heaps = runs.iter().map(|run| Shared::new(Heap::filled(model, run)));
+    let heaps: Vec<_> = heaps.collect();
+    let time = share(&heaps, runs, |heap, _, increment| {
+        let taken = heap.lock().unwrap().take();
+        let mut taken = taken.expect("fewer threads than arrivals");
+        taken.time = model.later(taken.time, increment);
+        heap.lock().unwrap().put(taken);
     });
-    assert_eq!(heap.into_inner().unwrap().keep_all(), model.pending);
+    for shared in heaps {
+        let heap = shared.queue.into_inner().unwrap();
+        assert_eq!(heap.keep_all(), model.pending);
+    }
     time
 }
 
 /// Takes the earliest and puts it back later by the increment.
 type Hold = fn(&Mutex<Pool>, u64, &Model, u32);
 
-fn share_pool(model: &Model, run: &Draws, hold: Hold) -> Duration {
-    let mut pool = open(model);
-    fill(&mut pool, run);
-    let pool = Mutex::new(pool);
-    let time = share(run, |worker, increments| {
-        for &increment in increments {
-            hold(&pool, worker, model, increment);
-        }
+fn share_pools(model: &Model, runs: &[Draws], hold: Hold) -> Duration {
+    let pools = runs.iter().map(|run| {
+        let mut pool = open(model);
+        fill(&mut pool, run);
+        Shared::new(pool)
     });
-    assert_eq!(empty(&mut pool.into_inner().unwrap()), model.pending);
+    let pools: Vec<_> = pools.collect();
+    let time = share(&pools, runs, |pool, worker, increment| {
+        hold(pool, worker, model, increment)
+    });
+    for shared in pools {
+        let mut pool = shared.queue.into_inner().unwrap();
+        assert_eq!(empty(&mut pool), model.pending);
+    }
     time
 }
 
