@@ -56,6 +56,19 @@ static void in_one_go(void)
     print(wubraken_pool_take(&pool, 0, UINT64_MAX));
 }
 
+/* A put alone has 5 turns, a take of its arrival 7. */
+static void up_to_a_limit(void)
+{
+    puts("up to a limit:");
+    open_for(1);
+    print(wubraken_pool_put(&pool, 0, arrival, 0));
+    print(wubraken_pool_run(&pool, 0, 0));
+    print(wubraken_pool_run(&pool, 0, 4));
+    print(wubraken_pool_run(&pool, 0, 1));
+    print(wubraken_pool_take(&pool, 0, 6));
+    print(wubraken_pool_run(&pool, 0, 1));
+}
+
 /* A put of two turns at most, a whole one of another worker, and the rest. */
 static void in_parts(void)
 {
@@ -88,6 +101,20 @@ static void turn_by_turn(void)
     finish(0);
 }
 
+/* Then the pool has no shape, until it is opened again. */
+static void refused_opening(void)
+{
+    const wubraken_shape none = {0, 4, 2, 10}, shape = {1, 4, 2, 10};
+
+    puts("a refused opening:");
+    print(wubraken_pool_open(&pool, none, store, WUBRAKEN_WORDS(4, 2), table, 2));
+    print(wubraken_pool_take(&pool, 0, UINT64_MAX));
+    if (wubraken_pool_reopen(&pool, shape).kind == WUBRAKEN_OPEN)
+        print(wubraken_pool_take(&pool, 0, UINT64_MAX));
+    print(wubraken_pool_reopen(&pool, none));
+    print(wubraken_pool_take(&pool, 0, UINT64_MAX));
+}
+
 /* Memory that came from elsewhere is looked through once. */
 static void from_elsewhere(void)
 {
@@ -108,9 +135,11 @@ int main(int arguments, char **argument)
         return 0;
     }
     in_one_go();
+    up_to_a_limit();
     in_parts();
     puts("turn by turn:");
     turn_by_turn();
     from_elsewhere();
+    refused_opening();
     return 0;
 }
