@@ -221,7 +221,8 @@ fn narrow_calls_touch_what_they_need() {
             *memory.node_word(0, field::RECLAMATION) = 0;
             let worker = random.draw() % shape.workers;
             for call in Call::narrow_of_worker(worker, any_arrival(random, shape), 0) {
-                let expected = Both::with_spare(&memory, 0, 0).call(shape, call);
+                let mut both = Both::with_spare(&memory, 0, 0);
+                let expected = both.call(shape, call);
                 let words = last_word_of(shape, call, &memory) + 1;
                 let store = store_pages.lend(&memory.store[..words], true);
                 let table = translate::table_back(&memory.workers);
@@ -237,6 +238,10 @@ fn narrow_calls_touch_what_they_need() {
                 };
                 (lent.words, lent.records) = (memory.store.len(), table.len());
                 assert_eq!(lent.call(shape, call), expected, "{call:?}");
+                assert_eq!(store, &both.store()[..words], "{call:?}");
+                // SAFETY: its record lies between the fences.
+                let record = unsafe { *lent.table.wrapping_add(own) };
+                assert_eq!(Some(record), both.record(own), "{call:?}");
                 kinds.insert(expected.kind);
             }
         }
