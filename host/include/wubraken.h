@@ -3,7 +3,18 @@
  * The pool keeps nothing of its own: every call gets the shape, a store of
  * words and a table with one record a worker. A call of a worker begins with
  * wubraken_enqueue or wubraken_dequeue and goes on by wubraken_step, one shared
- * word a step, until the step answers STORED, TOOK or EMPTY.
+ * word a step, until the step answers STORED, TOOK or EMPTY. The handle
+ * wubraken_pool, at the end, keeps shape and memory together: begin there.
+ *
+ * Which calls to use:
+ * - Where only the pool has written to the memory since its opening, the narrow
+ *   calls, as the handle does: they look only at what they need, and a turn costs
+ *   the same at every shape.
+ * - For memory that came from elsewhere, wubraken_enqueue, wubraken_dequeue and
+ *   wubraken_step, which look at every field of store and table each time; or
+ *   wubraken_pool_audit, which does so once, and then the narrow calls.
+ * - Where many turns are known beforehand, as in a turn file, wubraken_run_batch,
+ *   which looks at every field once a batch.
  *
  * What the caller owes: a pointer leads to as many elements as its length says,
  * is aligned, and is not null even for a length of 0; the buffers of one call
@@ -177,6 +188,38 @@ wubraken_answer wubraken_step(wubraken_shape shape, uint64_t worker,
                               uint64_t *store, size_t words,
                               wubraken_worker *table, size_t records);
 
+/* The narrow calls: as the three above, but 3 looks only at what is needed: the
+ * first three words of the store and the worker's own record; for an enqueue the
+ * records of all workers. With the words that it finds a start or turn does what
+ * it always does, so on memory that only the pool has written to since its
+ * opening the answers and the memory are the same. Any memory may be handed in.
+ *
+ * A narrow call goes on by itself: after a start, or a turn that answered ON, come
+ * at most `turns` turns of the same worker, until one answers something else than
+ * ON. The last answer is the answer:
+ *   BEGUN, ON            the turns are used up, and the call is in progress
+ *   STORED, TOOK, EMPTY  the call has ended
+ *   REFUSED              that start or turn was refused, and changed nothing; the
+ *                        turns before it are done
+ * With turns 0 it is the start or the turn alone. In memory that no pool has left
+ * lists may lead in a circle, and a call needs a limit. */
+
+/* Refusals: 1 to 6, 9, 11, 12; in a turn 3, 11. */
+wubraken_answer wubraken_narrow_enqueue(wubraken_shape shape, uint64_t worker, wubraken_arrival arrival,
+                                        uint64_t turns,
+                                        uint64_t *store, size_t words,
+                                        wubraken_worker *table, size_t records);
+
+/* Refusals: 1 to 4, 9, 11; in a turn 3. */
+wubraken_answer wubraken_narrow_dequeue(wubraken_shape shape, uint64_t worker, uint64_t turns,
+                                        uint64_t *store, size_t words,
+                                        wubraken_worker *table, size_t records);
+
+/* One turn, then at most `turns` more. Refusals: 1 to 4, 10, 11. */
+wubraken_answer wubraken_narrow_step(wubraken_shape shape, uint64_t worker, uint64_t turns,
+                                     uint64_t *store, size_t words,
+                                     wubraken_worker *table, size_t records);
+
 /* Why wubraken_run_batch stopped; otherwise by WUBRAKEN_UNKNOWN_MARK or
  * WUBRAKEN_CUT_RECORD, for which no line is written. A record may be cut only
  * because the rest of it has not been handed in yet. */
@@ -205,6 +248,132 @@ wubraken_batch_end wubraken_run_batch(wubraken_shape shape,
                                       uint8_t *out, size_t room,
                                       uint64_t *store, size_t words,
                                       wubraken_worker *table, size_t records);
+
+/* A pool: a shape and the memory lent to it, which nobody else writes to while
+ * the pool is in use. wubraken_pool_open fills it in; memory that came from
+ * elsewhere is put in by hand, and audited. */
+typedef struct {
+    wubraken_shape shape; /* that of the last opening not refused */
+    uint64_t *store;
+    size_t words;
+    wubraken_worker *table;
+    size_t records;
+} wubraken_pool;
+
+/* Empties the pool and gives it a shape, in the memory it has. A refusal (1, 2)
+ * leaves everything as it was. */
+static inline wubraken_answer wubraken_pool_reopen(wubraken_pool *pool, wubraken_shape shape)
+{
+    wubraken_answer answer = wubraken_open(shape, pool->store, pool->words, pool->table, pool->records);
+    if (answer.kind == WUBRAKEN_OPEN)
+        pool->shape = shape;
+    return answer;
+}
+
+/* Opens a pool in lent memory, whatever that held. After a refusal (1, 2) the pool
+ * has the memory and no shape: every call is refused by 1, and it can be reopened. */
+static inline wubraken_answer wubraken_pool_open(wubraken_pool *pool, wubraken_shape shape,
+                                                 uint64_t *store, size_t words,
+                                                 wubraken_worker *table, size_t records)
+{
+    const wubraken_shape none = {0, 0, 0, 0};
+    pool->shape = none;
+    pool->store = store;
+    pool->words = words;
+    pool->table = table;
+    pool->records = records;
+    return wubraken_pool_reopen(pool, shape);
+}
+
+/* Looks at every word and every record, once, and changes nothing. 0, or what is
+ * wrong: 1, 2 or 3. */
+static inline uint64_t wubraken_pool_audit(const wubraken_pool *pool)
+{
+    /* There is no such worker: refused by 4 exactly where 1 to 3 do not apply. */
+    uint64_t number = wubraken_step(pool->shape, pool->shape.workers,
+                                    pool->store, pool->words, pool->table, pool->records).number;
+    return number == WUBRAKEN_NO_WORKER ? 0 : number;
+}
+
+/* How many calls can still begin before all are refused by 11; an opening gives
+ * them back. */
+static inline uint64_t wubraken_pool_calls_left(const wubraken_pool *pool)
+{
+    const uint64_t most = 4294967295u;
+    return pool->words > 1 && pool->store[1] < most ? most - pool->store[1] : 0;
+}
+
+/* Whether a worker has a call in progress: 1 or 0. One that there is not has none. */
+static inline int wubraken_pool_in_progress(const wubraken_pool *pool, uint64_t worker)
+{
+    return worker < pool->shape.workers && worker < pool->records && pool->table[worker].stage != 0;
+}
+
+/* A worker begins to put an arrival in. Refusals: 1 to 6, 9, 11, 12. */
+static inline wubraken_answer wubraken_pool_enqueue(const wubraken_pool *pool, uint64_t worker,
+                                                    wubraken_arrival arrival)
+{
+    return wubraken_narrow_enqueue(pool->shape, worker, arrival, 0,
+                                   pool->store, pool->words, pool->table, pool->records);
+}
+
+/* A worker begins to take the earliest arrival out. Refusals: 1 to 4, 9, 11. */
+static inline wubraken_answer wubraken_pool_dequeue(const wubraken_pool *pool, uint64_t worker)
+{
+    return wubraken_narrow_dequeue(pool->shape, worker, 0,
+                                   pool->store, pool->words, pool->table, pool->records);
+}
+
+/* A worker's call goes on by one turn, one shared word. Refusals: 1 to 4, 10, 11. */
+static inline wubraken_answer wubraken_pool_step(const wubraken_pool *pool, uint64_t worker)
+{
+    return wubraken_narrow_step(pool->shape, worker, 0,
+                                pool->store, pool->words, pool->table, pool->records);
+}
+
+/* A worker's call goes on by at most so many turns, until it has ended: the last
+ * answer, ON if the turns are used up. 0 turns are ON, whatever there is.
+ * Refusals, of the next turn: 1 to 4, 10, 11. */
+static inline wubraken_answer wubraken_pool_run(const wubraken_pool *pool, uint64_t worker, uint64_t turns)
+{
+    const wubraken_answer on = {WUBRAKEN_ON, 0, 0, 0, 0, 0, 0, 0};
+    if (turns == 0)
+        return on;
+    return wubraken_narrow_step(pool->shape, worker, turns - 1,
+                                pool->store, pool->words, pool->table, pool->records);
+}
+
+/* A worker puts an arrival in: begins, and goes on by at most so many turns;
+ * UINT64_MAX is as good as no limit. STORED; or BEGUN or ON: the turns are used
+ * up, and the call goes on by _run or _step. A refusal in the midst (11: no epoch
+ * is left; 3: damaged memory) leaves the call in progress, which
+ * wubraken_pool_in_progress tells. Refusals: 1 to 6, 9, 11, 12. */
+static inline wubraken_answer wubraken_pool_put(const wubraken_pool *pool, uint64_t worker,
+                                                wubraken_arrival arrival, uint64_t turns)
+{
+    return wubraken_narrow_enqueue(pool->shape, worker, arrival, turns,
+                                   pool->store, pool->words, pool->table, pool->records);
+}
+
+/* A worker takes the earliest arrival out: begins, and goes on by at most so many
+ * turns; UINT64_MAX is as good as no limit. TOOK or EMPTY; or BEGUN or ON, as
+ * above. Refusals: 1 to 4, 9, 11. */
+static inline wubraken_answer wubraken_pool_take(const wubraken_pool *pool, uint64_t worker, uint64_t turns)
+{
+    return wubraken_narrow_dequeue(pool->shape, worker, turns,
+                                   pool->store, pool->words, pool->table, pool->records);
+}
+
+/* wubraken_run_batch on the pool. An opening among the records changes its shape. */
+static inline wubraken_batch_end wubraken_pool_run_batch(wubraken_pool *pool,
+                                                         const uint8_t *input, size_t bytes,
+                                                         uint8_t *out, size_t room)
+{
+    wubraken_batch_end end = wubraken_run_batch(pool->shape, input, bytes, out, room,
+                                                pool->store, pool->words, pool->table, pool->records);
+    pool->shape = end.shape;
+    return end;
+}
 
 #ifdef __cplusplus
 }

@@ -10,12 +10,13 @@ contestants take turns, and the best of several rounds counts.
 
 options:
   --quick          everything small, only to see that it runs
-  --only PART      one part: schedules, turn, hold, calls or growth
+  --only PART      one part: schedules, turn, narrow, hold, threads, calls or growth
   --records N      records of a schedule       (default 10,000,000)
   --rounds N       rounds of each contest      (default 7)
   --svg PATH       where the picture goes      (default target/bench/growth.svg)
   --turns PATH     the program under test      (default target/bin/turns)
   --second PATH    the second program          (default host/target/release/second)
+  --narrow PATH    the contest of narrow calls (default host/target/contest/narrow)
   --tbb PATH       host/bench/tbb_hold.cpp compiled    (default target/bench/tbb_hold)
   --help           prints this text
 ";
@@ -25,15 +26,19 @@ options:
 pub enum Part {
     Schedules,
     InnerTurn,
+    NarrowCalls,
     Hold,
+    Threads,
     SingleCalls,
     Growth,
 }
 
-const PARTS: [(&str, Part); 5] = [
+const PARTS: [(&str, Part); 7] = [
     ("schedules", Part::Schedules),
     ("turn", Part::InnerTurn),
+    ("narrow", Part::NarrowCalls),
     ("hold", Part::Hold),
+    ("threads", Part::Threads),
     ("calls", Part::SingleCalls),
     ("growth", Part::Growth),
 ];
@@ -51,6 +56,7 @@ pub struct Arguments {
     pub svg: PathBuf,
     pub turns: PathBuf,
     pub second: PathBuf,
+    pub narrow: PathBuf,
     pub tbb: PathBuf,
 }
 
@@ -65,6 +71,7 @@ impl Arguments {
             svg: "target/bench/growth.svg".into(),
             turns: "target/bin/turns".into(),
             second: "host/target/release/second".into(),
+            narrow: "host/target/contest/narrow".into(),
             tbb: "target/bench/tbb_hold".into(),
         }
     }
@@ -95,6 +102,7 @@ impl Arguments {
                 "--svg" => arguments.svg = value.into(),
                 "--turns" => arguments.turns = value.into(),
                 "--second" => arguments.second = value.into(),
+                "--narrow" => arguments.narrow = value.into(),
                 "--tbb" => arguments.tbb = value.into(),
                 _ => return None,
             }

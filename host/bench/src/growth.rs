@@ -9,8 +9,10 @@ use second::Shape;
 
 use crate::arguments::Arguments;
 use crate::hold;
-use crate::hold_model::{Model, Run};
+use crate::hold_model::{Draws, Model, Run};
+use crate::hold_narrow::by_calls;
 use crate::report::heading;
+use crate::shapes::of_wrapper;
 use crate::single_calls;
 use crate::svg::{Curve, Panel, Picture};
 use crate::timing::{best, nanoseconds_each};
@@ -27,32 +29,34 @@ struct Measured {
     value: u32,
     turns: f64,
     pair: f64,
+    narrow: f64,
     call: f64,
 }
 
 pub fn run(arguments: &Arguments) -> io::Result<()> {
     heading(
         "Growth: nanoseconds in the hold model",
-        "(pair: one take and one put back, by the batch entry; turns: of a pair;\n \
-         call: one single call, which looks at all lent memory)",
+        "(pair: one take and one put back, by the batch entry; turns: of a pair; narrow: a pair by one\n \
+         worker's narrow calls, each in one go; call: one single call that looks at all lent memory)",
     );
     let mut panels = Vec::new();
     for series in all_series() {
         let Series { name, others, .. } = series;
         println!(" {name} ({others})");
         println!(
-            "{:>10}{:>8}{:>10}{:>10}{:>10}",
-            "", "turns", "pair", "a turn", "call"
+            "{:>10}{:>8}{:>10}{:>10}{:>10}{:>10}",
+            "", "turns", "pair", "a turn", "narrow", "call"
         );
         let points = series.points.iter();
         let measured: Vec<Measured> = points.map(|point| measure(arguments, point)).collect();
         for it in &measured {
             println!(
-                "{:>10}{:>8.1}{:>10.1}{:>10.1}{:>10.1}",
+                "{:>10}{:>8.1}{:>10.1}{:>10.1}{:>10.1}{:>10.1}",
                 it.value,
                 it.turns,
                 it.pair,
                 it.pair / it.turns,
+                it.narrow,
                 it.call
             );
         }
@@ -119,26 +123,22 @@ fn measure(arguments: &Arguments, &(value, model): &(u32, Model)) -> Measured {
     let runs: Vec<Run> = (0..count as u64).map(|run| model.run(run)).collect();
     let (mut entry, mut library) = hold::engines(model.shape);
     hold::check_lines(&runs, &mut entry, &mut library);
-    let [time] = best(
-        arguments.rounds,
-        [&mut || hold::time_holding(&mut entry, &runs)],
-    );
+    let draws: Vec<Draws> = (0..count as u64).map(|run| model.draws(run)).collect();
     let pairs = count * model.holds;
+    let [pair, narrow] = best(
+        arguments.rounds,
+        [&mut || hold::time_holding(&mut entry, &runs), &mut || {
+            by_calls(&model, &draws).0
+        }],
+    )
+    .map(|time| nanoseconds_each(time, pairs));
     let turns: usize = runs.iter().map(|run| run.holding.turns).sum();
     Measured {
         value,
         turns: turns as f64 / pairs as f64,
-        pair: nanoseconds_each(time, pairs),
-        call: single_calls::nanoseconds(lent_shape(model.shape), arguments.rounds),
-    }
-}
-
-fn lent_shape(shape: Shape) -> wubraken::Shape {
-    wubraken::Shape {
-        workers: shape.workers.into(),
-        nodes: shape.nodes.into(),
-        buckets: shape.buckets.into(),
-        width: shape.width.into(),
+        pair,
+        narrow,
+        call: single_calls::nanoseconds(of_wrapper(model.shape), arguments.rounds),
     }
 }
 
@@ -154,6 +154,7 @@ fn panel(name: String, measured: &[Measured]) -> Panel {
         name,
         curves: vec![
             curve("take and put, batch entry", |it| it.pair),
+            curve("take and put, narrow calls", |it| it.narrow),
             curve("one single call", |it| it.call),
         ],
     }

@@ -9,8 +9,8 @@ use crate::timing::keep;
 
 /// An arrival with its call's number, the fields the pool keeps.
 #[derive(Clone, Copy)]
-struct Pending {
-    time: u32,
+pub struct Pending {
+    pub time: u32,
     ticket: u32,
     path: u32,
     order: u32,
@@ -43,38 +43,67 @@ impl Ord for Pending {
     }
 }
 
+/// A heap, and how many puts it has seen.
+pub struct Heap {
+    heap: BinaryHeap<Reverse<Pending>>,
+    ticket: u32,
+}
+
+impl Heap {
+    /// With the first arrivals of a run.
+    pub fn filled(model: &Model, run: &Draws) -> Self {
+        let mut heap = Self {
+            heap: BinaryHeap::with_capacity(model.pending),
+            ticket: 0,
+        };
+        for &time in &run.times {
+            heap.put(Pending {
+                time,
+                ticket: 0,
+                path: 7,
+                order: 1,
+                distance: 3,
+            });
+        }
+        heap
+    }
+
+    /// Under the next number.
+    pub fn put(&mut self, pending: Pending) {
+        self.ticket += 1;
+        let ticket = self.ticket;
+        self.heap.push(Reverse(Pending { ticket, ..pending }));
+    }
+
+    pub fn take(&mut self) -> Option<Pending> {
+        self.heap.pop().map(|Reverse(pending)| pending)
+    }
+
+    /// Uses all that is left; how much that is.
+    pub fn keep_all(&self) -> usize {
+        let left = self.heap.iter();
+        let left = left.map(|Reverse(it)| it.path + it.order + it.distance);
+        keep(left.map(u64::from).sum());
+        self.heap.len()
+    }
+}
+
 /// How long the holds of each run take, and the fold of the times taken.
 pub fn hold(model: &Model, runs: &[Draws]) -> (Vec<Duration>, u64) {
     let mut elapsed = Vec::new();
     let mut sum = 0;
     for run in runs {
-        let mut ticket = 0;
-        let mut heap = BinaryHeap::with_capacity(model.pending);
-        for &time in &run.times {
-            ticket += 1;
-            heap.push(Reverse(Pending {
-                time,
-                ticket,
-                path: 7,
-                order: 1,
-                distance: 3,
-            }));
-        }
+        let mut heap = Heap::filled(model, run);
         let start = Instant::now();
         for &increment in &run.increments {
-            if let Some(Reverse(mut taken)) = heap.pop() {
+            if let Some(mut taken) = heap.take() {
                 sum = fold(sum, taken.time);
-                ticket += 1;
                 taken.time = model.later(taken.time, increment);
-                taken.ticket = ticket;
-                heap.push(Reverse(taken));
+                heap.put(taken);
             }
         }
         elapsed.push(start.elapsed());
-        let left = heap
-            .iter()
-            .map(|Reverse(it)| it.path + it.order + it.distance);
-        keep(left.map(u64::from).sum());
+        assert_eq!(heap.keep_all(), model.pending);
     }
     keep(sum);
     (elapsed, sum)

@@ -9,11 +9,12 @@ use crate::arguments::Arguments;
 use crate::engines::{assert_same_lines, BatchEntry, Engine};
 use crate::heap;
 use crate::hold_model::{fold, Draws, Model, Run};
-use crate::report::heading;
+use crate::hold_narrow::{by_calls, by_turns};
+use crate::report::{heading, Target};
 use crate::tbb;
 use crate::timing::{best, nanoseconds_each, time};
 
-const PENDING: [usize; 3] = [64, 512, 4_000];
+pub const PENDING: [usize; 3] = [64, 512, 4_000];
 const WORKERS: [u32; 2] = [1, 4];
 
 pub fn run(arguments: &Arguments) {
@@ -28,20 +29,85 @@ pub fn run(arguments: &Arguments) {
         " pending workers  turns      pool    second  ratio      heap  ratio    oneTBB  ratio"
     );
     let mut has_tbb = true;
+    let mut narrow = Vec::new();
     for workers in WORKERS {
         for pending in PENDING {
-            has_tbb &= contest(arguments, &model(workers, pending));
+            let model = model(workers, pending);
+            let times = contest(arguments, &model);
+            has_tbb &= times.tbb.is_some();
+            narrow.push((model, times));
         }
     }
     if !has_tbb {
         let path = arguments.tbb.display();
         println!(" oneTBB skipped: {path} cannot be run (it needs g++ and Debian's libtbb-dev)");
     }
+    println!(
+        " The same by narrow calls, through the Rust wrapper: a step a turn, or a put and a take in\n \
+         one go; ratios: how many times as fast as the heap, and as oneTBB"
+    );
+    println!(
+        " pending workers      heap    oneTBB  by turns   heap oneTBB  by calls   heap oneTBB"
+    );
+    for (model, times) in narrow {
+        times.print_narrow(&model);
+    }
+}
+
+/// Nanoseconds of a hold, by each contestant.
+struct Times {
+    pool: f64,
+    second: f64,
+    heap: f64,
+    tbb: Option<f64>,
+    turns: f64,
+    /// With one worker.
+    calls: Option<f64>,
+}
+
+impl Times {
+    fn print(&self, model: &Model, turns: f64) {
+        let (pending, workers, pool) = (model.pending, model.shape.workers, self.pool);
+        print!("{pending:>8}{workers:>8}{turns:>7.1}{pool:>10.1}");
+        for other in [Some(self.second), Some(self.heap), self.tbb] {
+            match other {
+                Some(time) => print!("{time:>10.1}{:>7.2}", time / pool),
+                None => print!("   skipped"),
+            }
+        }
+        println!();
+    }
+
+    /// The target is for few arrivals; with many, a put walks along lists.
+    fn print_narrow(&self, model: &Model) {
+        let (pending, workers, heap) = (model.pending, model.shape.workers, self.heap);
+        let tbb = |time: f64| self.tbb.map(|tbb| tbb / time);
+        print!(
+            "{pending:>8}{workers:>8}{heap:>10.1}{}",
+            cell(10, 1, self.tbb)
+        );
+        for time in [Some(self.turns), self.calls].into_iter().flatten() {
+            let ratios = [Some(heap / time), tbb(time)].map(|ratio| cell(7, 2, ratio));
+            print!("{time:>10.1}{}", ratios.concat());
+        }
+        if let (Some(calls), true) = (self.calls, pending <= 512) {
+            print!("  (heap: {})", Target::AtLeast(0.35).beside(heap / calls));
+        }
+        println!();
+    }
+}
+
+/// A number so wide, or a dash.
+fn cell(width: usize, decimals: usize, number: Option<f64>) -> String {
+    match number {
+        Some(number) => format!("{number:>width$.decimals$}"),
+        None => format!("{:>width$}", "-"),
+    }
 }
 
 /// About four arrivals a bucket, as far as half of the buckets go; and nodes to
 /// spare for those that rest.
-fn model(workers: u32, pending: usize) -> Model {
+pub fn model(workers: u32, pending: usize) -> Model {
     const WIDTH: u32 = 1_000;
     let shape = Shape {
         workers,
@@ -53,8 +119,7 @@ fn model(workers: u32, pending: usize) -> Model {
     Model::new(shape, pending, buckets * WIDTH)
 }
 
-/// Whether oneTBB was there.
-fn contest(arguments: &Arguments, model: &Model) -> bool {
+fn contest(arguments: &Arguments, model: &Model) -> Times {
     let count = (arguments.holds / model.holds).max(1);
     let runs: Vec<Run> = (0..count as u64).map(|run| model.run(run)).collect();
     let draws: Vec<Draws> = (0..count as u64).map(|run| model.draws(run)).collect();
@@ -62,40 +127,45 @@ fn contest(arguments: &Arguments, model: &Model) -> bool {
     let cores = thread::available_parallelism().map_or(1, usize::from);
     let threads = cores.min(model.shape.workers as usize);
     let tbb = || tbb::hold(&arguments.tbb, model, count, threads);
+    let is_alone = model.shape.workers == 1;
 
     check_lines(&runs, &mut entry, &mut library);
-    if model.shape.workers == 1 {
+    check_times(&runs, by_turns(model, &runs).1);
+    if is_alone {
         check_times(&runs, heap::hold(model, &draws).1);
+        check_times(&runs, by_calls(model, &draws).1);
         if let Some((_, fold)) = tbb() {
             check_times(&runs, fold);
         }
     }
-    let [pool, second, heap, tbb] = best(
+    let holds = count * model.holds;
+    let [pool, second, heap, tbb, turns, calls] = best(
         arguments.rounds,
         [
             &mut || time_holding(&mut entry, &runs),
             &mut || time_holding(&mut library, &runs),
             &mut || heap::hold(model, &draws).0,
             &mut || tbb().map_or(Vec::new(), |held| held.0),
+            &mut || by_turns(model, &runs).0,
+            &mut || match is_alone {
+                true => by_calls(model, &draws).0,
+                false => Vec::new(),
+            },
         ],
-    );
-
-    let holds = count * model.holds;
+    )
+    .map(|time| nanoseconds_each(time, holds));
+    let measured = |time: f64| Some(time).filter(|&time| time > 0.0);
+    let times = Times {
+        pool,
+        second,
+        heap,
+        tbb: measured(tbb),
+        turns,
+        calls: measured(calls),
+    };
     let turns: usize = runs.iter().map(|run| run.holding.turns).sum();
-    let pool = nanoseconds_each(pool, holds);
-    print!(
-        "{:>8}{:>8}{:>7.1}{pool:>10.1}",
-        model.pending,
-        model.shape.workers,
-        turns as f64 / holds as f64
-    );
-    let has_tbb = tbb > Duration::ZERO;
-    for other in [second, heap, tbb].iter().take(2 + usize::from(has_tbb)) {
-        let time = nanoseconds_each(*other, holds);
-        print!("{time:>10.1}{:>7.2}", time / pool);
-    }
-    println!("{}", if has_tbb { "" } else { "   skipped" });
-    has_tbb
+    times.print(model, turns as f64 / holds as f64);
+    times
 }
 
 /// The two that read turn files.
@@ -117,7 +187,8 @@ pub fn check_lines(runs: &[Run], entry: &mut BatchEntry, library: &mut Program) 
     }
 }
 
-/// A heap takes the same times in the same order as one worker does.
+/// The same times in the same order as in the batches. Heaps take them as one
+/// worker does.
 fn check_times(runs: &[Run], others: u64) {
     let times = runs.iter().flat_map(|run| &run.taken);
     let ours = times.fold(0, |sum, &time| fold(sum, time));

@@ -71,14 +71,9 @@ impl Model {
     }
 
     pub fn run(&self, seed: u64) -> Run {
-        let Draws {
-            mut times,
-            increments,
-        } = self.draws(seed);
+        let Draws { times, increments } = self.draws(seed);
         let mut recorder = Recorder::open(self.shape);
-        // From the latest on, each goes to the front of its list.
-        times.sort_unstable_by(|a, b| b.cmp(a));
-        for time in times {
+        for time in latest_first(times) {
             recorder.call(put(0, time));
         }
         let filling = recorder.cut();
@@ -172,6 +167,12 @@ impl Holding<'_> {
             _ => Worker::Ready,
         }
     }
+}
+
+/// So each goes to the front of its list.
+pub fn latest_first(mut times: Vec<u32>) -> Vec<u32> {
+    times.sort_unstable_by(|a, b| b.cmp(a));
+    times
 }
 
 /// A number for times in their order.

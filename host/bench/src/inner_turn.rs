@@ -54,8 +54,8 @@ fn contest(arguments: &Arguments, name: &str, batch: &Batch) {
             &mut || (0..pieces).map(|_| time(|| library.run(input))).collect(),
         ],
     );
-    let each = [ours, others].map(|time| nanoseconds_each(time, pieces * batch.records));
+    let each = [ours, others].map(|time| nanoseconds_each(time, pieces * batch.records.len()));
     row(name, each, "ns", each[1] / each[0], Target::AtLeast(1.0));
-    let share = 100.0 * batch.turns as f64 / batch.records as f64;
+    let share = 100.0 * batch.turns as f64 / batch.records.len() as f64;
     println!("    {share:.1} per cent of its records are turns");
 }

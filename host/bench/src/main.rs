@@ -7,15 +7,19 @@ mod growth;
 mod heap;
 mod hold;
 mod hold_model;
+mod hold_narrow;
 mod inner_turn;
 mod programs;
 mod recorder;
 mod report;
 mod schedules;
+mod shapes;
 mod single_calls;
 mod svg;
 mod tbb;
+mod threads;
 mod timing;
+mod whole_calls;
 
 use std::io;
 use std::process::ExitCode;
@@ -56,6 +60,8 @@ fn run(arguments: &Arguments) -> io::Result<()> {
             Part::Schedules => schedules::run(arguments)?,
             Part::InnerTurn => inner_turn::run(arguments),
             Part::Hold => hold::run(arguments),
+            Part::Threads => threads::run(arguments),
+            Part::NarrowCalls => programs::run_narrow(&arguments.narrow, arguments.rounds)?,
             Part::SingleCalls => single_calls::run(arguments),
             Part::Growth => growth::run(arguments)?,
         }

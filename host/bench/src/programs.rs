@@ -88,3 +88,15 @@ impl Drop for Pair<'_> {
         let _ = fs::remove_file(&self.input);
     }
 }
+
+/// The contest of narrow calls, which prints its part of the report.
+pub fn run_narrow(program: &Path, rounds: usize) -> io::Result<()> {
+    let status = Command::new(program).arg(rounds.to_string()).status();
+    let failed = match status {
+        Ok(status) if status.success() => return Ok(()),
+        Ok(status) => status.to_string(),
+        Err(error) => error.to_string(),
+    };
+    let message = format!("{}: {failed}", program.display());
+    Err(io::Error::new(io::ErrorKind::Other, message))
+}

@@ -13,7 +13,9 @@ pub struct Recorder {
 #[derive(Clone, Default)]
 pub struct Batch {
     pub bytes: Vec<u8>,
-    pub records: usize,
+    /// The same. (Who reads them from the bytes is a second caller of the second
+    /// program's reader, which is then not built into its loop.)
+    pub records: Vec<Record>,
     /// Records that are turns.
     pub turns: usize,
 }
@@ -32,7 +34,7 @@ impl Recorder {
 
     pub fn record(&mut self, record: Record) -> Answer {
         record.encode(&mut self.batch.bytes);
-        self.batch.records += 1;
+        self.batch.records.push(record);
         self.batch.turns += usize::from(matches!(record, Record::Step { .. }));
         self.program.apply(record)
     }
@@ -57,10 +59,10 @@ impl Recorder {
 impl Batch {
     /// The same batch again and again, up to about so many records.
     pub fn repeated(&self, records: usize) -> Self {
-        let times = (records / self.records).max(1);
+        let times = (records / self.records.len()).max(1);
         Self {
             bytes: self.bytes.repeat(times),
-            records: self.records * times,
+            records: self.records.repeat(times),
             turns: self.turns * times,
         }
     }

@@ -1,17 +1,18 @@
-//! Single calls: each looks at all lent memory, so one pass over it is the
-//! measure.
+//! Single calls that look at all lent memory, so one pass over it is the measure.
 
 use std::time::Duration;
 
-use wubraken::{Arrival, Pool, Shape, Step, Worker};
+use wubraken::{Shape, Worker};
 
 use crate::arguments::Arguments;
 use crate::report::{heading, row, Target};
-use crate::timing::{best, keep, nanoseconds_each, time};
+use crate::shapes::{ARRIVAL, LARGEST, SMALLEST};
+use crate::timing::{best, cycles_in_a_millisecond, keep, nanoseconds_each, time, SHORT};
+use crate::whole_calls::WholeCalls;
 
 pub fn run(arguments: &Arguments) {
     heading(
-        "Single calls: nanoseconds a call, and for one pass over the lent words",
+        "Single calls that look at all lent memory: nanoseconds a call, and for one pass over it",
         "(calls: put an arrival and take it again, start by start and turn by turn; every call looks\n \
          at every field of store and table, as refusal 3 asks. A pass adds up all words, two at a\n \
          time; or also finds the greatest; or compares them with a bound, up to the first above it.\n \
@@ -20,7 +21,7 @@ pub fn run(arguments: &Arguments) {
     for (name, shape) in [("smallest", SMALLEST), ("largest", LARGEST)] {
         let mut calls = Calls::new(shape);
         let [mut first, mut second, mut third] = [(); 3].map(|()| Lent::of(&calls.pool));
-        let cycles = calls.cycles_in_a_millisecond();
+        let cycles = cycles_in_a_millisecond(|| calls.time(1));
         let passes = cycles * calls.in_a_cycle;
         let [call, sum, greatest, bounded] = best(
             SHORT * arguments.rounds,
@@ -43,43 +44,25 @@ pub fn run(arguments: &Arguments) {
     }
 }
 
-/// A round takes about a millisecond, so there can be so many times more.
-const SHORT: usize = 10;
-
-const SMALLEST: Shape = Shape {
-    workers: 1,
-    nodes: 1,
-    buckets: 1,
-    width: 1,
-};
-
-const LARGEST: Shape = Shape {
-    workers: Shape::MAX_WORKERS,
-    nodes: Shape::MAX_NODES,
-    buckets: Shape::MAX_BUCKETS,
-    width: Shape::MAX_WIDTH,
-};
-
 /// Nanoseconds of one single call on a fresh pool.
 pub fn nanoseconds(shape: Shape, rounds: usize) -> f64 {
     let mut calls = Calls::new(shape);
-    let cycles = calls.cycles_in_a_millisecond();
+    let cycles = cycles_in_a_millisecond(|| calls.time(1));
     let [time] = best(SHORT * rounds, [&mut || vec![calls.time(cycles)]]);
     nanoseconds_each(time, cycles * calls.in_a_cycle)
 }
 
 /// A pool in which one arrival is put and taken, again and again.
 struct Calls {
-    pool: Pool,
+    pool: WholeCalls,
     /// Starts and turns of a put and a take.
     in_a_cycle: usize,
 }
 
 impl Calls {
     fn new(shape: Shape) -> Self {
-        let pool = Pool::new(shape).expect("the shape is within its limits");
         let mut calls = Self {
-            pool,
+            pool: WholeCalls::open(shape),
             in_a_cycle: 0,
         };
         calls.in_a_cycle = calls.cycle();
@@ -88,22 +71,16 @@ impl Calls {
 
     /// Answers the number of calls.
     fn cycle(&mut self) -> usize {
-        let arrival = Arrival {
-            time: 0,
-            path: 7,
-            order: 1,
-            distance: 3,
-        };
-        self.pool.enqueue(0, arrival).expect("a node is free");
+        self.pool.enqueue(ARRIVAL);
         let put = self.end();
-        self.pool.dequeue(0).expect("the worker is idle");
+        self.pool.dequeue();
         put + self.end() + 2
     }
 
     /// Turns until the call has ended.
     fn end(&mut self) -> usize {
         let mut turns = 1;
-        while let Step::On = self.pool.step(0).expect("a call is in progress") {
+        while self.pool.step() {
             turns += 1;
         }
         turns
@@ -116,11 +93,6 @@ impl Calls {
             }
         })
     }
-
-    fn cycles_in_a_millisecond(&mut self) -> usize {
-        let one = self.time(1).min(self.time(1));
-        (1_000_000 / one.as_nanos().max(1)).clamp(1, 10_000) as usize
-    }
 }
 
 /// A copy of the memory that a pool was lent.
@@ -132,7 +104,7 @@ struct Lent {
 }
 
 impl Lent {
-    fn of(pool: &Pool) -> Self {
+    fn of(pool: &WholeCalls) -> Self {
         let mut lent = Self {
             store: pool.store().to_vec(),
             table: pool.table().to_vec(),

@@ -29,6 +29,15 @@ pub fn time(action: impl FnOnce()) -> Duration {
     start.elapsed()
 }
 
+/// How often something can be done in about a millisecond.
+pub fn cycles_in_a_millisecond(mut cycle: impl FnMut() -> Duration) -> usize {
+    let one = cycle().min(cycle());
+    (1_000_000 / one.as_nanos().max(1)).clamp(1, 10_000) as usize
+}
+
+/// A round that takes about a millisecond can be made so many times more often.
+pub const SHORT: usize = 10;
+
 /// Nanoseconds for each of so many things.
 pub fn nanoseconds_each(time: Duration, count: usize) -> f64 {
     time.as_nanos() as f64 / count as f64

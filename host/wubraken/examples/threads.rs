@@ -1,12 +1,13 @@
 //! Threads that share one pool. Each is one worker, and locks the pool for one
-//! step at a time, so that the steps of all calls mix as the threads run.
+//! step at a time, so that the steps of all calls mix as the threads run; or for a
+//! whole call, which costs one lock and lets nobody else in until it has ended.
 //!
 //!     cargo run --release --offline -p wubraken --example threads
 
 use std::sync::Mutex;
 use std::thread;
 
-use wubraken::{Arrival, Pool, Refusal, Shape, Step};
+use wubraken::{Arrival, Pool, Refusal, Shape, Step, Take};
 
 /// Steps a worker's call to its end.
 fn finish(pool: &Mutex<Pool>, worker: u64) -> Result<Step, Refusal> {
@@ -38,16 +39,51 @@ fn take(pool: &Mutex<Pool>, worker: u64) -> Result<Option<Arrival>, Refusal> {
     }
 }
 
+/// A put under one lock. With all calls under one, nodes come free when arrivals
+/// are taken.
+fn put_in_one_go(pool: &Mutex<Pool>, worker: u64, arrival: Arrival) -> Result<(), Refusal> {
+    loop {
+        let put = pool.lock().unwrap().put(worker, arrival, u64::MAX);
+        match put {
+            Err(Refusal::NoNode) => thread::yield_now(),
+            Err(refusal) => return Err(refusal),
+            Ok(_) => return Ok(()),
+        }
+    }
+}
+
+/// A take under one lock.
+fn take_in_one_go(pool: &Mutex<Pool>, worker: u64) -> Result<Option<Arrival>, Refusal> {
+    match pool.lock().unwrap().take(worker, u64::MAX)? {
+        Take::Took(taken) => Ok(Some(taken.into())),
+        _ => Ok(None),
+    }
+}
+
+/// How a thread puts and takes.
+#[derive(Clone, Copy)]
+struct Way {
+    put: fn(&Mutex<Pool>, u64, Arrival) -> Result<(), Refusal>,
+    take: fn(&Mutex<Pool>, u64) -> Result<Option<Arrival>, Refusal>,
+}
+
+const A_LOCK_A_STEP: Way = Way { put, take };
+
+const A_LOCK_A_CALL: Way = Way {
+    put: put_in_one_go,
+    take: take_in_one_go,
+};
+
 /// How many arrivals each worker puts in.
 const ARRIVALS: u32 = 1_000;
 
 /// A worker puts arrivals in and, after each, takes the earliest out, its own or
 /// another's. There always is one: nobody takes more than he has put.
-fn work(pool: &Mutex<Pool>, worker: u64) -> Result<Vec<Arrival>, Refusal> {
+fn work(pool: &Mutex<Pool>, worker: u64, way: Way) -> Result<Vec<Arrival>, Refusal> {
     let mut taken = Vec::new();
     for nth in 0..ARRIVALS {
-        put(pool, worker, arrival(worker as u32 * ARRIVALS + nth))?;
-        taken.extend(take(pool, worker)?);
+        (way.put)(pool, worker, arrival(worker as u32 * ARRIVALS + nth))?;
+        taken.extend((way.take)(pool, worker)?);
     }
     Ok(taken)
 }
@@ -62,7 +98,8 @@ fn arrival(path: u32) -> Arrival {
     }
 }
 
-pub fn main() -> Result<(), Refusal> {
+/// Four threads, each with the way of its worker, until all has been put and taken.
+fn share(name: &str, ways: [Way; 4]) -> Result<(), Refusal> {
     let shape = Shape {
         workers: 4,
         nodes: 16,
@@ -73,7 +110,8 @@ pub fn main() -> Result<(), Refusal> {
 
     let taken = thread::scope(|scope| {
         let pool = &pool;
-        let threads = [0, 1, 2, 3].map(|worker| scope.spawn(move || work(pool, worker)));
+        let work = |worker| scope.spawn(move || work(pool, worker, ways[worker as usize]));
+        let threads = [0, 1, 2, 3].map(work);
         threads.map(|thread| thread.join().unwrap())
     });
 
@@ -83,8 +121,15 @@ pub fn main() -> Result<(), Refusal> {
     assert_eq!(taken, put);
     assert_eq!(take(&pool, 0)?, None);
     println!(
-        "4 threads put {} arrivals in, and took the same out",
+        "{name}: 4 threads put {} arrivals in, and took the same out",
         put.len()
     );
     Ok(())
+}
+
+pub fn main() -> Result<(), Refusal> {
+    let (step, call) = (A_LOCK_A_STEP, A_LOCK_A_CALL);
+    share("a lock a step", [step; 4])?;
+    share("a lock a call", [call; 4])?;
+    share("both in one pool", [step, call, step, call])
 }

@@ -3,7 +3,8 @@
 use crate::raw::{self, kind, stop};
 use crate::{Arrival, Refusal};
 
-/// The arrival that a dequeue took out.
+/// The arrival that a dequeue took out. In memory that was damaged a field may be
+/// past its limit; what needs more than 32 bits is then `u32::MAX`.
 #[derive(Clone, Copy, Debug, PartialEq, Eq, Hash)]
 pub struct Taken {
     /// In samples.
@@ -45,6 +46,30 @@ pub enum Step {
     Empty,
 }
 
+/// What a put led to.
+#[derive(Clone, Copy, Debug, PartialEq, Eq, Hash)]
+#[must_use]
+pub enum Put {
+    /// It has ended, with this ticket.
+    Stored(u64),
+    /// The turns are used up, and the call goes on: by
+    /// [`Pool::run`](crate::Pool::run) or [`Pool::step`](crate::Pool::step).
+    InProgress,
+}
+
+/// What a take led to.
+#[derive(Clone, Copy, Debug, PartialEq, Eq, Hash)]
+#[must_use]
+pub enum Take {
+    /// It has ended with an arrival.
+    Took(Taken),
+    /// It has ended, and found the pool empty.
+    Empty,
+    /// The turns are used up, and the call goes on: by
+    /// [`Pool::run`](crate::Pool::run) or [`Pool::step`](crate::Pool::step).
+    InProgress,
+}
+
 /// Why a batch was left.
 #[derive(Clone, Copy, Debug, PartialEq, Eq, Hash)]
 #[non_exhaustive]
@@ -72,7 +97,7 @@ pub struct BatchEnd {
 }
 
 /// The answer to an opening.
-pub(crate) fn opened(answer: raw::Answer) -> Result<(), Refusal> {
+pub(crate) fn opened(answer: &raw::Answer) -> Result<(), Refusal> {
     match answer.kind {
         kind::OPEN => Ok(()),
         _ => Err(refused(answer)),
@@ -80,7 +105,8 @@ pub(crate) fn opened(answer: raw::Answer) -> Result<(), Refusal> {
 }
 
 /// The answer to a start: the call's ticket.
-pub(crate) fn begun(answer: raw::Answer) -> Result<u64, Refusal> {
+#[inline]
+pub(crate) fn begun(answer: &raw::Answer) -> Result<u64, Refusal> {
     match answer.kind {
         kind::BEGUN => Ok(answer.ticket),
         _ => Err(refused(answer)),
@@ -88,19 +114,43 @@ pub(crate) fn begun(answer: raw::Answer) -> Result<u64, Refusal> {
 }
 
 /// The answer to a step.
-pub(crate) fn stepped(answer: raw::Answer) -> Result<Step, Refusal> {
+#[inline]
+pub(crate) fn stepped(answer: &raw::Answer) -> Result<Step, Refusal> {
     match answer.kind {
         kind::ON => Ok(Step::On),
         kind::STORED => Ok(Step::Stored(answer.ticket)),
-        kind::TOOK => Ok(Step::Took(Taken {
-            time: narrow(answer.time),
-            path: narrow(answer.path),
-            order: narrow(answer.order),
-            distance: narrow(answer.distance),
-            energy: narrow(answer.energy),
-        })),
+        kind::TOOK => Ok(Step::Took(taken(answer))),
         kind::EMPTY => Ok(Step::Empty),
         _ => Err(refused(answer)),
+    }
+}
+
+/// The answer to a start and turns of an enqueue.
+#[inline]
+pub(crate) fn put(answer: &raw::Answer) -> Result<Put, Refusal> {
+    match answer.kind {
+        kind::STORED => Ok(Put::Stored(answer.ticket)),
+        kind::BEGUN | kind::ON => Ok(Put::InProgress),
+        _ => Err(refused(answer)),
+    }
+}
+
+/// The answer to a start and turns of a dequeue.
+#[inline]
+pub(crate) fn take(answer: &raw::Answer) -> Result<Take, Refusal> {
+    match answer.kind {
+        kind::TOOK => Ok(Take::Took(taken(answer))),
+        kind::EMPTY => Ok(Take::Empty),
+        kind::BEGUN | kind::ON => Ok(Take::InProgress),
+        _ => Err(refused(answer)),
+    }
+}
+
+/// The answer to a step of no worker: what is refused before that.
+pub(crate) fn audited(answer: &raw::Answer) -> Result<(), Refusal> {
+    match refused(answer) {
+        Refusal::NoWorker => Ok(()),
+        refusal => Err(refusal),
     }
 }
 
@@ -117,24 +167,39 @@ pub(crate) fn ended(end: raw::BatchEnd) -> BatchEnd {
     }
 }
 
-/// A field of an arrival, which has 32 bits.
-fn narrow(field: u64) -> u32 {
-    field.try_into().unwrap_or_else(|_| another_library())
+#[inline]
+fn taken(answer: &raw::Answer) -> Taken {
+    Taken {
+        time: in_32_bits(answer.time),
+        path: in_32_bits(answer.path),
+        order: in_32_bits(answer.order),
+        distance: in_32_bits(answer.distance),
+        energy: in_32_bits(answer.energy),
+    }
 }
 
-fn refused(answer: raw::Answer) -> Refusal {
+/// A field of an arrival; the most that there is, if it needs more.
+#[inline]
+fn in_32_bits(field: u64) -> u32 {
+    field.try_into().unwrap_or(u32::MAX)
+}
+
+#[inline]
+fn refused(answer: &raw::Answer) -> Refusal {
     match answer.kind {
         kind::REFUSED => refusal(answer.number),
         _ => another_library(),
     }
 }
 
+#[inline]
 fn refusal(number: u64) -> Refusal {
     Refusal::from_number(number).unwrap_or_else(|| another_library())
 }
 
 /// The proved library gives no other answer.
 #[cold]
+#[inline(never)]
 fn another_library() -> ! {
     panic!("the linked library is not the one of this crate")
 }

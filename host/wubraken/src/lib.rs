@@ -1,10 +1,31 @@
 //! Wubraken, a pool of arrivals over memory that the host lends.
 //!
-//! The workers of a ray tracer put arrivals in and take the earliest out. A
-//! worker's call begins with [`Pool::enqueue`] or [`Pool::dequeue`] and goes on by
-//! [`Pool::step`], one shared word a step; the host deals the steps in any order.
-//! Whatever that order, the finished calls answer like a plain priority queue:
-//! the linked library is proved, and this crate only hands it slices.
+//! The workers of a ray tracer put arrivals in and take the earliest out:
+//!
+//! ```
+//! use wubraken::{Arrival, Pool, Put, Shape, Take};
+//!
+//! fn main() -> Result<(), wubraken::Refusal> {
+//!     let shape = Shape { workers: 2, nodes: 100, buckets: 16, width: 48 };
+//!     let mut pool = Pool::new(shape)?;
+//!
+//!     let arrival = Arrival { time: 5, path: 7, order: 1, distance: 3 };
+//!     assert_eq!(pool.put(0, arrival, u64::MAX)?, Put::Stored(1));
+//!
+//!     if let Take::Took(taken) = pool.take(1, u64::MAX)? {
+//!         assert_eq!((taken.time, taken.energy), (5, 1_864_135));
+//!     }
+//!     assert_eq!(pool.take(1, u64::MAX)?, Take::Empty);
+//!     Ok(())
+//! }
+//! ```
+//!
+//! The number behind a call says by how many turns it may go on before others get
+//! theirs. A worker's call can also begin by itself, with [`Pool::enqueue`] or
+//! [`Pool::dequeue`], and go on by [`Pool::step`], one shared word a step; the host
+//! deals the steps in any order. Whatever that order, the finished calls answer
+//! like a plain priority queue: the linked library is proved, and this crate only
+//! hands it slices.
 //!
 //! ```
 //! use wubraken::{Arrival, Pool, Shape, Step};
@@ -30,7 +51,8 @@
 //! ```
 //!
 //! [`Pool::run_batch`] works through a batch, a piece of a turn file, in one call.
-//! Threads that share a pool lock it for a step (`examples/threads.rs`).
+//! Threads that share a pool lock it for a step, or for a call
+//! (`examples/threads.rs`).
 //!
 //! The library is linked from the repository's `target/staticlib`, where
 //! `rt staticlib wubraken` and `rt staticlib wubraken_batch` write it, or from the
@@ -48,7 +70,7 @@ mod types;
 
 pub mod raw;
 
-pub use answer::{BatchEnd, Step, Stop, Taken};
+pub use answer::{BatchEnd, Put, Step, Stop, Take, Taken};
 pub use limits::OutsideLimits;
 pub use pool::Pool;
 pub use refusal::Refusal;

@@ -1,13 +1,19 @@
 //! The pool over its memory.
 
 use crate::raw;
-use crate::{answer, Arrival, BatchEnd, Refusal, Shape, Step, Worker};
+use crate::{answer, Arrival, BatchEnd, Put, Refusal, Shape, Step, Take, Worker};
+
+/// After so many no call can begin.
+const MOST_CALLS: u64 = u32::MAX as u64;
 
 /// A pool: its shape, a store of words and a table of workers' records.
 ///
-/// It owns its memory, or borrows it (`&mut [u64]`, `&mut [Worker]`). The pool
-/// tests what it is handed by itself, at every call; the wrapper tests nothing.
-/// A call asks `S` and `T` once for a slice and works on that one, so an
+/// It owns its memory, or borrows it (`&mut [u64]`, `&mut [Worker]`), and so has
+/// it to itself. A start or turn therefore looks only at what it needs, and a turn
+/// costs the same at every shape; [`Pool::audit`] looks at all.
+///
+/// The pool tests what it is handed by itself, at every call; the wrapper tests
+/// nothing. A call asks `S` and `T` once for a slice and works on that one, so an
 /// `AsMut` that answers another slice at every call does no harm: the call then
 /// speaks of the memory it got.
 #[derive(Clone, Debug)]
@@ -38,14 +44,18 @@ impl Pool {
 }
 
 impl<S, T> Pool<S, T> {
-    /// Memory as it is, whatever it holds. Each call says what is wrong with it.
+    /// Memory as it is, whatever it holds. Audit what comes from elsewhere first
+    /// ([`Pool::audit`]): the calls notice only what they look at. No memory makes
+    /// them unsafe, but on damaged memory they may answer nonsense, and never end.
     ///
     /// ```
     /// use wubraken::{Pool, Refusal, Shape, Worker};
     ///
     /// let shape = Shape { workers: 1, nodes: 1, buckets: 1, width: 1 };
     /// let mut pool = Pool::resume(shape, [u64::MAX; 12], [Worker::default()]);
-    /// assert_eq!(pool.step(0), Err(Refusal::OutOfRange));
+    /// assert_eq!(pool.audit(), Err(Refusal::OutOfRange));
+    /// assert_eq!(pool.reopen(shape), Ok(()));
+    /// assert_eq!(pool.audit(), Ok(()));
     /// ```
     pub fn resume(shape: Shape, store: S, table: T) -> Self {
         Self {
@@ -56,6 +66,7 @@ impl<S, T> Pool<S, T> {
     }
 
     /// The shape it was opened with last.
+    #[inline]
     pub fn shape(&self) -> Shape {
         self.shape
     }
@@ -68,15 +79,42 @@ impl<S, T> Pool<S, T> {
 
 impl<S: AsRef<[u64]>, T> Pool<S, T> {
     /// The words, laid out as `wubraken.h` says.
+    #[inline]
     pub fn store(&self) -> &[u64] {
         self.store.as_ref()
+    }
+
+    /// How many calls can still begin before [`Refusal::Exhausted`]; an opening
+    /// gives them back.
+    ///
+    /// ```
+    /// # use wubraken::{Pool, Shape};
+    /// # let shape = Shape { workers: 2, nodes: 100, buckets: 16, width: 48 };
+    /// let mut pool = Pool::new(shape)?;
+    /// assert_eq!(pool.calls_left(), 4_294_967_295);
+    /// pool.dequeue(0)?;
+    /// assert_eq!(pool.calls_left(), 4_294_967_294);
+    /// # Ok::<(), wubraken::Refusal>(())
+    /// ```
+    #[inline]
+    pub fn calls_left(&self) -> u64 {
+        let begun = self.store().get(1);
+        begun.map_or(0, |&begun| MOST_CALLS.saturating_sub(begun))
     }
 }
 
 impl<S, T: AsRef<[Worker]>> Pool<S, T> {
     /// The workers' records.
+    #[inline]
     pub fn table(&self) -> &[Worker] {
         self.table.as_ref()
+    }
+
+    /// Whether a worker has a call in progress; one that there is not has none.
+    #[inline]
+    pub fn in_progress(&self, worker: u64) -> bool {
+        let record = self.table().get(worker as usize);
+        worker < self.shape.workers && record.map_or(false, |record| record.stage != 0)
     }
 }
 
@@ -119,27 +157,116 @@ impl<S: AsMut<[u64]>, T: AsMut<[Worker]>> Pool<S, T> {
     /// Empties the pool and gives it a shape, in the memory it has. A refusal
     /// (1 or 2) leaves everything as it was.
     pub fn reopen(&mut self, shape: Shape) -> Result<(), Refusal> {
-        answer::opened(call!(self, wubraken_open(shape)))?;
+        answer::opened(&call!(self, wubraken_open(shape)))?;
         self.shape = shape;
         Ok(())
     }
 
+    /// Looks at every word and every record, once, and changes nothing: whether
+    /// the shape is within its limits (or refusal 1), the memory long enough (2) and
+    /// every field in its range (3).
+    ///
+    /// For memory that came from elsewhere; what only the pool has written to since
+    /// its opening is in order. Lists are not walked: in memory that no pool has left
+    /// they may lead in a circle, and a call needs a limit.
+    pub fn audit(&mut self) -> Result<(), Refusal> {
+        // Refused by 4 exactly where 1 to 3 do not apply.
+        let nobody = self.shape.workers;
+        answer::audited(&call!(self, wubraken_step(self.shape, nobody)))
+    }
+
     /// A worker begins to put an arrival in: the call's ticket, or refusal 1 to
-    /// 6, 9, 11 or 12.
+    /// 6, 9, 11 or 12. It goes on by [`Pool::step`] or [`Pool::run`].
+    #[inline]
     pub fn enqueue(&mut self, worker: u64, arrival: Arrival) -> Result<u64, Refusal> {
-        answer::begun(call!(self, wubraken_enqueue(self.shape, worker, arrival)))
+        let start = call!(
+            self,
+            wubraken_narrow_enqueue(self.shape, worker, arrival, 0)
+        );
+        answer::begun(&start)
     }
 
     /// A worker begins to take the earliest arrival out: the call's ticket, or
-    /// refusal 1 to 4, 9 or 11.
+    /// refusal 1 to 4, 9 or 11. It goes on by [`Pool::step`] or [`Pool::run`].
+    #[inline]
     pub fn dequeue(&mut self, worker: u64) -> Result<u64, Refusal> {
-        answer::begun(call!(self, wubraken_dequeue(self.shape, worker)))
+        answer::begun(&call!(self, wubraken_narrow_dequeue(self.shape, worker, 0)))
     }
 
-    /// A worker's call goes on by one shared word: what that led to, or refusal 1
-    /// to 4, 10 or 11.
+    /// A worker's call goes on by one turn, one shared word: what that led to, or
+    /// refusal 1 to 4, 10 or 11.
+    #[inline]
     pub fn step(&mut self, worker: u64) -> Result<Step, Refusal> {
-        answer::stepped(call!(self, wubraken_step(self.shape, worker)))
+        answer::stepped(&call!(self, wubraken_narrow_step(self.shape, worker, 0)))
+    }
+
+    /// A worker's call goes on by at most so many turns, until it has ended: what
+    /// the last of them led to, or refusal 1 to 4, 10 or 11 of the next. The same as
+    /// so many [`Pool::step`], and faster. 0 turns are [`Step::On`], whatever there is.
+    ///
+    /// ```
+    /// # use wubraken::{Pool, Shape, Step};
+    /// # let shape = Shape { workers: 2, nodes: 100, buckets: 16, width: 48 };
+    /// let mut pool = Pool::new(shape)?;
+    /// pool.dequeue(0)?;
+    /// assert_eq!(pool.run(0, 10)?, Step::On);
+    /// assert_eq!(pool.run(0, u64::MAX)?, Step::Empty);
+    /// # Ok::<(), wubraken::Refusal>(())
+    /// ```
+    #[inline]
+    pub fn run(&mut self, worker: u64, turns: u64) -> Result<Step, Refusal> {
+        match turns.checked_sub(1) {
+            None => Ok(Step::On),
+            Some(more) => {
+                let last = call!(self, wubraken_narrow_step(self.shape, worker, more));
+                answer::stepped(&last)
+            }
+        }
+    }
+
+    /// A worker puts an arrival in: [`Pool::enqueue`], then [`Pool::run`] by at most
+    /// so many turns; `u64::MAX` is as good as no limit. A limit that is used up
+    /// leaves the call in progress.
+    ///
+    /// Refusals 1 to 6, 9, 11 and 12 are of the start, and nothing has begun. A turn
+    /// can be refused too: by 11, where no epoch is left, or by 3 in damaged memory.
+    /// Then the call stays in progress, and [`Pool::in_progress`] says so.
+    ///
+    /// ```
+    /// use wubraken::{Arrival, Pool, Put, Shape, Step};
+    ///
+    /// let shape = Shape { workers: 2, nodes: 100, buckets: 16, width: 48 };
+    /// let mut pool = Pool::new(shape)?;
+    /// let arrival = Arrival { time: 5, path: 7, order: 1, distance: 3 };
+    /// assert_eq!(pool.put(0, arrival, u64::MAX)?, Put::Stored(1));
+    ///
+    /// // In parts, with calls of other workers in between.
+    /// assert_eq!(pool.put(0, arrival, 3)?, Put::InProgress);
+    /// assert_eq!(pool.put(1, arrival, u64::MAX)?, Put::Stored(3));
+    /// assert_eq!(pool.run(0, u64::MAX)?, Step::Stored(2));
+    /// # Ok::<(), wubraken::Refusal>(())
+    /// ```
+    #[inline]
+    pub fn put(&mut self, worker: u64, arrival: Arrival, turns: u64) -> Result<Put, Refusal> {
+        let last = call!(
+            self,
+            wubraken_narrow_enqueue(self.shape, worker, arrival, turns)
+        );
+        answer::put(&last)
+    }
+
+    /// A worker takes the earliest arrival out: [`Pool::dequeue`], then
+    /// [`Pool::run`] by at most so many turns; `u64::MAX` is as good as no limit. A
+    /// limit that is used up leaves the call in progress.
+    ///
+    /// Refusals 1 to 4, 9 and 11 are of the start, and nothing has begun. A turn is
+    /// refused only by 3, in damaged memory, and leaves the call in progress.
+    #[inline]
+    pub fn take(&mut self, worker: u64, turns: u64) -> Result<Take, Refusal> {
+        answer::take(&call!(
+            self,
+            wubraken_narrow_dequeue(self.shape, worker, turns)
+        ))
     }
 
     /// Works through the records of a turn file and writes one line a record, as

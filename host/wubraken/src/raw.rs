@@ -1,5 +1,9 @@
 //! The functions of `host/include/wubraken.h`, as C declares them.
 //!
+//! `wubraken_enqueue`, `wubraken_dequeue` and `wubraken_step` look at every field
+//! of the memory they are handed. The narrow ones look at what they need, and do
+//! the same on memory that only the pool writes to.
+//!
 //! They are unsafe for one reason only: pointers and lengths must be those of
 //! slices that lie apart. [`Pool`](crate::Pool) hands in nothing else.
 
@@ -105,6 +109,40 @@ extern "C" {
     pub fn wubraken_step(
         shape: Shape,
         worker: u64,
+        store: *mut u64,
+        words: usize,
+        table: *mut Worker,
+        records: usize,
+    ) -> Answer;
+
+    /// As `wubraken_enqueue`, narrow, and then at most so many turns.
+    pub fn wubraken_narrow_enqueue(
+        shape: Shape,
+        worker: u64,
+        arrival: Arrival,
+        turns: u64,
+        store: *mut u64,
+        words: usize,
+        table: *mut Worker,
+        records: usize,
+    ) -> Answer;
+
+    /// As `wubraken_dequeue`, narrow, and then at most so many turns.
+    pub fn wubraken_narrow_dequeue(
+        shape: Shape,
+        worker: u64,
+        turns: u64,
+        store: *mut u64,
+        words: usize,
+        table: *mut Worker,
+        records: usize,
+    ) -> Answer;
+
+    /// As `wubraken_step`, narrow, and then at most so many turns.
+    pub fn wubraken_narrow_step(
+        shape: Shape,
+        worker: u64,
+        turns: u64,
         store: *mut u64,
         words: usize,
         table: *mut Worker,

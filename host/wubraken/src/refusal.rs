@@ -5,8 +5,9 @@ use std::fmt;
 
 use crate::{Arrival, Shape};
 
-/// The reasons, by their numbers. Of several the lowest is answered, and a
-/// refused call changes nothing. As text, a refusal says what to do.
+/// The reasons, by their numbers. Of several the lowest is answered. What is
+/// refused, a start or a turn, changes nothing; turns before it are done. As
+/// text, a refusal says what to do.
 ///
 /// ```
 /// let text = wubraken::Refusal::Busy.to_string();
@@ -60,14 +61,16 @@ impl Refusal {
     ];
 
     /// The number that a `no` line prints.
+    #[inline]
     pub fn number(self) -> u64 {
         self as u64
     }
 
     /// The refusal of a number.
+    #[inline]
     pub fn from_number(number: u64) -> Option<Self> {
-        let mut all = Self::ALL.iter().copied();
-        all.find(|refusal| refusal.number() == number)
+        let place = number.checked_sub(1)?.try_into().ok()?;
+        Self::ALL.get::<usize>(place).copied()
     }
 }
 

@@ -1,4 +1,5 @@
-//! The single calls on any memory in range, against the second program.
+//! The single calls on any memory in range, against the second program. There the
+//! narrow ones are as the others.
 
 mod common;
 
@@ -30,21 +31,36 @@ fn any_worker(random: &mut Random, shape: Shape) -> u64 {
 
 fn any_call(random: &mut Random, shape: Shape) -> Call {
     let worker = any_worker(random, shape);
-    match random.below(16) {
+    let call = match random.below(16) {
         0..=2 => Call::Enqueue(worker, any_arrival(random, shape)),
         3..=5 => Call::Dequeue(worker),
         _ => Call::Step(worker),
+    };
+    match random.below(4) {
+        0 => call.narrow(0),
+        // Such memory may lead in a circle.
+        1 => call.narrow(random.below(12).into()),
+        _ => call,
     }
+}
+
+/// A narrow call without further turns is as the other.
+fn check_narrow(lent: &Both, shape: Shape, call: Call, whole: &Both, answer: raw::Answer) {
+    let mut narrow = lent.clone();
+    assert_eq!(narrow.call(shape, call.narrow(0)), answer, "{call:?}");
+    narrow.assert_same_memory(whole);
 }
 
 /// A worker's stage before a turn, the kind of its answer, and the stage after.
 type Turn = (u64, u64, u64);
 
 /// Makes a call, and notes the turn that it is. Left out are turns of no worker
-/// and those after stage 3 has left the ranges.
+/// and those refused since stage 3 has left the ranges.
 fn note(both: &mut Both, shape: Shape, call: Call, turns: &mut BTreeSet<Turn>) -> raw::Answer {
     let stage = |both: &Both| match call {
-        Call::Step(worker) => Some(both.record(worker as usize)?.stage),
+        Call::Step(worker) | Call::NarrowStep(worker, 0) => {
+            Some(both.record(worker as usize)?.stage)
+        }
         _ => None,
     };
     let before = stage(both);
@@ -105,8 +121,10 @@ fn every_call_on_any_memory_in_range() {
                 calls.extend(Call::of_worker(worker, any_arrival(random, shape)));
             }
             for call in calls {
-                let answer = note(&mut lent.clone(), shape, call, &mut turns);
+                let mut whole = lent.clone();
+                let answer = note(&mut whole, shape, call, &mut turns);
                 refusals.insert(answer.number);
+                check_narrow(&lent, shape, call, &whole, answer);
             }
 
             let mut lent = lent;

@@ -1,10 +1,15 @@
 //! Words beyond a shape's layout and records beyond its workers are not touched,
 //! not even read: the lengths count them, but they lie behind a fence. In a
-//! batch that is the shape of which it has the most workers.
+//! batch that is the shape of which it has the most workers. Of a narrow take or
+//! turn the same holds of the other workers' records, and of the words behind the
+//! last one of its rule.
 #![cfg(target_os = "linux")]
 
 mod common;
 
+use std::collections::BTreeSet;
+
+use common::both::Both;
 use common::draw::any_arrival;
 use common::fenced::Fenced;
 use common::lent::{Call, Lent};
@@ -13,7 +18,9 @@ use common::translate;
 use schedule::lent::{small_shape, Memory};
 use schedule::script::{bytes, put_arrival, take, turn};
 use schedule::Random;
+use second::layout::{field, LAST_ALLOCATED};
 use second::Record;
+use wubraken::raw::kind::{BEGUN, EMPTY, ON, REFUSED, STORED, TOOK};
 use wubraken::raw::{kind, stop};
 use wubraken::{Shape, Worker};
 
@@ -46,10 +53,14 @@ fn open(lent: Lent, shape: Shape) {
     assert_eq!(lent.call(shape, Call::Open).kind, kind::OPEN);
 }
 
-/// The numbers that a worker's calls are refused by.
-fn refusals(lent: Lent, random: &mut Random, shape: Shape, worker: u64) -> [u64; 3] {
+/// The numbers that a worker's calls are refused by, those of the narrow ones last.
+fn refusals(lent: Lent, random: &mut Random, shape: Shape, worker: u64) -> [u64; 6] {
     let arrival = any_arrival(random, shape);
-    Call::of_worker(worker, arrival).map(|call| lent.call(shape, call).number)
+    let [enqueue, dequeue, step] = Call::of_worker(worker, arrival);
+    // Such memory may lead in a circle.
+    let turns = random.below(12).into();
+    let [a, b, c] = Call::narrow_of_worker(worker, arrival, turns);
+    [enqueue, dequeue, step, a, b, c].map(|call| lent.call(shape, call).number)
 }
 
 /// The lines of a turn file.
@@ -77,7 +88,7 @@ fn single_calls_stay_inside() {
         }
         open(lent, shape);
         let no_record = lent.records as u64;
-        assert_eq!(refusals(lent, random, shape, no_record), [4; 3]);
+        assert_eq!(refusals(lent, random, shape, no_record), [4; 6]);
     });
 }
 
@@ -150,7 +161,91 @@ fn records_of_no_worker_are_refused() {
     on_each_memory("beyond, no worker", 0, |random, shape, lent| {
         open(lent, shape);
         for worker in shape.workers..lent.records as u64 {
-            assert_eq!(refusals(lent, random, shape, worker), [4; 3]);
+            assert_eq!(refusals(lent, random, shape, worker), [4; 6]);
         }
+    });
+}
+
+/// The last word that the turn of a record may touch, by its stage.
+fn last_word(shape: Shape, record: &Worker) -> u64 {
+    let head = |bucket| 2 + 1 + bucket;
+    let node = |node| head(shape.buckets) + 8 * node + 7;
+    let cell = |cell: u64| match cell.checked_sub(shape.buckets) {
+        None => head(cell),
+        Some(behind) => node(behind),
+    };
+    // A search of a dequeue may end, and answer what the own node holds.
+    let answered = match record.kind {
+        1 => node(record.own),
+        _ => 2,
+    };
+    match record.stage {
+        1 => head(record.bucket).max(answered),
+        2 => node(record.right).max(node(record.own)),
+        3 => cell(record.left).max(node(record.right)).max(answered),
+        4 => node(record.own),
+        5 => cell(record.left),
+        9 => head(record.bucket),
+        10 | 11 => node(record.right),
+        _ => 2,
+    }
+}
+
+/// The last word that a narrow start or turn of a worker may touch. Node 0 is free
+/// for a put.
+fn last_word_of(shape: Shape, call: Call, memory: &Memory) -> usize {
+    let last = match call {
+        Call::NarrowEnqueue(..) => 2 + shape.buckets + 8,
+        Call::NarrowStep(worker, _) => {
+            let records = translate::table_back(&memory.workers);
+            last_word(shape, &records[worker as usize])
+        }
+        _ => 2,
+    };
+    last as usize
+}
+
+/// On a take's start and on a turn the other records lie behind fences, on either
+/// side; on all, the words behind the last one that may be touched do.
+#[test]
+fn narrow_calls_touch_what_they_need() {
+    on_seeds("beyond, narrow calls", |random| {
+        let (mut store_pages, mut table_pages) = (Fenced::new(), Fenced::new());
+        let mut kinds = BTreeSet::new();
+        for _ in 0..MEMORIES {
+            let small = small_shape(random);
+            let shape = translate::shape_back(small);
+            let mut memory = Memory::in_range(random, small);
+            // The next node, when the search for a free one goes round, is 0.
+            memory.store[LAST_ALLOCATED] = shape.nodes - 1;
+            *memory.node_word(0, field::RECLAMATION) = 0;
+            let worker = random.draw() % shape.workers;
+            for call in Call::narrow_of_worker(worker, any_arrival(random, shape), 0) {
+                let mut both = Both::with_spare(&memory, 0, 0);
+                let expected = both.call(shape, call);
+                let words = last_word_of(shape, call, &memory) + 1;
+                let store = store_pages.lend(&memory.store[..words], true);
+                let table = translate::table_back(&memory.workers);
+                let (own, at_the_end) = (worker as usize, random.one_in(2));
+                let mut lent = match call {
+                    Call::NarrowEnqueue(..) => Lent::of(store, table_pages.lend(&table, true)),
+                    _ => {
+                        let record = table_pages.lend(&table[own..=own], at_the_end);
+                        let mut lent = Lent::of(store, record);
+                        lent.table = lent.table.wrapping_sub(own);
+                        lent
+                    }
+                };
+                (lent.words, lent.records) = (memory.store.len(), table.len());
+                assert_eq!(lent.call(shape, call), expected, "{call:?}");
+                assert_eq!(store, &both.store()[..words], "{call:?}");
+                // SAFETY: its record lies between the fences.
+                let record = unsafe { *lent.table.wrapping_add(own) };
+                assert_eq!(Some(record), both.record(own), "{call:?}");
+                kinds.insert(expected.kind);
+            }
+        }
+        let all = [BEGUN, ON, STORED, TOOK, EMPTY, REFUSED];
+        assert_eq!(kinds, BTreeSet::from(all));
     });
 }

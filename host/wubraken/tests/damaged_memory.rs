@@ -1,15 +1,18 @@
-//! Lent memory out of range, field by field and all over.
+//! Lent memory out of range, field by field and all over. A narrow call looks only
+//! at some fields, and goes on with whatever the others hold.
 
 mod common;
 
 use common::both::Both;
+use common::guarded::GARBAGE_RECORD;
 use common::lent::Call;
 use common::seeds::on_seeds;
-use common::{translate, ARRIVAL};
+use common::{shape, translate, ARRIVAL};
 use schedule::lent::{fields, small_shape, Field, Memory, RecordField};
 use schedule::Random;
-use wubraken::raw::kind;
-use wubraken::Shape;
+use second::layout::{field, node_at, HEADS};
+use wubraken::raw::{self, kind};
+use wubraken::{Shape, Worker};
 
 const MEMORIES: usize = 400;
 
@@ -26,6 +29,54 @@ fn is_out_of_range(memory: &Memory) -> bool {
     refused[0]
 }
 
+/// Whether a narrow call looks at a field before it does anything: at the first
+/// three words and at its worker's record; a put at every worker's.
+fn looks_at(call: Call, field: Field) -> bool {
+    match (field, call) {
+        (Field::Current | Field::Started | Field::LastAllocated, _) => true,
+        (Field::Head(_) | Field::Node(..), _) => false,
+        (Field::Record(..), Call::NarrowEnqueue(..)) => true,
+        (Field::Record(of, _), Call::NarrowDequeue(worker, _) | Call::NarrowStep(worker, _)) => {
+            of as u64 == worker
+        }
+        (Field::Record(..), other) => panic!("{other:?} is not narrow"),
+    }
+}
+
+/// Makes each narrow call of each worker, and of none, on memory with this field out
+/// of range: it is refused by 3 exactly where it looks at it.
+fn check_narrow(random: &mut Random, memory: &Memory, damaged: Field) {
+    let shape = translate::shape_back(memory.shape);
+    let lent = Both::with_spare(memory, 2, 1);
+    for worker in (0..=shape.workers).chain([u64::MAX]) {
+        for call in Call::narrow_of_worker(worker, ARRIVAL, 0) {
+            let is_refused = lent.clone().call(shape, call).number == 3;
+            assert_eq!(is_refused, looks_at(call, damaged), "{call:?} {damaged:?}");
+            // The second program says how far it goes.
+            let turns = random.below(MOST_TURNS).into();
+            lent.clone().call(shape, call.narrow(turns));
+        }
+    }
+}
+
+/// Turns of one narrow call: damaged memory may lead in a circle.
+const MOST_TURNS: u32 = 20;
+
+/// Narrow calls one after the other, whatever they are answered; how many did
+/// something.
+fn walk(random: &mut Random, lent: &mut Both, shape: Shape) -> u32 {
+    let mut done = 0;
+    for _ in 0..12 {
+        let worker = random.draw() % (shape.workers + 1);
+        let turns = random.below(MOST_TURNS).into();
+        let calls = Call::narrow_of_worker(worker, ARRIVAL, turns);
+        // Mostly turns.
+        let call = calls[random.choose(&[0, 1, 2, 2, 2])];
+        done += u32::from(lent.call(shape, call).kind != kind::REFUSED);
+    }
+    done
+}
+
 /// Refusals that come before 3, and the opening that needs no range.
 fn check_what_is_not_3(memory: &Memory) {
     let shape = translate::shape_back(memory.shape);
@@ -33,12 +84,14 @@ fn check_what_is_not_3(memory: &Memory) {
     assert_eq!(lent.clone().call(shape, Call::Open).kind, kind::OPEN);
 
     let wide = Shape { width: 0, ..shape };
-    assert_eq!(lent.clone().call(wide, Call::Step(0)).number, 1);
     let crowded = Shape {
         workers: shape.workers + 1,
         ..shape
     };
-    assert_eq!(lent.clone().call(crowded, Call::Step(0)).number, 2);
+    for call in [Call::Step(0), Call::NarrowStep(0, 5)] {
+        assert_eq!(lent.clone().call(wide, call).number, 1);
+        assert_eq!(lent.clone().call(crowded, call).number, 2);
+    }
 }
 
 #[test]
@@ -53,6 +106,9 @@ fn each_field_pushed_out_of_its_range() {
                 for value in memory.range(field).outside() {
                     *memory.at(field) = value;
                     assert!(is_out_of_range(&memory), "{field:?}: {value}");
+                    if random.one_in(4) {
+                        check_narrow(random, &memory, field);
+                    }
                 }
                 check_what_is_not_3(&memory);
                 *memory.at(field) = held;
@@ -122,7 +178,65 @@ fn damage_all_over() {
             // Whether anything was struck out of its range, both must say.
             is_out_of_range(&memory);
             check_what_is_not_3(&memory);
+            let mut lent = Both::with_spare(&memory, 2, 1);
+            walk(random, &mut lent, translate::shape_back(shape));
         }
+    });
+}
+
+/// Memory for a shape, every field of it this one number.
+fn all_of(shape: Shape, number: u64) -> (Vec<u64>, Vec<Worker>) {
+    let record = Worker {
+        stage: number,
+        kind: number,
+        own: number,
+        bucket: number,
+        left: number,
+        right: number,
+        seen: number,
+        current: number,
+        ticket: number,
+    };
+    let words = vec![number; shape.words().unwrap()];
+    (words, vec![record; shape.workers as usize])
+}
+
+#[test]
+fn all_ones() {
+    on_seeds("all ones", |random| {
+        for _ in 0..MEMORIES {
+            let shape = translate::shape_back(small_shape(random));
+            let (store, table) = all_of(shape, u64::MAX);
+            let lent = Both::new(&store, &table);
+            let workers = (0..=shape.workers).chain([u64::MAX]);
+            for call in workers.flat_map(|it| Call::narrow_of_worker(it, ARRIVAL, u64::MAX)) {
+                assert_eq!(lent.clone().call(shape, call).number, 3, "{call:?}");
+            }
+        }
+    });
+}
+
+/// What narrow calls look at first is in range, the rest is anything: they go on
+/// with the words they find.
+#[test]
+fn any_words_behind_those_looked_at() {
+    on_seeds("any words", |random| {
+        let mut done = 0;
+        for _ in 0..10 * MEMORIES {
+            let small = small_shape(random);
+            let shape = translate::shape_back(small);
+            let sound = Memory::in_range(random, small);
+            let (mut store, mut table) = all_of(shape, u64::MAX);
+            // Some links lead somewhere.
+            let some = [u64::MAX, random.draw(), 0, 1, 2, 3, 4, 5, 6, 7, 8, 9];
+            store.fill_with(|| random.choose(&some));
+            store[..HEADS].copy_from_slice(&sound.store[..HEADS]);
+            for (record, sound) in table.iter_mut().zip(translate::table_back(&sound.workers)) {
+                *record = random.choose(&[sound, sound, sound, sound, GARBAGE_RECORD]);
+            }
+            done += walk(random, &mut Both::new(&store, &table), shape);
+        }
+        assert!(done > 5 * MEMORIES as u32, "{done} calls did something");
     });
 }
 
@@ -134,4 +248,40 @@ fn strike(random: &mut Random, word: &mut u64) {
         2 => *word = random.draw(),
         _ => {}
     }
+}
+
+/// A take answers whatever its node holds; the energy at any distance is
+/// 2^24 / distance², rounded down.
+#[test]
+fn arrivals_past_their_limits() {
+    on_seeds("past their limits", |random| {
+        let shape = shape(1, 2, 2, 10);
+        let mut lent = Both::garbage(shape.words().unwrap(), 1);
+        lent.call(shape, Call::Open);
+        lent.call(shape, Call::NarrowEnqueue(0, ARRIVAL, u64::MAX));
+        let distances = [0, 1, 1_024, 1_025, 2_896, 2_897, 4_095, 4_096, 4_097];
+        let wide = [1 << 32, 1 << 32 | 3, 1 << 48, u64::MAX];
+        for distance in distances.into_iter().chain(wide) {
+            let mut store = lent.store().to_vec();
+            let node = &mut store[node_at(2, 0)..];
+            node[field::DISTANCE] = distance;
+            for word in [field::TIME, field::PATH, field::ORDER] {
+                node[word] = random.choose(&[0, 1 << 16, 1 << 32, u64::MAX]);
+            }
+            let (time, path, order) = (node[field::TIME], node[field::PATH], node[field::ORDER]);
+            let mut lent = Both::new(&store, lent.table());
+            let answer = lent.call(shape, Call::NarrowDequeue(0, u64::MAX));
+            let square = u128::from(distance).pow(2);
+            let expected = raw::Answer {
+                kind: kind::TOOK,
+                time,
+                path,
+                order,
+                distance,
+                energy: (1_u128 << 24).checked_div(square).unwrap_or(0) as u64,
+                ..raw::Answer::default()
+            };
+            assert_eq!(answer, expected);
+        }
+    });
 }

@@ -6,13 +6,25 @@ mod common;
 
 use common::draw::{any_arrival, any_memory, Drawn};
 use common::fenced::Fenced;
+use common::lent::{Call, Lent};
 use common::seeds::on_seeds;
 use common::{shape, translate};
 use schedule::lent::small_shape;
 use schedule::{write_damaged, Options, Random};
-use wubraken::{Pool, Worker};
+use wubraken::{Pool, Shape, Worker};
 
-/// Every call, one after the other; all that they answer.
+/// Calls that look at all of the memory, one after the other; all that they answer.
+fn whole_calls(random: &mut Random, shape: Shape, lent: Lent) -> String {
+    let calls = (0..8).map(|_| {
+        let worker = random.draw() % 4;
+        let calls = Call::of_worker(worker, any_arrival(random, shape));
+        let call = random.choose(&calls);
+        format!("{:?}", lent.call(shape, call))
+    });
+    calls.collect()
+}
+
+/// Every call of a pool, one after the other; all that they answer.
 fn all_calls<S: AsMut<[u64]>, T: AsMut<[Worker]>>(
     random: &mut Random,
     pool: &mut Pool<S, T>,
@@ -23,9 +35,14 @@ fn all_calls<S: AsMut<[u64]>, T: AsMut<[Worker]>>(
     for _ in 0..16 {
         let worker = random.draw() % 4;
         let shape = pool.shape();
-        said += &match random.below(8) {
+        let turns = random.below(12).into();
+        said += &match random.below(12) {
             0 => format!("{:?}", pool.enqueue(worker, any_arrival(random, shape))),
             1 => format!("{:?}", pool.dequeue(worker)),
+            2 => format!("{:?}", pool.put(worker, any_arrival(random, shape), turns)),
+            3 => format!("{:?}", pool.take(worker, turns)),
+            4 => format!("{:?}", pool.run(worker, turns)),
+            5 => format!("{:?}", pool.audit()),
             _ => format!("{:?}", pool.step(worker)),
         };
     }
@@ -52,7 +69,11 @@ fn one_round(
     let at_the_end = random.one_in(2);
     let small = small_shape(random);
     let shape = translate::shape_back(small);
-    let Drawn { store, table, .. } = any_memory(random, small);
+    let Drawn {
+        mut store,
+        mut table,
+        ..
+    } = any_memory(random, small);
     let mut file = Vec::new();
     let records = random.below(40).into();
     write_damaged(random.draw(), records, Options::default(), &mut file).unwrap();
@@ -62,11 +83,16 @@ fn one_round(
     let lent_table = table_pages.lend(&table, at_the_end);
     let lent_file = file_pages.lend(&file, at_the_end);
     let lent_out = out_pages.lend(&out, at_the_end);
+    let mut again = random.clone();
+    let fenced = Lent::of(lent_store, lent_table);
+    let mut said = whole_calls(&mut again, shape, fenced);
     let mut lent = Pool::resume(shape, lent_store, lent_table);
-    let said = all_calls(&mut random.clone(), &mut lent, lent_file, lent_out);
+    said += &all_calls(&mut again, &mut lent, lent_file, lent_out);
 
+    let mut expected = whole_calls(random, shape, Lent::of(&mut store, &mut table));
     let mut plain = Pool::resume(shape, store, table);
-    assert_eq!(said, all_calls(random, &mut plain, &file, &mut out));
+    expected += &all_calls(random, &mut plain, &file, &mut out);
+    assert_eq!(said, expected);
     assert_eq!((lent.store(), lent.table()), (plain.store(), plain.table()));
     assert_eq!(lent_out, out);
 }

@@ -7,6 +7,8 @@ use wubraken::raw::{kind, stop, Answer, BatchEnd};
 use wubraken::{Arrival, Refusal, Shape, Worker, LINE};
 
 const HEADER: &str = include_str!("../../include/wubraken.h");
+const RAW: &str = include_str!("../src/raw.rs");
+const POOL: &str = include_str!("../src/pool.rs");
 
 /// Fields of a struct of the header, by name and type, in their order.
 fn declared(name: &str) -> Vec<(String, String)> {
@@ -68,6 +70,17 @@ fn structs_are_declared_alike() {
     check!(BatchEnd "wubraken_batch_end" 56 BatchEnd::default(),
         shape: "wubraken_shape" at 0, read: "uint64_t" at 32,
         written: "uint64_t" at 40, stop: "uint64_t" at 48);
+    let handle = [
+        ("shape", "wubraken_shape"),
+        ("*store", "uint64_t"),
+        ("words", "size_t"),
+        ("*table", "wubraken_worker"),
+        ("records", "size_t"),
+    ];
+    assert_eq!(
+        declared("wubraken_pool"),
+        handle.map(|(name, kind)| (name.to_string(), kind.to_string()))
+    );
     assert_eq!(
         [
             align_of::<Shape>(),
@@ -136,4 +149,116 @@ fn texts_of_refusals_are_the_same() {
 fn words_to_lend_by_macro() {
     let words = format!("({HEADS} + (buckets) + {NODE_WORDS} * (nodes))\n");
     assert!(HEADER.contains(&format!("WUBRAKEN_WORDS(nodes, buckets) {words}")));
+}
+
+/// A function: its name, its parameters by name and type, and what it gives back.
+type Function = (String, Vec<(String, String)>, String);
+
+/// The functions that the header only declares: their types as Rust has them.
+fn functions_in_c() -> Vec<Function> {
+    let text = without_comments(HEADER);
+    let mut functions = Vec::new();
+    for statement in text.split([';', '}']) {
+        // What stands inside a function is indented.
+        let last = statement.rsplit("\n\n").next().unwrap();
+        let last = last.trim_start_matches('\n').trim_end();
+        let (head, parameters) = match last.split_once('(') {
+            Some((head, rest)) if !last.starts_with(' ') => (head, rest),
+            _ => continue,
+        };
+        if let ([kind, name], Some(list)) = (&words(head)[..], parameters.strip_suffix(')')) {
+            let parameters = list.split(',').map(parameter_in_c).collect();
+            functions.push((name.to_string(), parameters, type_in_rust(kind, false)));
+        }
+    }
+    functions
+}
+
+fn words(text: &str) -> Vec<&str> {
+    text.split_whitespace().collect()
+}
+
+/// `const uint8_t *input` is `input: *const u8`.
+fn parameter_in_c(text: &str) -> (String, String) {
+    let words = words(text);
+    let (name, kind) = words.split_last().unwrap();
+    let is_pointer = name.starts_with('*');
+    let kind = type_in_rust(&kind.join(" "), is_pointer);
+    (name.trim_start_matches('*').to_string(), kind)
+}
+
+fn type_in_rust(kind: &str, is_pointer: bool) -> String {
+    let (access, kind) = match kind.strip_prefix("const ") {
+        Some(kind) => ("*const ", kind),
+        None => ("*mut ", kind),
+    };
+    let name = match kind {
+        "uint64_t" => "u64",
+        "uint8_t" => "u8",
+        "size_t" => "usize",
+        "wubraken_shape" => "Shape",
+        "wubraken_arrival" => "Arrival",
+        "wubraken_worker" => "Worker",
+        "wubraken_answer" => "Answer",
+        "wubraken_batch_end" => "BatchEnd",
+        other => panic!("{other} is new"),
+    };
+    format!("{}{name}", if is_pointer { access } else { "" })
+}
+
+/// The functions that the wrapper declares.
+fn functions_in_rust() -> Vec<Function> {
+    let functions = RAW.split("    pub fn ").skip(1).map(|text| {
+        let (name, rest) = text.split_once('(').unwrap();
+        let (list, rest) = rest.split_once(") -> ").unwrap();
+        let parameters = list.split(',').filter_map(|each| {
+            let (name, kind) = each.trim().split_once(": ")?;
+            Some((name.to_string(), kind.to_string()))
+        });
+        let result = rest.split_once(';').unwrap().0;
+        (name.to_string(), parameters.collect(), result.to_string())
+    });
+    functions.collect()
+}
+
+#[test]
+fn functions_are_declared_alike() {
+    let functions = functions_in_c();
+    assert_eq!(functions, functions_in_rust());
+    assert_eq!(functions.len(), 9);
+}
+
+/// The handle has a function for each method of a pool that works on it, with the
+/// same parameters; what else a pool has, C has in its struct.
+#[test]
+fn the_handle_has_the_methods_of_a_pool() {
+    let methods = POOL.split("    pub fn ").skip(1).map(|text| {
+        let (name, rest) = text.split_once('(').unwrap();
+        let list = rest.split_once(") ->").unwrap().0;
+        let names = list
+            .split(',')
+            .filter_map(|each| each.trim().split_once(": "));
+        (name, names.map(|(name, _)| name).collect::<Vec<_>>())
+    });
+    let in_rust_only = ["new", "resume", "shape", "into_parts", "store", "table"];
+    let mut methods: Vec<_> = methods
+        .filter(|(name, _)| !in_rust_only.contains(name))
+        .collect();
+    let text = without_comments(HEADER);
+    let handle = text.split("wubraken_pool_").skip(1).filter_map(|text| {
+        let (name, rest) = text.split_once('(').unwrap();
+        let list = rest.split_once(')').unwrap().0;
+        // A call has no types.
+        let mut parameters = list.split(',').map(words);
+        let is_declared = parameters.next()?.contains(&"wubraken_pool");
+        let names = parameters.map(|each| each.last().unwrap().trim_start_matches('*'));
+        // Lengths come with the slices.
+        let names = names.filter(|name| !["words", "records", "bytes", "room"].contains(name));
+        is_declared.then(|| (name, names.collect::<Vec<_>>()))
+    });
+    let mut handle: Vec<_> = handle.collect();
+    methods.sort();
+    handle.sort();
+    assert_eq!(handle, methods);
+    assert_eq!(handle.len(), 12);
 }

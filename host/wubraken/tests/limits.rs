@@ -57,6 +57,7 @@ fn is_within_limits(shape: Shape) -> bool {
 fn every_call(worker: u64) -> Vec<Call> {
     let mut calls = vec![Call::Open];
     calls.extend(Call::of_worker(worker, ARRIVAL));
+    calls.extend(Call::narrow_of_worker(worker, ARRIVAL, u64::MAX));
     calls
 }
 
@@ -185,6 +186,10 @@ fn corners_of_the_limits() {
                     (true, true) => Call::Enqueue(worker, arrival),
                     (true, false) => Call::Dequeue(worker),
                 };
+                let call = match random.below(4) {
+                    0 => call.narrow(random.choose(&[0, 1, 2, u64::MAX])),
+                    _ => call,
+                };
                 let answer = lent.call(shape, call);
                 let ends = [kind::STORED, kind::TOOK, kind::EMPTY];
                 ended += u32::from(ends.contains(&answer.kind));
@@ -194,8 +199,14 @@ fn corners_of_the_limits() {
                 time: last.wrapping_add(1),
                 ..ARRIVAL
             };
-            assert_eq!(lent.call(shape, Call::Enqueue(0, late)).number, 6);
-            assert_eq!(lent.call(shape, Call::Step(shape.workers)).number, 4);
+            for call in [Call::Enqueue(0, late), Call::NarrowEnqueue(0, late, 9)] {
+                assert_eq!(lent.call(shape, call).number, 6);
+            }
+            for worker in [shape.workers, 1 << 32, u64::MAX] {
+                for call in every_call(worker).into_iter().skip(1) {
+                    assert_eq!(lent.call(shape, call).number, 4, "{call:?}");
+                }
+            }
         }
     });
 }

@@ -6,9 +6,9 @@ use std::collections::HashSet;
 
 use common::{shape, ARRIVAL};
 use schedule::to_the_end;
-use second::layout::STARTED;
+use second::layout::{field, node_at, CURRENT, STARTED};
 use second::word::MAX_COUNT;
-use wubraken::{Arrival, BatchEnd, Pool, Refusal, Shape, Step, Stop, Taken, Worker};
+use wubraken::{Arrival, BatchEnd, Pool, Put, Refusal, Shape, Step, Stop, Take, Taken, Worker};
 
 const SHAPE: Shape = shape(2, 2, 2, 10);
 
@@ -113,6 +113,203 @@ fn numbers_and_sentences_of_refusals() {
     }
 }
 
+/// What comes out after [`ARRIVAL`] was put in.
+const TAKEN: Taken = Taken {
+    time: 5,
+    path: 7,
+    order: 1,
+    distance: 3,
+    energy: 1_864_135,
+};
+
+/// Alone, a put has 5 turns and a take of it 7.
+#[test]
+fn put_and_take_up_to_a_limit() {
+    for turns in 0..10 {
+        let mut pool = open();
+        let put = pool.put(0, ARRIVAL, turns);
+        assert_eq!(pool.in_progress(0), turns < 5);
+        match turns {
+            0..=4 => {
+                assert_eq!(put, Ok(Put::InProgress));
+                assert_eq!(pool.put(0, ARRIVAL, turns), Err(Refusal::Busy));
+                assert_eq!(pool.take(0, turns), Err(Refusal::Busy));
+                assert_eq!(pool.run(0, u64::MAX), Ok(Step::Stored(1)));
+            }
+            _ => assert_eq!(put, Ok(Put::Stored(1))),
+        }
+        let take = pool.take(1, turns);
+        assert_eq!(pool.in_progress(1), turns < 7);
+        match turns {
+            0..=6 => {
+                assert_eq!(take, Ok(Take::InProgress));
+                assert_eq!(pool.run(1, u64::MAX), Ok(Step::Took(TAKEN)));
+            }
+            _ => assert_eq!(take, Ok(Take::Took(TAKEN))),
+        }
+        assert_eq!(pool.take(0, u64::MAX), Ok(Take::Empty));
+        assert_eq!(pool.calls_left(), MAX_COUNT - 3);
+    }
+}
+
+/// A run is as many steps.
+#[test]
+fn runs_up_to_a_limit() {
+    let mut pool = open();
+    assert_eq!(pool.run(0, 1), Err(Refusal::Idle));
+    assert_eq!(pool.enqueue(0, ARRIVAL), Ok(1));
+    for turns in 0..10 {
+        let (mut run, mut steps) = (pool.clone(), pool.clone());
+        let mut last = Ok(Step::On);
+        for _ in 0..turns {
+            if last == Ok(Step::On) {
+                last = steps.step(0);
+            }
+        }
+        assert_eq!(run.run(0, turns), last);
+        assert_eq!(run.store(), steps.store());
+        assert_eq!(run.table(), steps.table());
+    }
+}
+
+/// No turn is nothing at all, even where every turn would be refused.
+#[test]
+fn a_run_of_no_turn_does_nothing() {
+    for shape in [SHAPE, Shape::default()] {
+        let mut pool = Pool::resume(shape, [u64::MAX; 3], [] as [Worker; 0]);
+        for worker in [0, 2, u64::MAX] {
+            assert_eq!(pool.run(worker, 0), Ok(Step::On));
+        }
+        assert_eq!(pool.store(), [u64::MAX; 3]);
+    }
+}
+
+/// The start is refused, and nothing has begun; or a turn is, and the call stays.
+#[test]
+fn a_put_with_no_epoch_left() {
+    let (mut store, table) = open().into_parts();
+    store[CURRENT] = MAX_COUNT;
+    let mut pool = Pool::resume(SHAPE, store, table);
+    assert_eq!(pool.put(0, ARRIVAL, u64::MAX), Err(Refusal::Exhausted));
+    assert!(pool.in_progress(0));
+    assert_eq!(pool.run(0, u64::MAX), Err(Refusal::Exhausted));
+    assert_eq!(pool.audit(), Ok(()));
+    // A take finds the arrival all the same.
+    assert_eq!(pool.take(1, u64::MAX), Ok(Take::Took(TAKEN)));
+
+    let (mut store, table) = open().into_parts();
+    store[STARTED] = MAX_COUNT;
+    let mut pool = Pool::resume(SHAPE, store, table);
+    assert_eq!(pool.put(0, ARRIVAL, u64::MAX), Err(Refusal::Exhausted));
+    assert!(!pool.in_progress(0));
+}
+
+/// Turns that went before are done.
+#[test]
+fn a_put_in_damaged_memory() {
+    let (mut store, table) = open().into_parts();
+    // The head of bucket 0 leads nowhere.
+    store[3] = 1 << 40;
+    let mut pool = Pool::resume(SHAPE, store, table);
+    assert_eq!(pool.put(0, ARRIVAL, u64::MAX), Err(Refusal::OutOfRange));
+    assert!(pool.in_progress(0));
+    assert_eq!(pool.table()[0].right, 1 << 39);
+    assert_eq!(pool.audit(), Err(Refusal::OutOfRange));
+}
+
+#[test]
+fn calls_in_progress() {
+    let mut pool = Pool::open(SHAPE, [0; 30], [Worker::default(); 3]).unwrap();
+    assert_eq!(pool.dequeue(1), Ok(1));
+    let in_progress = [0, 1, 2, 3, u64::MAX].map(|worker| pool.in_progress(worker));
+    assert_eq!(in_progress, [false, true, false, false, false]);
+    let (store, mut table) = pool.into_parts();
+    // A record that is no worker's, and a worker's that there is not.
+    table[2].stage = 1;
+    assert!(!Pool::resume(SHAPE, store, table).in_progress(2));
+    assert!(!Pool::resume(SHAPE, store, &table[..1]).in_progress(1));
+}
+
+#[test]
+fn calls_left_before_11() {
+    let mut pool = open();
+    assert_eq!(pool.calls_left(), 4_294_967_295);
+    for left in [4_294_967_294, 4_294_967_293] {
+        assert_eq!(pool.put(0, ARRIVAL, u64::MAX).map(drop), Ok(()));
+        assert_eq!(pool.calls_left(), left);
+    }
+    let left = |begun| Pool::resume(SHAPE, [0, begun], ()).calls_left();
+    let begun = [MAX_COUNT - 1, MAX_COUNT, MAX_COUNT + 1, u64::MAX];
+    assert_eq!(begun.map(left), [1, 0, 0, 0]);
+    assert_eq!(Pool::resume(SHAPE, [0], ()).calls_left(), 0);
+}
+
+/// The last start that can begin does, and the next is refused.
+#[test]
+fn the_last_call() {
+    let (mut store, table) = open().into_parts();
+    store[STARTED] = MAX_COUNT - 1;
+    let mut pool = Pool::resume(SHAPE, store, table);
+    assert_eq!(pool.calls_left(), 1);
+    assert_eq!(pool.put(0, ARRIVAL, u64::MAX), Ok(Put::Stored(MAX_COUNT)));
+    assert_eq!(pool.calls_left(), 0);
+    assert_eq!(pool.take(0, u64::MAX), Err(Refusal::Exhausted));
+}
+
+#[test]
+fn an_audit_looks_at_all_and_changes_nothing() {
+    let mut pool = open();
+    assert_eq!(pool.put(0, ARRIVAL, 3), Ok(Put::InProgress));
+    assert_eq!(pool.audit(), Ok(()));
+    let (store, table) = pool.into_parts();
+    for place in 0..store.len() {
+        let mut damaged = store.clone();
+        damaged[place] = u64::MAX;
+        let mut pool = Pool::resume(SHAPE, damaged.clone(), table.clone());
+        assert_eq!(pool.audit(), Err(Refusal::OutOfRange), "word {place}");
+        assert_eq!(pool.into_parts(), (damaged, table.clone()));
+    }
+    for worker in 0..table.len() {
+        let mut damaged = table.clone();
+        damaged[worker].seen = u64::MAX;
+        let mut pool = Pool::resume(SHAPE, store.clone(), damaged.clone());
+        assert_eq!(pool.audit(), Err(Refusal::OutOfRange), "worker {worker}");
+        assert_eq!(pool.into_parts(), (store.clone(), damaged));
+    }
+    let bad = Shape { width: 0, ..SHAPE };
+    let audited = |shape, words, records| {
+        let (store, table) = (&mut store.clone()[..words], &mut table.clone()[..records]);
+        Pool::resume(shape, store, table).audit()
+    };
+    assert_eq!(audited(bad, 21, 2), Err(Refusal::BadShape));
+    assert_eq!(audited(SHAPE, 20, 2), Err(Refusal::TooShort));
+    assert_eq!(audited(SHAPE, 21, 1), Err(Refusal::TooShort));
+    assert_eq!(audited(SHAPE, 21, 2), Ok(()));
+}
+
+/// Memory that was damaged in a node is not noticed by those that do not look.
+#[test]
+fn an_arrival_that_does_not_fit() {
+    let mut pool = open();
+    assert_eq!(pool.put(0, ARRIVAL, u64::MAX), Ok(Put::Stored(1)));
+    let (mut store, table) = pool.into_parts();
+    let node = node_at(2, 0);
+    store[node + field::PATH] = u64::MAX;
+    store[node + field::ORDER] = 1 << 32;
+    store[node + field::DISTANCE] = (1 << 32) - 1;
+    let mut pool = Pool::resume(SHAPE, store, table);
+    assert_eq!(pool.audit(), Err(Refusal::OutOfRange));
+    let taken = Taken {
+        path: u32::MAX,
+        order: u32::MAX,
+        distance: u32::MAX,
+        energy: 0,
+        ..TAKEN
+    };
+    assert_eq!(pool.take(0, u64::MAX), Ok(Take::Took(taken)));
+    assert!(Arrival::from(taken).check(&SHAPE).is_err());
+}
+
 /// A put and a take of one worker, in whatever memory.
 fn put_and_take<S: AsMut<[u64]>, T: AsMut<[Worker]>>(mut pool: Pool<S, T>) -> (S, T) {
     assert_eq!(pool.enqueue(0, ARRIVAL), Ok(1));
@@ -123,15 +320,8 @@ fn put_and_take<S: AsMut<[u64]>, T: AsMut<[Worker]>>(mut pool: Pool<S, T>) -> (S
     for _ in 0..6 {
         assert_eq!(pool.step(0), Ok(Step::On));
     }
-    let taken = Taken {
-        time: 5,
-        path: 7,
-        order: 1,
-        distance: 3,
-        energy: 1_864_135,
-    };
-    assert_eq!(pool.step(0), Ok(Step::Took(taken)));
-    assert_eq!(Arrival::from(taken), ARRIVAL);
+    assert_eq!(pool.step(0), Ok(Step::Took(TAKEN)));
+    assert_eq!(Arrival::from(TAKEN), ARRIVAL);
     pool.into_parts()
 }
 

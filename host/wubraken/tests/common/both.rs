@@ -83,7 +83,14 @@ impl Both {
             }
             Call::Dequeue(worker) => self.second.take(worker as usize),
             Call::Step(worker) => self.second.turn(worker as usize),
+            narrow => call_second_narrow(&mut self.second, narrow),
         }
+    }
+
+    /// Fails where the memory is not that of the other.
+    pub fn assert_same_memory(&self, other: &Self) {
+        assert_eq!(self.store(), other.store());
+        assert_eq!(self.table(), other.table());
     }
 
     /// Runs a batch into so many bytes of room: how far, and the lines.
@@ -158,5 +165,22 @@ impl Both {
         );
         let table = translate::table(self.table.contents());
         assert_eq!(table, self.second.workers, "{shape:?} {call:?}");
+    }
+}
+
+fn call_second_narrow(memory: &mut Memory, call: Call) -> Answer {
+    let (shape, store, workers) = (memory.shape, &mut memory.store, &mut memory.workers);
+    match call {
+        Call::NarrowEnqueue(worker, arrival, turns) => {
+            let (worker, arrival) = (worker as usize, translate::arrival(arrival));
+            second::narrow_enqueue_start(shape, store, workers, worker, arrival, turns)
+        }
+        Call::NarrowDequeue(worker, turns) => {
+            second::narrow_dequeue_start(shape, store, workers, worker as usize, turns)
+        }
+        Call::NarrowStep(worker, turns) => {
+            second::narrow_step(shape, store, workers, worker as usize, turns)
+        }
+        other => panic!("{other:?} is not narrow"),
     }
 }

@@ -1,6 +1,7 @@
 //! Memory as C hands it in, and the calls on it.
 
 use wubraken::raw::{self, wubraken_dequeue, wubraken_enqueue, wubraken_open, wubraken_step};
+use wubraken::raw::{wubraken_narrow_dequeue, wubraken_narrow_enqueue, wubraken_narrow_step};
 use wubraken::{Arrival, Shape, Worker};
 
 #[derive(Clone, Copy, Debug)]
@@ -9,16 +10,39 @@ pub enum Call {
     Enqueue(u64, Arrival),
     Dequeue(u64),
     Step(u64),
+    /// The narrow ones, with the most turns that follow.
+    NarrowEnqueue(u64, Arrival, u64),
+    NarrowDequeue(u64, u64),
+    NarrowStep(u64, u64),
 }
 
 impl Call {
-    /// What a worker may do.
+    /// What a worker may do, looking at all lent memory.
     pub fn of_worker(worker: u64, arrival: Arrival) -> [Self; 3] {
         [
             Self::Enqueue(worker, arrival),
             Self::Dequeue(worker),
             Self::Step(worker),
         ]
+    }
+
+    /// The same as narrow calls with so many turns.
+    pub fn narrow_of_worker(worker: u64, arrival: Arrival, turns: u64) -> [Self; 3] {
+        Self::of_worker(worker, arrival).map(|call| call.narrow(turns))
+    }
+
+    /// The narrow call of the same kind.
+    pub fn narrow(self, turns: u64) -> Self {
+        match self {
+            Self::Open => self,
+            Self::Enqueue(worker, arrival) | Self::NarrowEnqueue(worker, arrival, _) => {
+                Self::NarrowEnqueue(worker, arrival, turns)
+            }
+            Self::Dequeue(worker) | Self::NarrowDequeue(worker, _) => {
+                Self::NarrowDequeue(worker, turns)
+            }
+            Self::Step(worker) | Self::NarrowStep(worker, _) => Self::NarrowStep(worker, turns),
+        }
     }
 }
 
@@ -55,6 +79,15 @@ impl Lent {
                     wubraken_dequeue(shape, worker, store, words, table, records)
                 }
                 Call::Step(worker) => wubraken_step(shape, worker, store, words, table, records),
+                Call::NarrowEnqueue(worker, arrival, turns) => wubraken_narrow_enqueue(
+                    shape, worker, arrival, turns, store, words, table, records,
+                ),
+                Call::NarrowDequeue(worker, turns) => {
+                    wubraken_narrow_dequeue(shape, worker, turns, store, words, table, records)
+                }
+                Call::NarrowStep(worker, turns) => {
+                    wubraken_narrow_step(shape, worker, turns, store, words, table, records)
+                }
             }
         }
     }
