@@ -3,9 +3,9 @@ ghost use mathlib.Core.Path.{_≡_};
 ghost use Prim.Native.Nat.{_+_, _<_};
 ghost use Rattle.arrival.specs.Energy.{energyOf};
 
-// The energy at 1, 2, .. 1,024 metres, in rows of 128. Of 32 bits, and in rows: the compiler writes an array of constants to the stack at each use, four
-// entries at a time.
-const ROW_0: [u32; 128] = [
+// The energy at 1, 2, .. 1,024 metres, in rows up to a distance. Of 32 bits, and in rows: the compiler writes an array of constants to the stack at each use,
+// four entries at a time; so what is near is cheap.
+const TO_16: [u32; 16] = [
     16777216,
     4194304,
     1864135,
@@ -22,6 +22,9 @@ const ROW_0: [u32; 128] = [
     85598,
     74565,
     65536,
+];
+
+const TO_64: [u32; 48] = [
     58052,
     51781,
     46474,
@@ -70,6 +73,9 @@ const ROW_0: [u32; 128] = [
     4364,
     4227,
     4096,
+];
+
+const TO_128: [u32; 64] = [
     3970,
     3851,
     3737,
@@ -136,7 +142,7 @@ const ROW_0: [u32; 128] = [
     1024,
 ];
 
-const ROW_1: [u32; 128] = [
+const TO_256: [u32; 128] = [
     1008,
     992,
     977,
@@ -267,7 +273,7 @@ const ROW_1: [u32; 128] = [
     256,
 ];
 
-const ROW_2: [u32; 128] = [
+const TO_512: [u32; 256] = [
     254,
     252,
     250,
@@ -396,9 +402,6 @@ const ROW_2: [u32; 128] = [
     114,
     114,
     113,
-];
-
-const ROW_3: [u32; 128] = [
     113,
     112,
     112,
@@ -529,7 +532,7 @@ const ROW_3: [u32; 128] = [
     64,
 ];
 
-const ROW_4: [u32; 128] = [
+const TO_1024: [u32; 512] = [
     63,
     63,
     63,
@@ -658,9 +661,6 @@ const ROW_4: [u32; 128] = [
     41,
     41,
     40,
-];
-
-const ROW_5: [u32; 128] = [
     40,
     40,
     40,
@@ -789,9 +789,6 @@ const ROW_5: [u32; 128] = [
     28,
     28,
     28,
-];
-
-const ROW_6: [u32; 128] = [
     28,
     28,
     28,
@@ -920,9 +917,6 @@ const ROW_6: [u32; 128] = [
     20,
     20,
     20,
-];
-
-const ROW_7: [u32; 128] = [
     20,
     20,
     20,
@@ -1060,23 +1054,26 @@ fn wide(entry: u32) -> u64
 }
 
 // Entry k of the table, counted from 0.
-fn entry(k: u64) -> u64
+fn entry(k: usize) -> u64
     requires { ⌜ k < 1024 ⌝ }
     ensures { λ r. ⌜ r ≡ energyOf (1 + k) ⌝ }
 {
-    let row = k / 128;
-    let c = (k % 128) as usize;
-    match row {
-        0 => wide(ROW_0[c]),
-        1 => wide(ROW_1[c]),
-        2 => wide(ROW_2[c]),
-        3 => wide(ROW_3[c]),
-        4 => wide(ROW_4[c]),
-        5 => wide(ROW_5[c]),
-        6 => wide(ROW_6[c]),
-        7 => wide(ROW_7[c]),
-        8..=18446744073709551615 => 0,
+    if k < 16 {
+        return wide(TO_16[k]);
     }
+    if k < 64 {
+        return wide(TO_64[k - 16]);
+    }
+    if k < 128 {
+        return wide(TO_128[k - 64]);
+    }
+    if k < 256 {
+        return wide(TO_256[k - 128]);
+    }
+    if k < 512 {
+        return wide(TO_512[k - 256]);
+    }
+    wide(TO_1024[k - 512])
 }
 
 // The energy at any distance. Past the table, where only a store that did not grow from an opening leads, by division; from 4,097 metres on it is 0.
@@ -1087,7 +1084,7 @@ pub fn energy(distance: u64) -> u64
         return 0;
     }
     if distance <= 1024 {
-        return entry(distance - 1);
+        return entry((distance - 1) as usize);
     }
     if distance <= 4096 {
         return 16777216 / (distance * distance);
