@@ -2,7 +2,9 @@
 ghost use mathlib.Core.Path.{_≡_};
 ghost use mathlib.Core.List.{[]};
 ghost use Prim.Native.Nat.{_<_};
-ghost use Rattle.calendar.specs.rules.SearchSteps.{found, settle, step-1, step-2, step-3};
+ghost use Rattle.arrival.specs.Queue.{taken};
+ghost use Rattle.calendar.specs.rules.Layout.{itemAt};
+ghost use Rattle.calendar.specs.rules.SearchSteps.{settle, step-1, step-2, step-3};
 ghost use Rattle.words.specs.Done.{done, gives};
 ghost use Rattle.stages.specs.Ready.{Ready, Holds};
 use super::answer;
@@ -22,38 +24,34 @@ use words::put_field;
 use words::replies::Reply;
 use words::word;
 
-// The end of a search: a put goes to 4, a take answers the arrival in its own node. It is called on copies: it is large and takes them by address, and
-// the caller's own then stay in registers.
-fn end_search(shape: Shape, w: Worker, store: &[u64]) -> Reply
-    requires { ⌜ Holds shape (now store) (w .own) ⌝ }
-    ensures { λ r. ⌜ gives (now (store .entry)) r ≡ done shape (now (store .entry)) (found shape (now (store .entry)) [] w) ⌝ }
+// What a take answers: the arrival in its own node. It is large and has two callers, so it stays a call, and what they hold stays in registers.
+fn taken_at(shape: Shape, own: u64, store: &[u64]) -> Response
+    requires { ⌜ Holds shape (now store) own ⌝ }
+    ensures { λ r. ⌜ r ≡ taken (itemAt shape (now (store .entry)) own) ⌝ }
 {
-    if w.kind == 0 {
-        return go_on(4, w);
-    }
-    let x = item_at(shape, w.own, store);
-    let taken = Response::Took {
+    let x = item_at(shape, own, store);
+    Response::Took {
         time: x.time,
         path: x.path,
         order: x.order,
         distance: x.distance,
         energy: energy(x.distance),
-    };
-    answer(w, taken)
+    }
 }
 
-// Right has been set: at the end of the list the search ends in this turn.
+// Right has been set: at the end of the list the search ends in this turn. A put goes to 4, a take answers.
 fn settle_right(shape: Shape, w: Worker, store: &[u64]) -> Reply
     requires { ⌜ Holds shape (now store) (w .own) ⌝ }
     ensures { λ r. ⌜ gives (now (store .entry)) r ≡ done shape (now (store .entry)) (settle shape (now (store .entry)) [] w) ⌝ }
 {
-    if w.right == shape.nodes {
-        let same = shape;
-        let ended = w;
-        end_search(same, ended, store)
-    } else {
-        go_on(2, w)
+    if w.right != shape.nodes {
+        return go_on(2, w);
     }
+    if w.kind == 0 {
+        return go_on(4, w);
+    }
+    let response = taken_at(shape, w.own, store);
+    answer(w, response)
 }
 
 pub fn step_1(shape: Shape, mut w: Worker, store: &[u64]) -> Reply
@@ -84,9 +82,11 @@ pub fn step_2(shape: Shape, mut w: Worker, store: &[u64]) -> Reply
         w.right = link / 2;
         settle_right(shape, w, store)
     } else {
-        let same = shape;
-        let ended = w;
-        end_search(same, ended, store)
+        if w.kind == 0 {
+            return go_on(4, w);
+        }
+        let response = taken_at(shape, w.own, store);
+        answer(w, response)
     }
 }
 

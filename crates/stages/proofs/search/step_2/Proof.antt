@@ -2,7 +2,7 @@
 use mathlib.Core.Path.{_∙_}
 use Rattle.arrival.specs.Keys.{lower-keys}
 use Rattle.calendar.specs.rules.Layout.{itemAt}
-use Rattle.calendar.specs.rules.SearchSteps.{step-2}
+use Rattle.calendar.specs.rules.SearchSteps.{found, step-2}
 use borrow.Author.Tests.{eq-eqb, ne-eqb}
 use Rattle.stages.specs.Ready.{holds}
 use borrow.Author.Needs.{needs}
@@ -37,33 +37,55 @@ add-w c = search needs
 settle-right-requires : tie.Need-settle-right-requires
 settle-right-requires c κs = holds _ _ _ (c .before .before .before .before .before .before .before .before .before .pre .0)
 
-end-search-requires : tie.Need-end-search-requires
-end-search-requires c κs = holds _ _ _ (c .before .before .before .before .before .before .before .before .pre .0)
+go-on-requires-2 : tie.Need-go-on-requires-2
+go-on-requires-2 c κs = search needs
 
 returns-2 : tie.Need-returns-2
-unfolding step-2
+unfolding step-2 found
 returns-2 c =
-    let a = c .before .before .before .before .before .before .before .before .before .before .args in
+    let a = c .before .before .before .before .before .before .before .before .before .before .before .args in
     rw (
-      ← c .before .before .before .before .before .before .before .get-cell .ensures,
-      ne-eqb _ _ (c .before .before .before .before .before .before .if1 .left),
-      ← (c .before .before .before .is-lower .ensures
-          ∙ lower-keys (itemAt (a .shape) (a .store .now) (a .w .right)) (itemAt (a .shape) (a .store .now) (a .w .own)) _ _
-          (c .before .before .before .before .before .key-at .ensures) (c .before .before .before .before .key-at2 .ensures)),
-      c .before .before .if2 .taken,
-    ) (c .settle-right .ensures)
+      ← c .before .before .before .before .before .before .before .before .get-cell .ensures,
+      ne-eqb _ _ (c .before .before .before .before .before .before .before .if1 .left),
+      ← (c .before .before .before .before .is-lower .ensures ∙ lower-keys (itemAt (a .shape) (a .store .now) (a .w .right)) (itemAt (a .shape) (a .store .now) (a .w .own)) _ _
+          (c .before .before .before .before .before .before .key-at .ensures) (c .before .before .before .before .before .key-at2 .ensures)),
+      c .before .before .before .if2 .left,
+      eq-eqb _ _ (c .before .if3 .taken),
+      c .go-on2 .ensures,
+    )
+
+taken-at-requires : tie.Need-taken-at-requires
+taken-at-requires c κs = holds _ _ _ (c .before .before .before .before .before .before .before .before .before .before .pre .0)
+
+answer-requires : tie.Need-answer-requires
+answer-requires c κs = search needs
 
 returns-3 : tie.Need-returns-3
 unfolding step-2
 returns-3 c =
-    let a = c .before .before .before .before .before .before .before .before .before .args in
+    let a = c .before .before .before .before .before .before .before .before .before .before .args in
     rw (
-      ← c .before .before .before .before .before .before .get-cell .ensures,
-      ne-eqb _ _ (c .before .before .before .before .before .if1 .left),
-      ← (c .before .before .is-lower .ensures ∙ lower-keys (itemAt (a .shape) (a .store .now) (a .w .right)) (itemAt (a .shape) (a .store .now) (a .w .own)) _ _
-          (c .before .before .before .before .key-at .ensures) (c .before .before .before .key-at2 .ensures)),
-      c .before .if2 .left,
-    ) (c .end-search .ensures)
+      ← c .before .before .before .before .before .before .before .get-cell .ensures,
+      ne-eqb _ _ (c .before .before .before .before .before .before .if1 .left),
+      ← (c .before .before .before .is-lower .ensures ∙ lower-keys (itemAt (a .shape) (a .store .now) (a .w .right)) (itemAt (a .shape) (a .store .now) (a .w .own)) _ _
+          (c .before .before .before .before .before .key-at .ensures) (c .before .before .before .before .key-at2 .ensures)),
+      c .before .before .if2 .taken,
+    ) (c .settle-right .ensures)
+
+returns-4 : tie.Need-returns-4
+unfolding step-2 found
+returns-4 c =
+    let a = c .before .before .before .before .before .before .before .before .before .before .before .before .args in
+    rw (
+      ← c .before .before .before .before .before .before .before .before .before .get-cell .ensures,
+      ne-eqb _ _ (c .before .before .before .before .before .before .before .before .if1 .left),
+      ← (c .before .before .before .before .before .is-lower .ensures ∙ lower-keys (itemAt (a .shape) (a .store .now) (a .w .right)) (itemAt (a .shape) (a .store .now) (a .w .own)) _ _
+          (c .before .before .before .before .before .before .before .key-at .ensures) (c .before .before .before .before .before .before .key-at2 .ensures)),
+      c .before .before .before .before .if2 .left,
+      ne-eqb _ _ (c .before .before .if3 .left),
+      c .answer .ensures,
+      c .before .taken-at .ensures,
+    )
 
 pub step-2-spec : {M : Type 1} → statement M
 step-2-spec =
@@ -78,6 +100,9 @@ step-2-spec =
     is-lower-requires
     add-w
     settle-right-requires
-    end-search-requires
+    go-on-requires-2
     returns-2
-    returns-3)
+    taken-at-requires
+    answer-requires
+    returns-3
+    returns-4)
