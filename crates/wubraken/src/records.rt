@@ -11,6 +11,7 @@ ghost use Rattle.calendar.specs.rules.Ranges.{shapeInRange};
 ghost use Rattle.wubraken.specs.Requests.{isWhole};
 ghost use Rattle.wubraken.specs.Results.{nearBy, actOn, recordsOpened};
 ghost use mathlib.Core.Bool.{true};
+ghost use lib.Dec.{eqb};
 ghost use Rattle.admission.specs.Gate.{openResponse};
 use super::answers::Answer;
 use super::answers::answer_of;
@@ -42,6 +43,17 @@ fn gate_on(shape: Shape, whole: bool, i: usize, n: usize, ok: bool, store: &[u64
     }
     let near = is_near(shape, n, ok, store);
     gate(shape, store.len(), n, i as u64, near)
+}
+
+// Whether it is 0, at one look where all is well.
+fn is_let_in(shape: Shape, whole: bool, i: usize, n: usize, ok: bool, store: &[u64]) -> bool
+    ensures { λ r. ⌜ r ≡ eqb (gateOn whole shape (now (store .entry)) i n ok) 0 ⌝ }
+{
+    let exists = (i as u64) < shape.workers;
+    if whole {
+        return is_sound(shape, n, ok, store) & exists;
+    }
+    is_near(shape, n, ok, store) & exists
 }
 
 // The answer where worker i has no record.
@@ -89,9 +101,11 @@ pub fn act_on_record(
     requires { ⌜ Surveyed shape request seen w ⌝ }
     ensures { λ r. ⌜ gives (now (store .exit)) r ≡ actOn shape request n seen (now (store .entry)) w ⌝ }
 {
+    let whole = is_whole(request);
+    let i = index_of(request);
     let near = are_near(shape, request, seen, w);
-    let k = gate_on(shape, is_whole(request), index_of(request), n, near, store);
-    if k != 0 {
+    if !is_let_in(shape, whole, i, n, near, store) {
+        let k = gate_on(shape, whole, i, n, near, store);
         return refuse(w, k);
     }
     perform_turns(

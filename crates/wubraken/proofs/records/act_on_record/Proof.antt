@@ -1,5 +1,6 @@
 -- A request on a record is refused by 1 to 4, or done. Assumes nothing.
-use mathlib.Core.Path.{sym, ap, _∙_}
+use mathlib.Core.Path.{refl, sym, ap, _∙_}
+use borrow.Author.Tests.{not-true, not-false, eqb-true, eqb-false}
 use Rattle.words.specs.declared.replies.Reply.{Reply}
 use Rattle.words.specs.Done.{gives}
 use Rattle.operation.specs.LocalAct.{localAct}
@@ -10,14 +11,17 @@ use borrow.Author.Needs.{needs}
 use Rattle.wubraken.proofs.records.act_on_record.Statement.{statement}
 use Rattle.wubraken.proofs.records.act_on_record.Tie as tie
 
-are-near-requires : tie.Need-are-near-requires
-are-near-requires c κs = c .before .pre .shape
-
 is-whole-requires : tie.Need-is-whole-requires
 is-whole-requires c κs = search needs
 
 index-of-requires : tie.Need-index-of-requires
 index-of-requires c κs = search needs
+
+are-near-requires : tie.Need-are-near-requires
+are-near-requires c κs = c .before .before .before .pre .shape
+
+is-let-in-requires : tie.Need-is-let-in-requires
+is-let-in-requires c κs = search needs
 
 gate-on-requires : tie.Need-gate-on-requires
 gate-on-requires c κs = search needs
@@ -30,10 +34,11 @@ same-length c = search needs
 
 returns : tie.Need-returns
 returns c =
-    let a = c .before .before .before .before .before .before .before .before .args in
-    let gated = (c .before .before .gate-on .ensures ∙ (λ j. gateOn (c .before .before .before .before .before .is-whole .ensures j) (a .shape) (a .store .now) (c .before .before .before .before .index-of .ensures j) (a .n)
-    (c .before .before .before .before .before .before .are-near .ensures j))) in
-    ap (λ (r : Reply). gives (a .store .now) r) (c .refuse .ensures) ∙ refused-on _ (a .request) _ _ _ (a .w) _ gated (c .before .if1 .taken)
+    let a = c .before .before .before .before .before .before .before .before .before .before .args in
+    let gated = c .before .gate-on .ensures ∙ (λ j. gateOn (c .before .before .before .before .before .before .before .before .is-whole .ensures j) (a .shape) (a .store .now) (c .before .before .before .before .before .before .before .index-of .ensures j) (a .n) (c .before .before .before .before .before .before .are-near .ensures j)) in
+    let out = eqb-false _ 0 (sym (c .before .before .before .before .is-let-in .ensures) ∙ not-true _ (c .before .before .before .if1 .taken)) in
+    ap (λ (r : Reply). gives (a .store .now) r) (c .refuse .ensures)
+    ∙ refused-on _ (a .request) _ _ _ (a .w) _ gated (λ z. out (sym (c .before .gate-on .ensures) ∙ z))
 
 action-of-requires : tie.Need-action-of-requires
 action-of-requires c κs = search needs
@@ -45,9 +50,9 @@ perform-turns-requires : tie.Need-perform-turns-requires
 perform-turns-requires c κs =
     let a = c .before .before .before .before .before .before .before .before .before .before .args in
     let S = c .before .before .before .before .before .before .before .before .before .before .pre in
-    let gated = (c .before .before .before .before .gate-on .ensures ∙ (λ j. gateOn (c .before .before .before .before .before .before .before .is-whole .ensures j) (a .shape) (a .store .now) (c .before .before .before .before .before .before .index-of .ensures j) (a .n)
-    (c .before .before .before .before .before .before .before .before .are-near .ensures j))) in
-    (admits (a .shape) (a .request) (a .n) (a .seen) (a .store .now) (a .w) S (sym gated ∙ c .before .before .before .if1 .left), S .low)
+    let passes = eqb-true _ 0 (sym (c .before .before .before .before .is-let-in .ensures) ∙ not-false _ (c .before .before .before .if1 .left)) in
+    let gated = sym passes ∙ (λ j. gateOn (c .before .before .before .before .before .before .before .before .is-whole .ensures j) (a .shape) (a .store .now) (c .before .before .before .before .before .before .before .index-of .ensures j) (a .n) (c .before .before .before .before .before .before .are-near .ensures j)) in
+    (admits (a .shape) (a .request) (a .n) (a .seen) (a .store .now) (a .w) S (sym gated), S .low)
 
 same-length-2 : tie.Need-same-length-2
 same-length-2 c = search needs
@@ -55,19 +60,20 @@ same-length-2 c = search needs
 returns-2 : tie.Need-returns-2
 returns-2 c =
     let a = c .before .before .before .before .before .before .before .before .before .before .before .before .before .args in
-    let gated = (c .before .before .before .before .before .before .before .gate-on .ensures ∙ (λ j. gateOn (c .before .before .before .before .before .before .before .before .before .before .is-whole .ensures j) (a .shape) (a .store .now) (c .before .before .before .before .before .before .before .before .before .index-of .ensures j) (a .n)
-    (c .before .before .before .before .before .before .before .before .before .before .before .are-near .ensures j))) in
+    let passes = eqb-true _ 0 (sym (c .before .before .before .before .before .before .before .is-let-in .ensures) ∙ not-false _ (c .before .before .before .before .before .before .if1 .left)) in
+    let gated = sym passes ∙ (λ j. gateOn (c .before .before .before .before .before .before .before .before .before .before .before .is-whole .ensures j) (a .shape) (a .store .now) (c .before .before .before .before .before .before .before .before .before .before .index-of .ensures j) (a .n) (c .before .before .before .before .before .before .before .before .before .are-near .ensures j)) in
     c .before .before .perform-turns .ensures
     ∙ (λ j. localTurns (a .shape) (c .before .before .before .before .turns-of .ensures j) (localAct (a .shape) (a .seen .low) (a .store .now) (c .before .before .before .before .before .action-of .ensures j) (a .w)))
-    ∙ done-on _ (a .request) _ _ _ (a .w) _ gated (c .before .before .before .before .before .before .if1 .left)
+    ∙ done-on _ (a .request) _ _ _ (a .w) 0 gated refl
 
 pub act-on-record-spec : {M : Type 1} → statement M
 act-on-record-spec =
     tie.close
     (tie.spec
-    are-near-requires
     is-whole-requires
     index-of-requires
+    are-near-requires
+    is-let-in-requires
     gate-on-requires
     refuse-requires
     same-length
