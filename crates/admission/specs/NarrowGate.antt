@@ -1,5 +1,7 @@
 -- Refusals 1 to 4 of a narrow start or turn, by a flag: the three first words are in range, and `ok`, the records that it looks at.
 --     nearOf, near-opens             the flag; where it is up 1 and 2 do not apply
+--     near-bad .. near-long          the flag by shape and lengths
+--     laid-long                      and a store that is long enough is laid out
 --     RecordsSeen                    what `ok` has to say
 --     Near, near-passed              what a narrow action that the gate lets pass may count on
 --     narrow-first, narrow-away      the gate's refusal, or the first of its own, is the narrow action's; what the gate refuses does nothing
@@ -12,18 +14,19 @@ use Prim.Native.Nat.{ℕ, _<_}
 use native.Mathlib.Omega.{arith}
 use lib.Dec.{eqb}
 use lib.ListN.{length}
-use borrow.Author.Tests.{eqb-true, eq-eqb, ne-eqb}
+use borrow.Author.Tests.{eqb-true, eq-eqb, ne-eqb, ltb-false}
 use Rattle.arrival.specs.declared.Shape.{Shape}
 use Rattle.arrival.specs.declared.Action.{Action}
 use Rattle.arrival.specs.declared.Response.the-variants.{Refused}
-use Rattle.laws.specs.Tests.{parts}
-use Rattle.calendar.specs.rules.Ranges.{wordsInRange}
-use Rattle.calendar.specs.rules.Refusals.{firstOf, tooShort, memoryTests}
+use Rattle.laws.specs.Tests.{parts, neither}
+use Rattle.calendar.specs.rules.Ranges.{shapeInRange, wordsInRange}
+use Rattle.calendar.specs.rules.Refusals.{firstOf, short, tooShort, memoryTests}
 use Rattle.calendar.specs.rules.Operations.{Memory, actor}
 use Rattle.calendar.specs.rules.NarrowCalls.{recordsInRange, narrowOut, narrowRefusal, narrowAct}
 use Rattle.calendar.specs.facts.FirstOf.{first-append}
 use Rattle.calendar.specs.facts.Accepted.{Lent}
-use Rattle.calendar.specs.facts.RangeFacts.{WordRanges, word-ranges}
+use Rattle.calendar.specs.facts.RangeFacts.{limits, WordRanges, word-ranges}
+use Rattle.words.specs.Laid.{Laid, laid}
 use Rattle.admission.specs.Gate.{ownOf, gateOf, gate-with, gate-passed, gate-opens, openGate, open-passed, lent-passes}
 
 -- down where the memory is too short to be looked at
@@ -37,6 +40,23 @@ near-opens sh s records ok = go (eqb (openGate sh (length s) records) 0) refl
     go : (b : Bool) → eqb (openGate sh (length s) records) 0 ≡ b → cond b (wordsInRange sh s && ok) false ≡ true → openGate sh (length s) records ≡ 0
     go true e up = eqb-true (openGate sh (length s) records) 0 e
     go false e up = absurd (let z : _≡_ {A = ℕ} 0 1 = cc in omega arith)
+
+-- by shape and lengths, one after the other
+module _ (sh : Shape) (s : List ℕ) (records : ℕ) (ok : Bool) where
+  pub near-bad : shapeInRange sh ≡ false → nearOf sh s records ok ≡ false
+  unfolding nearOf openGate
+  near-bad e = rw e
+
+  pub near-short : shapeInRange sh ≡ true → short sh (length s) records ≡ true → nearOf sh s records ok ≡ false
+  unfolding nearOf openGate
+  near-short e f = rw (e, f)
+
+  pub near-long : shapeInRange sh ≡ true → short sh (length s) records ≡ false → nearOf sh s records ok ≡ (wordsInRange sh s && ok)
+  unfolding nearOf openGate
+  near-long e f = rw (e, f)
+
+pub laid-long : (sh : Shape) (s : List ℕ) (records : ℕ) → shapeInRange sh ≡ true → short sh (length s) records ≡ false → Laid sh s
+laid-long sh s records e f = laid sh s (limits sh e) (ltb-false _ _ (neither _ _ f .0))
 
 -- `ok` says that the records which the action looks at are in range, wherever there are enough
 abbrev pub RecordsSeen : Shape → Memory → Action → Bool → Type 0

@@ -76,7 +76,18 @@ pub fn is_sound(shape: Shape, records: usize, ok: bool, store: &[u64]) -> bool
 pub fn is_near(shape: Shape, records: usize, ok: bool, store: &[u64]) -> bool
     ensures { λ r. ⌜ r ≡ nearOf shape (now (store .entry)) records ok ⌝ }
 {
-    if open_gate(shape, store.len(), records) != 0 {
+    if !shape_in_range(shape) {
+        return false;
+    }
+    is_near_within(shape, records, ok, store)
+}
+
+// The same for a shape within its limits.
+pub fn is_near_within(shape: Shape, records: usize, ok: bool, store: &[u64]) -> bool
+    requires { ⌜ shapeInRange shape ≡ true ⌝ }
+    ensures { λ r. ⌜ r ≡ nearOf shape (now (store .entry)) records ok ⌝ }
+{
+    if is_short(shape, store.len(), records) {
         return false;
     }
     words_in_range(shape, store) & ok

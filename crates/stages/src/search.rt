@@ -1,14 +1,14 @@
-// Stages 1 to 3: the search for own node's key.
+// Stages 1 to 3: the search for own node's key. `energy` is large and has two callers, so it stays a call; the rest is compiled into the turn.
 ghost use mathlib.Core.Path.{_≡_};
 ghost use mathlib.Core.List.{[]};
 ghost use Prim.Native.Nat.{_<_};
-ghost use Rattle.arrival.specs.Queue.{taken};
-ghost use Rattle.calendar.specs.rules.Layout.{itemAt};
+ghost use Rattle.arrival.specs.declared.Response.the-variants.{Took};
 ghost use Rattle.calendar.specs.rules.SearchSteps.{settle, step-1, step-2, step-3};
 ghost use Rattle.words.specs.Done.{done, gives};
 ghost use Rattle.stages.specs.Ready.{Ready, Holds};
 use super::answer;
 use super::go_on;
+use arrival::Item;
 use arrival::Response;
 use arrival::Shape;
 use arrival::Worker;
@@ -24,18 +24,16 @@ use words::put_field;
 use words::replies::Reply;
 use words::word;
 
-// What a take answers: the arrival in its own node. It is large and has two callers, so it stays a call, and what they hold stays in registers.
-fn taken_at(shape: Shape, own: u64, store: &[u64]) -> Response
-    requires { ⌜ Holds shape (now store) own ⌝ }
-    ensures { λ r. ⌜ r ≡ taken (itemAt shape (now (store .entry)) own) ⌝ }
+// What a take answers: the arrival in its own node, and its energy.
+fn took(x: Item, energy: u64) -> Response
+    ensures { λ r. ⌜ r ≡ Took (x .time) (x .path) (x .order) (x .distance) energy ⌝ }
 {
-    let x = item_at(shape, own, store);
     Response::Took {
         time: x.time,
         path: x.path,
         order: x.order,
         distance: x.distance,
-        energy: energy(x.distance),
+        energy,
     }
 }
 
@@ -50,8 +48,9 @@ fn settle_right(shape: Shape, w: Worker, store: &[u64]) -> Reply
     if w.kind == 0 {
         return go_on(4, w);
     }
-    let response = taken_at(shape, w.own, store);
-    answer(w, response)
+    let x = item_at(shape, w.own, store);
+    let level = energy(x.distance);
+    answer(w, took(x, level))
 }
 
 pub fn step_1(shape: Shape, mut w: Worker, store: &[u64]) -> Reply
@@ -85,8 +84,9 @@ pub fn step_2(shape: Shape, mut w: Worker, store: &[u64]) -> Reply
         if w.kind == 0 {
             return go_on(4, w);
         }
-        let response = taken_at(shape, w.own, store);
-        answer(w, response)
+        let x = item_at(shape, w.own, store);
+        let level = energy(x.distance);
+        answer(w, took(x, level))
     }
 }
 

@@ -23,6 +23,7 @@ use super::requests::turns_of;
 use super::table::Survey;
 use admission::gate;
 use admission::is_near;
+use admission::is_near_within;
 use admission::is_sound;
 use admission::ranges::record_in_range;
 use arrival::Request;
@@ -45,15 +46,16 @@ fn gate_on(shape: Shape, whole: bool, i: usize, n: usize, ok: bool, store: &[u64
     gate(shape, store.len(), n, i as u64, near)
 }
 
-// Whether it is 0, at one look where all is well.
+// Whether it is 0, at one look where all is well, for a shape within its limits.
 fn is_let_in(shape: Shape, whole: bool, i: usize, n: usize, ok: bool, store: &[u64]) -> bool
+    requires { ⌜ shapeInRange shape ≡ true ⌝ }
     ensures { λ r. ⌜ r ≡ eqb (gateOn whole shape (now (store .entry)) i n ok) 0 ⌝ }
 {
     let exists = (i as u64) < shape.workers;
     if whole {
         return is_sound(shape, n, ok, store) & exists;
     }
-    is_near(shape, n, ok, store) & exists
+    is_near_within(shape, n, ok, store) & exists
 }
 
 // The answer where worker i has no record.

@@ -19,15 +19,29 @@ returns-2 : tie.Need-returns-2
 unfolding settle found
 returns-2 c = rw (eq-eqb _ _ (c .before .before .before .if1 .left), eq-eqb _ _ (c .before .if2 .taken), c .go-on2 .ensures)
 
-taken-at-requires : tie.Need-taken-at-requires
-taken-at-requires c κs = search needs
+item-at-requires : tie.Need-item-at-requires
+item-at-requires c κs = search needs
+
+energy-requires : tie.Need-energy-requires
+energy-requires c κs = search needs
+
+took-requires : tie.Need-took-requires
+took-requires c κs = search needs
 
 answer-requires : tie.Need-answer-requires
 answer-requires c κs = search needs
 
 returns-3 : tie.Need-returns-3
 unfolding settle found
-returns-3 c = rw (eq-eqb _ _ (c .before .before .before .before .if1 .left), ne-eqb _ _ (c .before .before .if2 .left), c .answer .ensures, c .before .taken-at .ensures)
+returns-3 c =
+    rw (
+      eq-eqb _ _ (c .before .before .before .before .before .before .if1 .left),
+      ne-eqb _ _ (c .before .before .before .before .if2 .left),
+      c .answer .ensures,
+      c .before .took .ensures,
+      c .before .before .energy .ensures,
+      c .before .before .before .item-at .ensures,
+    )
 
 pub settle-right-spec : {M : Type 1} → statement M
-settle-right-spec = tie.close (tie.spec go-on-requires returns go-on-requires-2 returns-2 taken-at-requires answer-requires returns-3)
+settle-right-spec = tie.close (tie.spec go-on-requires returns go-on-requires-2 returns-2 item-at-requires energy-requires took-requires answer-requires returns-3)

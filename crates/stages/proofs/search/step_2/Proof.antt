@@ -54,8 +54,14 @@ returns-2 c =
       c .go-on2 .ensures,
     )
 
-taken-at-requires : tie.Need-taken-at-requires
-taken-at-requires c κs = holds _ _ _ (c .before .before .before .before .before .before .before .before .before .before .pre .0)
+item-at-requires : tie.Need-item-at-requires
+item-at-requires c κs = search needs
+
+energy-requires : tie.Need-energy-requires
+energy-requires c κs = search needs
+
+took-requires : tie.Need-took-requires
+took-requires c κs = search needs
 
 answer-requires : tie.Need-answer-requires
 answer-requires c κs = search needs
@@ -75,16 +81,18 @@ returns-3 c =
 returns-4 : tie.Need-returns-4
 unfolding step-2 found
 returns-4 c =
-    let a = c .before .before .before .before .before .before .before .before .before .before .before .before .args in
+    let a = c .before .before .before .before .before .before .before .before .before .before .before .before .before .before .args in
     rw (
-      ← c .before .before .before .before .before .before .before .before .before .get-cell .ensures,
-      ne-eqb _ _ (c .before .before .before .before .before .before .before .before .if1 .left),
-      ← (c .before .before .before .before .before .is-lower .ensures ∙ lower-keys (itemAt (a .shape) (a .store .now) (a .w .right)) (itemAt (a .shape) (a .store .now) (a .w .own)) _ _
-          (c .before .before .before .before .before .before .before .key-at .ensures) (c .before .before .before .before .before .before .key-at2 .ensures)),
-      c .before .before .before .before .if2 .left,
-      ne-eqb _ _ (c .before .before .if3 .left),
+      ← c .before .before .before .before .before .before .before .before .before .before .before .get-cell .ensures,
+      ne-eqb _ _ (c .before .before .before .before .before .before .before .before .before .before .if1 .left),
+      ← (c .before .before .before .before .before .before .before .is-lower .ensures ∙ lower-keys (itemAt (a .shape) (a .store .now) (a .w .right)) (itemAt (a .shape) (a .store .now) (a .w .own)) _ _
+          (c .before .before .before .before .before .before .before .before .before .key-at .ensures) (c .before .before .before .before .before .before .before .before .key-at2 .ensures)),
+      c .before .before .before .before .before .before .if2 .left,
+      ne-eqb _ _ (c .before .before .before .before .if3 .left),
       c .answer .ensures,
-      c .before .taken-at .ensures,
+      c .before .took .ensures,
+      c .before .before .energy .ensures,
+      c .before .before .before .item-at .ensures,
     )
 
 pub step-2-spec : {M : Type 1} → statement M
@@ -102,7 +110,9 @@ step-2-spec =
     settle-right-requires
     go-on-requires-2
     returns-2
-    taken-at-requires
+    item-at-requires
+    energy-requires
+    took-requires
     answer-requires
     returns-3
     returns-4)

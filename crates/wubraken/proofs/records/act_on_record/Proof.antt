@@ -21,7 +21,7 @@ are-near-requires : tie.Need-are-near-requires
 are-near-requires c κs = c .before .before .before .pre .shape
 
 is-let-in-requires : tie.Need-is-let-in-requires
-is-let-in-requires c κs = search needs
+is-let-in-requires c κs = c .before .before .before .before .before .pre .shape
 
 gate-on-requires : tie.Need-gate-on-requires
 gate-on-requires c κs = search needs
