@@ -1,8 +1,8 @@
 -- The form of an entry point that hands on: it makes a request of its parameters by value, borrows store and table again, calls a function of `act_lent`'s
--- form, and answers what that answers. The parameters between the shape and the store, one to three, are of any types that hold no reference.
+-- form, and answers what that responds. The parameters between the shape and the store, one to three, are of any types that hold no reference.
 --     Held, rowOf, Front, Of, row         such a type, with what a walk asks of it; its values, its row
 --     number, arrival                     a number of 64 bits, an arrival
---     Claim                               what such a function claims of its answer and of the last store and table
+--     Claim, Answered                     what the function claims of its response and of the last store and table; what the entry does of its answer
 --     lent-rows                           store and table, as each of the functions takes them last
 --     callee, entry                       the signatures: of what is called, and of the form
 --     Acts, One, Two, Three               their contracts by a claim; of the form by its number of parameters
@@ -36,11 +36,14 @@ use denote.Exit.{yes, unchanged}
 use Rattle.arrival.specs.declared.Shape.{Shape}
 use Rattle.arrival.specs.declared.Worker.{Worker}
 use Rattle.arrival.specs.declared.Request.{Request}
+use Rattle.arrival.specs.declared.Response.{Response}
 use Rattle.wubraken.specs.declared.answers.Answer.{Answer}
 use Rattle.arrival.proofs.Shape as Sh
 use Rattle.arrival.proofs.Shape.Laws as Sh′
 use Rattle.arrival.proofs.Arrival as Ar
 use Rattle.arrival.proofs.Arrival.Laws as Ar′
+use Rattle.arrival.proofs.Response as Q
+use Rattle.arrival.proofs.Response.Laws as Q′
 use Rattle.arrival.proofs.Request as Rq
 use Rattle.arrival.proofs.Request.Laws as Rq′
 use Rattle.arrival.proofs.Worker as T
@@ -109,25 +112,28 @@ abbrev pub slots : {n : ℕ} → List Front → List (Slot n)
 slots [] = []
 slots (F ∷ Fs) = plain (λ _. row F) ∷ slots Fs
 
--- of shape, request, store and table: what is claimed of the answer, the last store and the last table
+-- of shape, request, store and table: what is claimed of the response, the last store and the last table; and of the answer
 abbrev pub Claim : Type 1
-Claim = Shape → Request → List ℕ → List Worker → Answer → List ℕ → List Worker → Type 0
+Claim = Shape → Request → List ℕ → List Worker → Response → List ℕ → List Worker → Type 0
+
+abbrev pub Answered : Type 1
+Answered = Shape → Request → List ℕ → List Worker → Answer → List ℕ → List Worker → Type 0
 
 -- ── the signatures ──
 abbrev pub lent-rows : List (Slot 2)
 lent-rows = SliceRefMutOf (0 ∷ []) tt (plain (λ _. u64)) (λ _. tt) ∷ SliceRefMutOf (1 ∷ []) tt (plain (λ _. T.the-row)) (λ _. tt) ∷ []
 
-abbrev in-front : List (Slot 2) → Signature
-in-front rows = record { lifetimes = 2; outlives = []; params = rows ++ lent-rows; result = plain (λ _. R.the-row) }
+abbrev in-front : List (Slot 2) → RattleType → Signature
+in-front rows result = record { lifetimes = 2; outlives = []; params = rows ++ lent-rows; result = plain (λ _. result) }
 
 abbrev pub callee : Signature
-callee = in-front (plain (λ _. Sh.the-row) ∷ plain (λ _. Rq.the-row) ∷ [])
+callee = in-front (plain (λ _. Sh.the-row) ∷ plain (λ _. Rq.the-row) ∷ []) Q.the-row
 
 abbrev pub entry : List Front → Signature
-entry Fs = in-front (plain (λ _. Sh.the-row) ∷ slots Fs)
+entry Fs = in-front (plain (λ _. Sh.the-row) ∷ slots Fs) R.the-row
 
 -- ── the contracts ──
-module _ {M : Type 1} (𝓤 : URA M) (H : Heap 𝓤) (A : Atoms 𝓤) (claim : Claim) where
+module _ {M : Type 1} (𝓤 : URA M) (H : Heap 𝓤) (A : Atoms 𝓤) (claim : Claim) (told : Answered) where
   abbrev pub Acts : Spec 𝓤 callee
   Acts κs a = record {
     ghost = Unit {0};
@@ -142,7 +148,7 @@ module _ {M : Type 1} (𝓤 : URA M) (H : Heap 𝓤) (A : Atoms 𝓤) (claim : C
     ghost = Unit {0};
     requires = λ _. emp 𝓤;
     ensures = λ _ r. exits 𝓤 H A (entry (F ∷ [])) (yes, (yes, (yes, (yes, tt)))) κs a (λ e.
-        fact 𝓤 (claim (a .0) (asks (a .1 .0)) (now (a .1 .1 .0)) (now (a .1 .1 .1 .0)) r (now (e .1 .1 .0)) (now (e .1 .1 .1 .0))));
+        fact 𝓤 (told (a .0) (asks (a .1 .0)) (now (a .1 .1 .0)) (now (a .1 .1 .1 .0)) r (now (e .1 .1 .0)) (now (e .1 .1 .1 .0))));
   }
 
   abbrev pub Two : (F G : Front) → (Of F → Of G → Request) → Spec 𝓤 (entry (F ∷ G ∷ []))
@@ -150,7 +156,7 @@ module _ {M : Type 1} (𝓤 : URA M) (H : Heap 𝓤) (A : Atoms 𝓤) (claim : C
     ghost = Unit {0};
     requires = λ _. emp 𝓤;
     ensures = λ _ r. exits 𝓤 H A (entry (F ∷ G ∷ [])) (yes, (yes, (yes, (yes, (yes, tt))))) κs a (λ e.
-        fact 𝓤 (claim (a .0) (asks (a .1 .0) (a .1 .1 .0)) (now (a .1 .1 .1 .0)) (now (a .1 .1 .1 .1 .0)) r (now (e .1 .1 .1 .0)) (now (e .1 .1 .1 .1 .0))));
+        fact 𝓤 (told (a .0) (asks (a .1 .0) (a .1 .1 .0)) (now (a .1 .1 .1 .0)) (now (a .1 .1 .1 .1 .0)) r (now (e .1 .1 .1 .0)) (now (e .1 .1 .1 .1 .0))));
   }
 
   abbrev pub Three : (F G K : Front) → (Of F → Of G → Of K → Request) → Spec 𝓤 (entry (F ∷ G ∷ K ∷ []))
@@ -158,7 +164,7 @@ module _ {M : Type 1} (𝓤 : URA M) (H : Heap 𝓤) (A : Atoms 𝓤) (claim : C
     ghost = Unit {0};
     requires = λ _. emp 𝓤;
     ensures = λ _ r. exits 𝓤 H A (entry (F ∷ G ∷ K ∷ [])) (yes, (yes, (yes, (yes, (yes, (yes, tt)))))) κs a (λ e.
-        fact 𝓤 (claim (a .0) (asks (a .1 .0) (a .1 .1 .0) (a .1 .1 .1 .0)) (now (a .1 .1 .1 .1 .0)) (now (a .1 .1 .1 .1 .1 .0)) r
+        fact 𝓤 (told (a .0) (asks (a .1 .0) (a .1 .1 .0) (a .1 .1 .1 .0)) (now (a .1 .1 .1 .1 .0)) (now (a .1 .1 .1 .1 .1 .0)) r
         (now (e .1 .1 .1 .1 .0)) (now (e .1 .1 .1 .1 .1 .0))));
   }
 
@@ -172,9 +178,9 @@ word = tyInt w64
 abbrev record-name : Ty
 record-name = pointee (T.the-row .written)
 
--- the request; what is borrowed again
+-- the response; the request; what is borrowed again
 abbrev temporaries : List Local
-temporaries = local Rq′.mir valueLocal ∷ local (tyRef erased mut word) valueLocal ∷ slice erased word
+temporaries = local Q′.mir valueLocal ∷ local Rq′.mir valueLocal ∷ local (tyRef erased mut word) valueLocal ∷ slice erased word
     ∷ local (tyRef erased mut record-name) valueLocal ∷ slice erased record-name ∷ []
 
 -- the parameters as locals, as many as there are, and copied from place k on
@@ -190,21 +196,22 @@ abbrev copies : List Front → ℕ → List Operand
 copies [] k = []
 copies (F ∷ Fs) k = copy (place k []) ∷ copies Fs (suc k)
 
--- `makes` makes the request of them; store and table are borrowed again, and go to f behind shape and request
-abbrev hands : Name → Name → List Front → ℕ → Body
-hands makes f Fs m =
-    seq (call makes (copies Fs 2) (place (m + 4) []))
-    (seq (assign (place (m + 5) []) (addrOf (place (m + 2) (field 0 ∷ deref word ∷ []))))
-    (seq (assign (place (m + 6) []) (aggregate (copy (place (m + 5) []) ∷ copy (place (m + 2) (field 1 ∷ [])) ∷ [])))
-    (seq (assign (place (m + 7) []) (addrOf (place (m + 3) (field 0 ∷ deref T′.mir ∷ []))))
-    (seq (assign (place (m + 8) []) (aggregate (copy (place (m + 7) []) ∷ copy (place (m + 3) (field 1 ∷ [])) ∷ [])))
-    (seq (call f (copy (place 1 []) ∷ copy (place (m + 4) []) ∷ copy (place (m + 6) []) ∷ copy (place (m + 8) []) ∷ []) (place 0 [])) return)))))
+-- `makes` makes the request of them; store and table are borrowed again, and go to f behind shape and request; `tell` makes the answer of its response
+abbrev hands : Name → Name → Name → List Front → ℕ → Body
+hands makes f tell Fs m =
+    seq (call makes (copies Fs 2) (place (m + 5) []))
+    (seq (assign (place (m + 6) []) (addrOf (place (m + 2) (field 0 ∷ deref word ∷ []))))
+    (seq (assign (place (m + 7) []) (aggregate (copy (place (m + 6) []) ∷ copy (place (m + 2) (field 1 ∷ [])) ∷ [])))
+    (seq (assign (place (m + 8) []) (addrOf (place (m + 3) (field 0 ∷ deref T′.mir ∷ []))))
+    (seq (assign (place (m + 9) []) (aggregate (copy (place (m + 8) []) ∷ copy (place (m + 3) (field 1 ∷ [])) ∷ [])))
+    (seq (call f (copy (place 1 []) ∷ copy (place (m + 5) []) ∷ copy (place (m + 7) []) ∷ copy (place (m + 9) []) ∷ []) (place (m + 4) []))
+    (seq (call tell (copy (place (m + 4) []) ∷ []) (place 0 [])) return))))))
 
-abbrev pub entry-code : Name → Name → List Front → Fn
-entry-code makes f Fs = record {
+abbrev pub entry-code : Name → Name → Name → List Front → Fn
+entry-code makes f tell Fs = record {
   lifetimes = 2;
   outlives = [];
   params = many Fs + 3;
   locals = local R′.mir valueLocal ∷ local Sh′.mir valueLocal ∷ fronts Fs ++ (slice (named 0) word ∷ slice (named 1) record-name ∷ temporaries);
-  body = hands makes f Fs (many Fs);
+  body = hands makes f tell Fs (many Fs);
 }

@@ -1,7 +1,7 @@
 -- What the by-value functions leave, and that it is what the operations of the pool are defined to give.
 --     Told, leaves, told             memory and answer after a call: of what the code left, and of an operation's result
---     put-back-told                  what is done on one record, put back, is told of the table
---     ActsAs                         the claim of a function that does what is requested
+--     gave, put-back                 memory and response; what is done on one record, put back in the table
+--     ActsAs, AnswersAs, answered    the claims of a function that does what is requested, and of one that answers it
 --     nearBy                         whether the records that a request looks at are in range
 --     actOn, refused-on, done-on     refused by 1 to 4, or done; by what the gate said
 --     admits                         what the gate lets pass may be worked on
@@ -22,6 +22,7 @@ use lib.Seq.{set-getD}
 use borrow.Author.Tests.{eqb-true, eqb-false, ltb-false, le-leb, lt-leb, le-ltb, eq-eqb, ne-eqb}
 use Rattle.arrival.specs.declared.Shape.{Shape}
 use Rattle.arrival.specs.declared.Worker.{Worker}
+use Rattle.arrival.specs.declared.Response.{Response}
 use Rattle.arrival.specs.declared.Response.the-variants.{Opened, Refused}
 use Rattle.arrival.specs.declared.Action.{Action}
 use Rattle.arrival.specs.declared.Action.the-variants.{Enqueue, Dequeue, Step}
@@ -67,18 +68,26 @@ leaves s t a = record { memory = lent s t; answer = a; said = saidBy a }
 abbrev pub told : Result → Told
 told r = record { memory = r .memory; answer = answerOf (r .response); said = said (r .response) }
 
+-- the memory and the response
+abbrev pub gave : List ℕ → List Worker → Response → Result
+gave s t r = record { memory = lent s t; response = r }
+
 -- what is done on one record, put back
-pub put-back-told : (t : List Worker) (i : ℕ) (s : List ℕ) (r : Reply) (a : Answer) (d : Done) → gives s r ≡ d → a ≡ answerOf (r .response)
-    → leaves s (set t i (r .worker)) a ≡ told (back t i d)
-put-back-told t i s r a d given answer =
-    (λ k. leaves s (set t i (r .worker)) (answer k))
-    ∙ (λ k. record { memory = lent s (set t i (r .worker)); answer = answerOf (r .response); said = answer-said (r .response) k })
-    ∙ ap (λ (e : Done). told (back t i e)) given
+pub put-back : (t : List Worker) (i : ℕ) (s : List ℕ) (r : Reply) (d : Done) → gives s r ≡ d → gave s (set t i (r .worker)) (r .response) ≡ back t i d
+put-back t i s r d given = ap (λ (e : Done). back t i e) given
 
 -- ── a request on a record ──
--- what a function that does what is requested claims of its answer and of the last store and table
-abbrev pub ActsAs : Shape → Request → List ℕ → List Worker → Answer → List ℕ → List Worker → Type 0
-ActsAs sh q s t r s′ t′ = leaves s′ t′ r ≡ told (requested sh (lent s t) q)
+-- what a function that does what is requested claims of its response and of the last store and table; and one that answers it
+abbrev pub ActsAs : Shape → Request → List ℕ → List Worker → Response → List ℕ → List Worker → Type 0
+ActsAs sh q s t r s′ t′ = gave s′ t′ r ≡ requested sh (lent s t) q
+
+abbrev pub AnswersAs : Shape → Request → List ℕ → List Worker → Answer → List ℕ → List Worker → Type 0
+AnswersAs sh q s t a s′ t′ = leaves s′ t′ a ≡ told (requested sh (lent s t) q)
+
+pub answered : (sh : Shape) (q : Request) (s : List ℕ) (t : List Worker) (r : Response) (a : Answer) (s′ : List ℕ) (t′ : List Worker)
+    → ActsAs sh q s t r s′ t′ → a ≡ answerOf r → AnswersAs sh q s t a s′ t′
+answered sh q s t r a s′ t′ acts answers =
+    (λ k. leaves s′ t′ (answers k)) ∙ (λ k. record { memory = lent s′ t′; answer = answerOf r; said = answer-said r k }) ∙ ap told acts
 
 -- the records that the request looks at are in range; w is its worker's
 abbrev pub nearBy : Shape → Request → Survey → Worker → Bool
@@ -241,10 +250,10 @@ module _ (sh : Shape) (s : List ℕ) (t : List Worker) (q : Request) where
 
   -- Past the workers' records there is no worker, or the gate refuses anyway.
   pub away-is : ltb i (surveyed sh (length t)) ≡ false
-      → leaves s t (answerOf (Refused (gateOn (isWhole q) sh s i (length t) (survey sh q t .ok)))) ≡ told (requested sh (lent s t) q)
-  away-is beyond = ap told (refused-whole (survey sh q t .ok) tells (λ z.
+      → gave s t (Refused (gateOn (isWhole q) sh s i (length t) (survey sh q t .ok))) ≡ requested sh (lent s t) q
+  away-is beyond = refused-whole (survey sh q t .ok) tells (λ z.
       let p = passed (isWhole q) sh s i (length t) (survey sh q t .ok) z in
-      omega (arith, p .worker, past (record { limits = p .limits; store = p .laid .fits; table = p .table }))))
+      omega (arith, p .worker, past (record { limits = p .limits; store = p .laid .fits; table = p .table })))
     where
       past : Lent sh s t → sh .workers ≤ i
       past l =

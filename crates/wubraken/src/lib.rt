@@ -8,12 +8,13 @@ ghost use Rattle.calendar.specs.rules.Ranges.{shapeInRange};
 ghost use Rattle.calendar.specs.rules.Operations.{act, open-pool};
 ghost use Rattle.calendar.specs.rules.NarrowCalls.{narrowCall};
 ghost use Rattle.calendar.specs.rules.HostHistory.{requested};
-ghost use Rattle.wubraken.specs.Results.{lent, leaves, told};
+ghost use Rattle.wubraken.specs.Results.{lent, gave, leaves, told};
 use admission::ranges::shape_in_range;
 use answers::Answer;
 use answers::answer_of;
 use arrival::Arrival;
 use arrival::Request;
+use arrival::Response;
 use arrival::Shape;
 use arrival::Worker;
 use operation::open_lent;
@@ -62,8 +63,8 @@ pub extern "C" fn wubraken_open(shape: Shape, store: &mut [u64], table: &mut [Wo
 }
 
 // What a host requests: its worker's record is copied out, worked on by value, and stored back.
-pub fn act_lent(shape: Shape, request: Request, store: &mut [u64], table: &mut [Worker]) -> Answer
-    ensures { λ r. ⌜ leaves (now (store .exit)) (now (table .exit)) r ≡ told (requested shape (lent (now (store .entry)) (now (table .entry))) request) ⌝ }
+pub fn act_lent(shape: Shape, request: Request, store: &mut [u64], table: &mut [Worker]) -> Response
+    ensures { λ r. ⌜ gave (now (store .exit)) (now (table .exit)) r ≡ requested shape (lent (now (store .entry)) (now (table .entry))) request ⌝ }
 {
     let n = table.len();
     let records = records_surveyed(shape, n);
@@ -73,7 +74,7 @@ pub fn act_lent(shape: Shape, request: Request, store: &mut [u64], table: &mut [
         let w = table[i];
         let r = act_on_record(shape, request, n, seen, w, store);
         table[i] = r.worker;
-        return answer_of(r.response);
+        return r.response;
     } else {
         return turn_away(shape, request, n, seen, store);
     }
@@ -91,7 +92,7 @@ pub extern "C" fn wubraken_enqueue(
     ensures { λ r. ⌜ leaves (now (store .exit)) (now (table .exit)) r ≡ told (act shape (lent (now (store .entry)) (now (table .entry)))
         (Enqueue i arrival)) ⌝ }
 {
-    act_lent(shape, whole_enqueue(i, arrival), store, table)
+    answer_of(act_lent(shape, whole_enqueue(i, arrival), store, table))
 }
 
 // A take start of worker i.
@@ -104,7 +105,7 @@ pub extern "C" fn wubraken_dequeue(
 ) -> Answer
     ensures { λ r. ⌜ leaves (now (store .exit)) (now (table .exit)) r ≡ told (act shape (lent (now (store .entry)) (now (table .entry))) (Dequeue i)) ⌝ }
 {
-    act_lent(shape, whole_dequeue(i), store, table)
+    answer_of(act_lent(shape, whole_dequeue(i), store, table))
 }
 
 // A turn of worker i.
@@ -117,7 +118,7 @@ pub extern "C" fn wubraken_step(
 ) -> Answer
     ensures { λ r. ⌜ leaves (now (store .exit)) (now (table .exit)) r ≡ told (act shape (lent (now (store .entry)) (now (table .entry))) (Step i)) ⌝ }
 {
-    act_lent(shape, whole_step(i), store, table)
+    answer_of(act_lent(shape, whole_step(i), store, table))
 }
 
 // The three that look only at what they need, each with at most so many turns of worker i behind it.
@@ -133,7 +134,7 @@ pub extern "C" fn wubraken_narrow_enqueue(
     ensures { λ r. ⌜ leaves (now (store .exit)) (now (table .exit)) r ≡ told (narrowCall shape (lent (now (store .entry)) (now (table .entry)))
         (Enqueue i arrival) turns) ⌝ }
 {
-    act_lent(shape, narrow_enqueue(i, arrival, turns), store, table)
+    answer_of(act_lent(shape, narrow_enqueue(i, arrival, turns), store, table))
 }
 
 #[no_mangle]
@@ -147,7 +148,7 @@ pub extern "C" fn wubraken_narrow_dequeue(
     ensures { λ r. ⌜ leaves (now (store .exit)) (now (table .exit)) r ≡ told (narrowCall shape (lent (now (store .entry)) (now (table .entry)))
         (Dequeue i) turns) ⌝ }
 {
-    act_lent(shape, narrow_dequeue(i, turns), store, table)
+    answer_of(act_lent(shape, narrow_dequeue(i, turns), store, table))
 }
 
 #[no_mangle]
@@ -161,5 +162,5 @@ pub extern "C" fn wubraken_narrow_step(
     ensures { λ r. ⌜ leaves (now (store .exit)) (now (table .exit)) r ≡ told (narrowCall shape (lent (now (store .entry)) (now (table .entry)))
         (Step i) turns) ⌝ }
 {
-    act_lent(shape, narrow_step(i, turns), store, table)
+    answer_of(act_lent(shape, narrow_step(i, turns), store, table))
 }

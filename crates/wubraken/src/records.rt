@@ -58,15 +58,15 @@ fn is_let_in(shape: Shape, whole: bool, i: usize, n: usize, ok: bool, store: &[u
     is_near_within(shape, n, ok, store) & exists
 }
 
-// The answer where worker i has no record.
+// The response where worker i has no record.
 pub fn turn_away(
     shape: Shape,
     request: Request,
     n: usize,
     seen: Survey,
     store: &mut [u64],
-) -> Answer
-    ensures { λ r. ⌜ (r ≡ answerOf (Refused (gateOn (isWhole request) shape (now (store .entry)) (actorOf (actionOf request)) n (seen .ok))))
+) -> Response
+    ensures { λ r. ⌜ (r ≡ Refused (gateOn (isWhole request) shape (now (store .entry)) (actorOf (actionOf request)) n (seen .ok)))
         × (now (store .exit) ≡ now (store .entry)) ⌝ }
 {
     let k = gate_on(
@@ -77,7 +77,7 @@ pub fn turn_away(
         seen.ok,
         store,
     );
-    answer_of(Response::Refused(k))
+    Response::Refused(k)
 }
 
 // Whether the records that the request looks at are in range; w: its worker's.

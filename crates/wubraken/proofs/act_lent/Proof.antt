@@ -1,6 +1,6 @@
 -- `act_lent` meets its contract: a walk of its MIR, by hand. The table is lent as a `&` to `survey_table` and comes back. Where worker i has a record its
 -- borrow is opened once: the record is taken out of the row, copied, handed to `act_on_record` by value, stored to, and put back, and the borrow is closed at
--- the list with the new record in it; `answer_of` answers. Where it has none `turn_away` does.
+-- the list with the new record in it; its response is returned. Where it has none `turn_away` has one.
 -- The store goes to either at its own lifetime and is not needed after the call. All that the proof knows of the callees is that they meet their contracts.
 --     stayed .. vals-a          what is had of each parameter at exit; the machine values
 --     holds, fails              a test that holds is true, one that fails is false
@@ -61,7 +61,6 @@ use denote.Triple.Walked.{says, Stays, gave-slice, stay-slice, stay-none, walkOf
 use denote.Exit.{yes}
 use Rattle.arrival.specs.declared.Shape.{Shape}
 use Rattle.arrival.specs.declared.Worker.{Worker}
-use Rattle.wubraken.specs.declared.answers.Answer.{Answer}
 use Rattle.arrival.specs.declared.Response.{Response}
 use Rattle.arrival.specs.declared.Response.the-variants.{Refused}
 use Rattle.calendar.specs.rules.Ranges.{blank}
@@ -69,12 +68,11 @@ use Rattle.calendar.specs.rules.Operations.{actor}
 use Rattle.calendar.specs.rules.HostHistory.{requested, actionOf}
 use Rattle.words.specs.declared.replies.Reply.{Reply}
 use Rattle.words.specs.Done.{gives}
-use Rattle.wubraken.specs.Answers.{answerOf}
 use Rattle.wubraken.specs.declared.table.Survey.{Survey}
 use Rattle.wubraken.specs.Survey.{surveyed, survey, surveyed-bound, survey-tells}
 use Rattle.wubraken.specs.Requests.{isWhole}
 use Rattle.wubraken.specs.LentGate.{gateOn}
-use Rattle.wubraken.specs.Results.{lent, leaves, told, put-back-told, actOn, acted, away-is}
+use Rattle.wubraken.specs.Results.{lent, gave, put-back, actOn, acted, away-is}
 use Rattle.arrival.specs.declared.Request.{Request}
 use Rattle.arrival.proofs.Request as Rq
 use Rattle.arrival.proofs.Request.Laws as Rq′
@@ -82,8 +80,6 @@ use Rattle.arrival.proofs.Shape as Sh
 use Rattle.arrival.proofs.Shape.Laws as Sh′
 use Rattle.arrival.proofs.Worker as T
 use Rattle.arrival.proofs.Worker.Laws as T′
-use Rattle.wubraken.proofs.answers.Answer as R
-use Rattle.wubraken.proofs.answers.Answer.Laws as R′
 use Rattle.arrival.proofs.Response as Q
 use Rattle.arrival.proofs.Response.Laws as Q′
 use Rattle.words.proofs.replies.Reply as U
@@ -108,10 +104,6 @@ use Rattle.wubraken.proofs.records.act_on_record as turn
 use Rattle.wubraken.proofs.records.act_on_record.Symbol as turn-def
 use Rattle.wubraken.proofs.records.act_on_record.Symbol.{name as #turn}
 use Rattle.wubraken.proofs.records.act_on_record.Met as turn-thm
-use Rattle.wubraken.proofs.answers.answer_of as tell
-use Rattle.wubraken.proofs.answers.answer_of.Symbol as tell-def
-use Rattle.wubraken.proofs.answers.answer_of.Symbol.{name as #tell}
-use Rattle.wubraken.proofs.answers.answer_of.Met as tell-thm
 use Rattle.wubraken.proofs.records.turn_away as away
 use Rattle.wubraken.proofs.records.turn_away.Symbol as away-def
 use Rattle.wubraken.proofs.records.turn_away.Symbol.{name as #away}
@@ -151,11 +143,11 @@ vals-s = LL.vals Sv.the-type Sv′.the-laws
 abbrev val-s : Survey → Val
 val-s = LL.val Sv.the-type Sv′.the-laws
 
-abbrev val-r : Answer → Val
-val-r = LL.val R.the-type R′.the-laws
-
 abbrev vals-a : Response → List Val
 vals-a = EL.vals Q.the-type Q′.the-laws
+
+abbrev val-a : Response → Val
+val-a = EL.val Q.the-type Q′.the-laws
 
 holds : (y : Bool) → Holds y → y ≡ true
 holds true h = refl
@@ -174,9 +166,6 @@ Count 𝓤 H A mem run = tripleOf 𝓤 H A count.signature (count.spec 𝓤 H A 
 
 abbrev Indexed : {M : Type 1} (𝓤 : URA M) (H : Heap 𝓤) (A : Atoms 𝓤) (mem : Memory → SProp 𝓤) (run : Routine → Fun 𝓤) → Contract 𝓤
 Indexed 𝓤 H A mem run = tripleOf 𝓤 H A index.signature (index.spec 𝓤 H A mem run)
-
-abbrev Tell : {M : Type 1} (𝓤 : URA M) (H : Heap 𝓤) (A : Atoms 𝓤) (mem : Memory → SProp 𝓤) (run : Routine → Fun 𝓤) → Contract 𝓤
-Tell 𝓤 H A mem run = tripleOf 𝓤 H A tell.signature (tell.spec 𝓤 H A mem run)
 
 abbrev Away : {M : Type 1} (𝓤 : URA M) (H : Heap 𝓤) (A : Atoms 𝓤) (mem : Memory → SProp 𝓤) (run : Routine → Fun 𝓤) → Contract 𝓤
 Away 𝓤 H A mem run = tripleOf 𝓤 H A away.signature (away.spec 𝓤 H A mem run)
@@ -199,19 +188,18 @@ module _ (sh : Shape) (x : Request) (S : List ℕ) (ys : List Worker) where
   abbrev Said : Reply → List ℕ → Type 0
   Said r zs = gives zs r ≡ actOn sh x (length ys) (survey sh x ys) S elem
 
-  abbrev SaidAway : Answer → List ℕ → Type 0
-  SaidAway r zs = (r ≡ answerOf (Refused (gateOn (isWhole x) sh S (actor (actionOf x)) (length ys) (survey sh x ys .ok)))) × (zs ≡ S)
+  abbrev SaidAway : Response → List ℕ → Type 0
+  SaidAway r zs = (r ≡ Refused (gateOn (isWhole x) sh S (actor (actionOf x)) (length ys) (survey sh x ys .ok))) × (zs ≡ S)
 
-  abbrev Says : Answer → List ℕ → List Worker → Type 0
-  Says v zs ws = leaves zs ws v ≡ told (requested sh (lent S ys) x)
+  abbrev Says : Response → List ℕ → List Worker → Type 0
+  Says v zs ws = gave zs ws v ≡ requested sh (lent S ys) x
 
-  says-in : actor (actionOf x) < surveyed sh (length ys) → (r : Reply) (a : Answer) (zs : List ℕ) → Said r zs → a ≡ answerOf (r .response)
-      → Says a zs (set ys (actor (actionOf x)) (r .worker))
-  says-in h r a zs e d =
-      put-back-told ys (actor (actionOf x)) zs r a (actOn sh x (length ys) (survey sh x ys) S elem) e d ∙ ap told (acted sh S ys x h)
+  says-in : actor (actionOf x) < surveyed sh (length ys) → (r : Reply) (zs : List ℕ) → Said r zs
+      → Says (r .response) zs (set ys (actor (actionOf x)) (r .worker))
+  says-in h r zs e = put-back ys (actor (actionOf x)) zs r (actOn sh x (length ys) (survey sh x ys) S elem) e ∙ acted sh S ys x h
 
-  says-out : ltb (actor (actionOf x)) (surveyed sh (length ys)) ≡ false → (r : Answer) (zs : List ℕ) → SaidAway r zs → Says r zs ys
-  says-out beyond r zs e = (λ k. leaves (e .1 k) ys (e .0 k)) ∙ away-is sh S ys x beyond
+  says-out : ltb (actor (actionOf x)) (surveyed sh (length ys)) ≡ false → (r : Response) (zs : List ℕ) → SaidAway r zs → Says r zs ys
+  says-out beyond r zs e = (λ k. gave (e .1 k) ys (e .0 k)) ∙ away-is sh S ys x beyond
 
 module _ {M : Type 1} (𝓤 : URA M) (H : Heap 𝓤) (A : Atoms 𝓤) (W : Given 𝓤 H A) (mem : Memory → SProp 𝓤) (run : Routine → Fun 𝓤) (κ κ′ : Lft) (q q′ : Share)
     (sh : Shape) (x : Request) (b o : ℕ) (γ : GName) (S : List ℕ) (b′ o′ : ℕ) (γ′ : GName) (ys : List Worker)
@@ -307,15 +295,15 @@ module _ {M : Type 1} (𝓤 : URA M) (H : Heap 𝓤) (A : Atoms 𝓤) (W : Given
       owned ! Rq.the-row (Is Rq.the-row) (EL.makes Rq.the-type Rq′.the-plain 𝓤 H A) x _ x-is $ fjoin ! $
       owned ! Sh.the-row (Is Sh.the-row) (LL.makes Sh.the-type Sh′.the-plain 𝓤 H A) sh _ sh-is $ fjoin ! $ move ! (1 ∷ 0 ∷ []) $ join ! $ frame ! $ done !
 
-  exits : (w : Worker) (a : Answer) (zs : List ℕ) → Says sh x S ys a zs (set ys i w) → length zs ≡ length S
-      → Is R.the-row a (val-r a ∷ [])
+  exits : (w : Worker) (a : Response) (zs : List ℕ) → Says sh x S ys a zs (set ys i w) → length zs ≡ length S
+      → Is Q.the-row a (val-a a ∷ [])
       → ent 𝓤 (⋆ 𝓤 H A (‵ (fobs γ′ (codedHoleys T.the-row .code (heres T.the-row (set ys i w))))
       ∷ ‵ (fbor κ′ (Held T.the-row (length (set ys i w)) b′ o′ γ′)) ∷ ‵ (flft κ′ q′) ∷ (‵ (flft κ q) ⊛ ‵ ftrue) ∷ ‵ (finally u64 γ zs) ∷ []))
-      (Post (val-r a))
+      (Post (val-a a))
   exits w a zs e same is =
       qed W (‵ (fobs γ′ (codedHoleys T.the-row .code (heres T.the-row (set ys i w))))
       ∷ ‵ (fbor κ′ (Held T.the-row (length (set ys i w)) b′ o′ γ′)) ∷ ‵ (flft κ′ q′) ∷ (‵ (flft κ q) ⊛ ‵ ftrue) ∷ ‵ (finally u64 γ zs) ∷ []) ∵
-      suffices ! _ (ends-at 𝓤 H A f.ended stayed (f.clauses 𝓤 H A mem run) W (((κ, (κ′, tt)), (q, (q′, tt)), tt, args, at), tt) (val-r a) a
+      suffices ! _ (ends-at 𝓤 H A f.ended stayed (f.clauses 𝓤 H A mem run) W (((κ, (κ′, tt)), (q, (q′, tt)), tt, args, at), tt) (val-a a) a
       (tt, (tt, (zs, (set ys i w, tt)))) (tt, (tt, (same, (length-set ys i w, tt))))) $ says ! e $
       move ! (3 ∷ []) $ split ! $ move ! (4 ∷ 1 ∷ []) $ join ! $ move ! (1 ∷ 0 ∷ []) $ join ! $ frame ! $
       -- [obs; the borrow; the store's last list]
@@ -326,27 +314,26 @@ module _ {M : Type 1} (𝓤 : URA M) (H : Heap 𝓤) (A : Atoms 𝓤) (W : Given
       nothing ! $ move ! (1 ∷ 0 ∷ []) $ fjoin ! $ move ! (1 ∷ 0 ∷ []) $ fjoin ! $
       owned ! Rq.the-row (Is Rq.the-row) (EL.makes Rq.the-type Rq′.the-plain 𝓤 H A) x _ x-is $ fjoin ! $
       owned ! Sh.the-row (Is Sh.the-row) (LL.makes Sh.the-type Sh′.the-plain 𝓤 H A) sh _ sh-is $ fjoin ! $
-      frame ! $ owned ! R.the-row (Is R.the-row) (LL.makes R.the-type R′.the-plain 𝓤 H A) a _ is $ done !
+      frame ! $ owned ! Q.the-row (Is Q.the-row) (EL.makes Q.the-type Q′.the-plain 𝓤 H A) a _ is $ done !
 
   -- where worker i has no record the table is as it was
-  exits-out : (r : Answer) (zs : List ℕ) → Says sh x S ys r zs ys → length zs ≡ length S → Is R.the-row r (val-r r ∷ [])
+  exits-out : (r : Response) (zs : List ℕ) → Says sh x S ys r zs ys → length zs ≡ length S → Is Q.the-row r (val-a r ∷ [])
       → ent 𝓤 (⋆ 𝓤 H A ((‵ (flft κ q) ⊛ ‵ ftrue) ∷ ‵ (finally u64 γ zs) ∷ ‵ (MutSlice (named 1) κ′ T.the-row .own (t ys) (tv ∷ [])) ∷ ‵ (flft κ′ q′) ∷ []))
-      (Post (val-r r))
+      (Post (val-a r))
   exits-out r zs e same is =
       qed W ((‵ (flft κ q) ⊛ ‵ ftrue) ∷ ‵ (finally u64 γ zs) ∷ ‵ (MutSlice (named 1) κ′ T.the-row .own (t ys) (tv ∷ [])) ∷ ‵ (flft κ′ q′) ∷ []) ∵
-      suffices ! _ (ends-at 𝓤 H A f.ended stayed (f.clauses 𝓤 H A mem run) W (((κ, (κ′, tt)), (q, (q′, tt)), tt, args, at), tt) (val-r r) r
+      suffices ! _ (ends-at 𝓤 H A f.ended stayed (f.clauses 𝓤 H A mem run) W (((κ, (κ′, tt)), (q, (q′, tt)), tt, args, at), tt) (val-a r) r
       (tt, (tt, (zs, (ys, tt)))) (tt, (tt, (same, (refl, tt))))) $ says ! e $
       split ! $ move ! (4 ∷ 1 ∷ []) $ join ! $ move ! (1 ∷ 0 ∷ []) $ join ! $ frame ! $
       -- [the store's last list; the table]
       nothing ! $ move ! (2 ∷ 0 ∷ []) $ fjoin ! $ move ! (1 ∷ 0 ∷ []) $ fjoin ! $
       owned ! Rq.the-row (Is Rq.the-row) (EL.makes Rq.the-type Rq′.the-plain 𝓤 H A) x _ x-is $ fjoin ! $
       owned ! Sh.the-row (Is Sh.the-row) (LL.makes Sh.the-type Sh′.the-plain 𝓤 H A) sh _ sh-is $ fjoin ! $
-      frame ! $ owned ! R.the-row (Is R.the-row) (LL.makes R.the-type R′.the-plain 𝓤 H A) r _ is $ done !
+      frame ! $ owned ! Q.the-row (Is Q.the-row) (EL.makes Q.the-type Q′.the-plain 𝓤 H A) r _ is $ done !
 
   module _ (C : Calls 𝓤 H) (Λ : Loops 𝓤 H) (fm : FmC 𝓤 H (W .laws) C) (known-count : Triple 𝓤 (C #count) (Count 𝓤 H A mem run))
       (known-scan : Triple 𝓤 (C #scan) (Scan 𝓤 H A mem run))
       (known-index : Triple 𝓤 (C #index) (Indexed 𝓤 H A mem run)) (known : Triple 𝓤 (C #turn) (Turn 𝓤 H A mem run))
-      (known-tell : Triple 𝓤 (C #tell) (Tell 𝓤 H A mem run))
       (known-away : Triple 𝓤 (C #away) (Away 𝓤 H A mem run)) where
     walk : ent 𝓤 (onEntry 𝓤 H A f.signature (κ, (κ′, tt)) (q, (q′, tt)) args at)
         (WpFn 𝓤 H C Λ code.function (val-sh sh ∷ val-q x ∷ sv ∷ tv ∷ []) Post)
@@ -450,12 +437,8 @@ module _ {M : Type 1} (𝓤 : URA M) (H : Heap 𝓤) (A : Atoms 𝓤) (W : Given
         move ! (5 ∷ 0 ∷ 6 ∷ []) $ elem-put ! T.the-row fullShare ys i (r .worker) (vals (r .worker)) b′ o′ (within inside) $
         move ! (0 ∷ 5 ∷ 6 ∷ 7 ∷ []) $ closes-slice ! tt T.the-row ys (set ys i (r .worker)) (length-set ys i (r .worker)) b′ o′ $
         -- [obs; the borrow; the table's token; what r owns; the store's token; its last list; true; the table's fact; true; true; the locals]
-        -- `answer_of`
-        calls-value ! fm (tell.signature .params) (tell.signature .result) (yes, tt) (λ y a. a ≡ answerOf (y .0)) known-tell (r .response, tt)
-        (vals-a (r .response), tt) (EL.makes Q.the-type Q′.the-plain 𝓤 H A, tt) (response-is r v is, tt)
-        (and-then ! (load ! (from ! (fld ! refl (stop !))) (look-in ! 33 (sub ! 1 refl (whole !)))) (no-more !)) (λ v′ a d is′.
-        land ! (from ! (stop !)) (init ! 52 refl (LL.lawful R.the-type R′.the-laws 𝓤 H A W .typed a _ is′ .0)) $
-        rewrite ! 52 (λ (u : Val). ‵ (fat fullShare R′.mir l₀ 0 u)) (ap only (LL.tells R.the-type R′.the-laws a _ is′)) refl $
+        assigns ! (of-opd ! (load ! (from ! (fld ! refl (stop !))) (look-in ! 32 (sub ! 1 refl (whole !))))) (from ! (stop !)) (init ! 52 refl
+        (typed-a (r .response) (response-is r v is))) $
         returns-within ! Post refl (look ! 52 refl) $ forget ! 52 refl $ forget ! 50 refl $ forget ! 48 refl $ forget ! 46 refl $ forget ! 44 refl $ forget ! 42 refl $
         forget ! 40 refl $ forget ! 38 refl $ forget ! 36 refl $ forget ! 34 refl $ forget ! 32 refl $ forget ! 30 refl $ forget ! 28 refl $
         forget ! 26 refl $ forget ! 24 refl $ forget ! 22 refl $ forget ! 20 refl $ forget ! 18 refl $ forget ! 16 refl $ forget ! 14 refl $
@@ -465,8 +448,8 @@ module _ {M : Type 1} (𝓤 : URA M) (H : Heap 𝓤) (A : Atoms 𝓤) (W : Given
         move ! (26 ∷ 27 ∷ []) $ free1 ! $ move ! (24 ∷ 25 ∷ []) $ free1 ! $ move ! (22 ∷ 23 ∷ []) $ free1 ! $ move ! (20 ∷ 21 ∷ []) $ free1 ! $
         move ! (18 ∷ 19 ∷ []) $ free1 ! $ move ! (16 ∷ 17 ∷ []) $ free1 ! $ move ! (14 ∷ 15 ∷ []) $ free1 ! $ move ! (12 ∷ 13 ∷ []) $ free1 ! $
         move ! (10 ∷ 11 ∷ []) $ free1 ! $ free0 ! $
-        keep ! (0 ∷ 1 ∷ 2 ∷ 4 ∷ 5 ∷ []) $ by ! (exits (r .worker) a (zs .1 .1 .1 .1 .1 .0)
-        (says-in sh x S ys (ltb→lt i n inside) r a (zs .1 .1 .1 .1 .1 .0) e d) same (subst (Is R.the-row a) (LL.tells R.the-type R′.the-laws a _ is′) is′)))))))))))
+        keep ! (0 ∷ 1 ∷ 2 ∷ 4 ∷ 5 ∷ []) $ by ! (exits (r .worker) (r .response) (zs .1 .1 .1 .1 .1 .0)
+        (says-in sh x S ys (ltb→lt i n inside) r (zs .1 .1 .1 .1 .1 .0) e) same (response-is r v is))))))))))
         (λ outside.
         assigns ! (addr ! (from ! (fld ! refl (hop ! (look-in ! 42 (sub ! 0 refl (whole !))) (stop !))))) (from ! (stop !)) (init ! 8 refl (tt, tt)) $
         assigns ! (agg ! (and-then ! (load ! (from ! (stop !)) (look ! 8 refl))
@@ -478,7 +461,7 @@ module _ {M : Type 1} (𝓤 : URA M) (H : Heap 𝓤) (A : Atoms 𝓤) (W : Given
         (and-then ! (load ! (from ! (stop !)) (look ! 45 refl))
         (and-then ! (load ! (from ! (stop !)) (look ! 43 refl)) (and-then ! (load ! (from ! (stop !)) (look ! 37 refl))
         (and-then ! (load ! (from ! (stop !)) (look ! 33 refl)) (and-then ! (load ! (from ! (stop !)) (look ! 5 refl)) (no-more !)))))) (λ v.
-        use1 W (later (some (λ (r : Answer). ((‵ (flft κ q) ⊛ ‵ ftrue) ⊛ ‵ (R.the-row .own r (v ∷ [])))
+        use1 W (later (some (λ (r : Response). ((‵ (flft κ q) ⊛ ‵ ftrue) ⊛ ‵ (Q.the-row .own r (v ∷ [])))
         ⊛ raw (ensured 𝓤 H A away.ended (away.clauses 𝓤 H A mem run) (κ, tt) (sh, (x, (length ys, (all, (s, tt))))) tt r)))) (id⊢ 𝓤 _) $ await ! tt $
         pick ! (λ r.
         split ! $ move ! (1 ∷ []) $ use1 W
@@ -486,9 +469,9 @@ module _ {M : Type 1} (𝓤 : URA M) (H : Heap 𝓤) (A : Atoms 𝓤) (W : Given
         (sh, (x, (length ys, (all, (s, tt))))) zs) ⊛ raw (fact 𝓤 (SaidAway sh x S ys r (zs .1 .1 .1 .1 .0))))) (id⊢ 𝓤 _) $ pick ! (λ zs.
         split ! $ move ! (1 ∷ []) $ heard ! (SaidAway sh x S ys r (zs .1 .1 .1 .1 .0)) (λ e. fsplit ! $ drop ! $ fsplit ! $ drop ! $ fsplit ! $ drop ! $
         fsplit ! $ drop ! $ fsplit ! $ fsplit ! $ move ! (1 ∷ []) $ feqL ! (λ same.
-        move ! (2 ∷ []) $ split ! $ move ! (1 ∷ []) $ peeks ! R.the-row (Is R.the-row) (shows 𝓤 H A R.the-row) r (v ∷ []) (λ is.
-        land ! (from ! (stop !)) (init ! 50 refl (LL.lawful R.the-type R′.the-laws 𝓤 H A W .typed r _ is .0)) $
-        rewrite ! 50 (λ (u : Val). ‵ (fat fullShare R′.mir l₀ 0 u)) (ap only (LL.tells R.the-type R′.the-laws r _ is)) refl $
+        move ! (2 ∷ []) $ split ! $ move ! (1 ∷ []) $ peeks ! Q.the-row (Is Q.the-row) (shows 𝓤 H A Q.the-row) r (v ∷ []) (λ is.
+        land ! (from ! (stop !)) (init ! 50 refl (EL.lawful Q.the-type Q′.the-laws 𝓤 H A W tt .typed r _ is .0)) $
+        rewrite ! 50 (λ (u : Val). ‵ (fat fullShare Q′.mir l₀ 0 u)) (ap only (EL.tells Q.the-type Q′.the-laws r _ is)) refl $
         -- [what r owns; the store's token; its last list; true; the table; its token; true; true; the locals]
         returns-within ! Post refl (look ! 50 refl) $ forget ! 50 refl $ forget ! 48 refl $ forget ! 46 refl $ forget ! 44 refl $ forget ! 42 refl $ forget ! 40 refl $
         forget ! 38 refl $ forget ! 36 refl $ forget ! 34 refl $ forget ! 28 refl $ forget ! 26 refl $ forget ! 24 refl $ forget ! 10 refl $
@@ -500,7 +483,7 @@ module _ {M : Type 1} (𝓤 : URA M) (H : Heap 𝓤) (A : Atoms 𝓤) (W : Given
         move ! (16 ∷ 17 ∷ []) $ free1 ! $ move ! (14 ∷ 15 ∷ []) $ free1 ! $ move ! (12 ∷ 13 ∷ []) $ free1 ! $ move ! (10 ∷ 11 ∷ []) $ free1 ! $
         move ! (8 ∷ 9 ∷ []) $ free1 ! $ free0 ! $
         keep ! (1 ∷ 2 ∷ 4 ∷ 5 ∷ []) $ by ! (exits-out r (zs .1 .1 .1 .1 .0) (says-out sh x S ys (fails _ outside) r (zs .1 .1 .1 .1 .0) e) same
-        (subst (Is R.the-row r) (LL.tells R.the-type R′.the-laws r _ is) is)))))))))))))))))))))))))))))))))))))))
+        (subst (Is Q.the-row r) (EL.tells Q.the-type Q′.the-laws r _ is) is)))))))))))))))))))))))))))))))))))))))
       where
         typed : (w : Worker) → Is T.the-row w (vals w) → Holds (hasTy T′.mir (val w)) × WT (val w)
         typed w g = LL.lawful T.the-type T′.the-laws 𝓤 H A W .typed w _ g .0
@@ -511,8 +494,8 @@ module _ {M : Type 1} (𝓤 : URA M) (H : Heap 𝓤) (A : Atoms 𝓤) (W : Given
         typed-x : Holds (hasTy Rq′.mir (val-q x)) × WT (val-q x)
         typed-x = EL.lawful Rq.the-type Rq′.the-laws 𝓤 H A W tt .typed x _ x-is .0
 
-        typed-r : (r : Answer) → Is R.the-row r (val-r r ∷ []) → Holds (hasTy R′.mir (val-r r)) × WT (val-r r)
-        typed-r r g = LL.lawful R.the-type R′.the-laws 𝓤 H A W .typed r _ g .0
+        typed-a : (r : Response) → Is Q.the-row r (vals-a r) → Holds (hasTy Q′.mir (val-a r)) × WT (val-a r)
+        typed-a r g = EL.lawful Q.the-type Q′.the-laws 𝓤 H A W tt .typed r _ g .0
 
         all-is : (m : Survey) (v : Val) → Is Sv.the-row m (v ∷ []) → m ≡ all → Is Sv.the-row all (vals-s all)
         all-is m v is e = subst (λ (y : Survey). Is Sv.the-row y (vals-s y)) e (subst (Is Sv.the-row m) (LL.tells Sv.the-type Sv′.the-laws m (v ∷ []) is) is)
@@ -533,9 +516,9 @@ module _ {M : Type 1} (𝓤 : URA M) (H : Heap 𝓤) (A : Atoms 𝓤) (W : Given
 module _ {M : Type 1} (𝓤 : URA M) (H : Heap 𝓤) (A : Atoms 𝓤) (W : Given 𝓤 H A) (mem : Memory → SProp 𝓤) (run : Routine → Fun 𝓤) where
   walks : (C : Calls 𝓤 H) (Λ : Loops 𝓤 H) → FmC 𝓤 H (W .laws) C → Triple 𝓤 (C #count) (Count 𝓤 H A mem run) → Triple 𝓤 (C #scan) (Scan 𝓤 H A mem run)
       → Triple 𝓤 (C #index) (Indexed 𝓤 H A mem run) → Triple 𝓤 (C #turn) (Turn 𝓤 H A mem run)
-      → Triple 𝓤 (C #tell) (Tell 𝓤 H A mem run) → Triple 𝓤 (C #away) (Away 𝓤 H A mem run)
+      → Triple 𝓤 (C #away) (Away 𝓤 H A mem run)
       → Walks 𝓤 H A f.ended stayed (WpFn 𝓤 H C Λ code.function) (f.clauses 𝓤 H A mem run)
-  walks C Λ fm known-count known-scan known-index known known-tell known-away = walked 𝓤 H A f.ended stayed (f.clauses 𝓤 H A mem run) (WpFn 𝓤 H C Λ code.function)
+  walks C Λ fm known-count known-scan known-index known known-away = walked 𝓤 H A f.ended stayed (f.clauses 𝓤 H A mem run) (WpFn 𝓤 H C Λ code.function)
       (λ κs. (vals-sh, (vals-q, (slice-vals, (slice-vals, tt)))))
       (λ κs. (
         LL.tells Sh.the-type Sh′.the-laws,
@@ -544,14 +527,14 @@ module _ {M : Type 1} (𝓤 : URA M) (H : Heap 𝓤) (A : Atoms 𝓤) (W : Given
       (λ κs qs bounds a g are. via 𝓤 _ (fst∗ 𝓤 _ (emp 𝓤))
       (walk 𝓤 H A W mem run (κs .0) (κs .1 .0) (qs .0) (qs .1 .0) (a .0) (a .1 .0) (a .1 .1 .0 .ptr .0) (a .1 .1 .0 .ptr .1) (a .1 .1 .0 .name)
       (a .1 .1 .0 .now) (a .1 .1 .1 .0 .ptr .0) (a .1 .1 .1 .0 .ptr .1) (a .1 .1 .1 .0 .name) (a .1 .1 .1 .0 .now)
-      (are .0) (are .1 .0) (are .1 .1 .0 .0 .1) (are .1 .1 .1 .0 .0 .1) C Λ fm known-count known-scan known-index known known-tell known-away))
+      (are .0) (are .1 .0) (are .1 .1 .0 .0 .1) (are .1 .1 .1 .0 .0 .1) C Λ fm known-count known-scan known-index known known-away))
 
 meets : {M : Type 1} (𝓤 : URA M) (H : Heap 𝓤) (A : Atoms 𝓤) → Given 𝓤 H A → (mem : Memory → SProp 𝓤) (run : Routine → Fun 𝓤) (𝓣 : Tables 𝓤 H)
     → Triple 𝓤 (𝓣 .C #count) (Count 𝓤 H A mem run) → Triple 𝓤 (𝓣 .C #scan) (Scan 𝓤 H A mem run) → Triple 𝓤 (𝓣 .C #index) (Indexed 𝓤 H A mem run)
-    → Triple 𝓤 (𝓣 .C #turn) (Turn 𝓤 H A mem run) → Triple 𝓤 (𝓣 .C #tell) (Tell 𝓤 H A mem run)
+    → Triple 𝓤 (𝓣 .C #turn) (Turn 𝓤 H A mem run)
     → Triple 𝓤 (𝓣 .C #away) (Away 𝓤 H A mem run)
     → Meets 𝓤 H A f.signature (WpFn 𝓤 H (𝓣 .C) (𝓣 .Λ) code.function) (f.spec 𝓤 H A mem run)
-meets 𝓤 H A W mem run 𝓣 known-count known-scan known-index known known-tell known-away =
+meets 𝓤 H A W mem run 𝓣 known-count known-scan known-index known known-away =
     walk-meets 𝓤 H A f.ended stayed W (
       goes-none 𝓤 H A W 2 (λ _. Sh.the-row) yes (λ κs x f. refl),
       (
@@ -560,7 +543,7 @@ meets 𝓤 H A W mem run 𝓣 known-count known-scan known-index known known-tel
       ),
     ) (f.clauses 𝓤 H A mem run)
     (WpFn 𝓤 H (𝓣 .C) (𝓣 .Λ) code.function) (WpFn-mono 𝓤 H (W .laws) 𝓣 code.function)
-    (walks 𝓤 H A W mem run (𝓣 .C) (𝓣 .Λ) (fmOf 𝓤 H (W .laws) 𝓣) known-count known-scan known-index known known-tell known-away)
+    (walks 𝓤 H A W mem run (𝓣 .C) (𝓣 .Λ) (fmOf 𝓤 H (W .laws) 𝓣) known-count known-scan known-index known known-away)
 
 pub act-lent-spec : {M : Type 1} → stated.statement M
 unfolding code.routine tablesOf
@@ -572,5 +555,4 @@ act-lent-spec 𝓤 H 𝓜 𝓖 𝓡 =
     (cited 𝓤 H (Scan 𝓤 H (𝓖 .A) (𝓜 .mem) (𝓡 .run)) 𝓜 𝓡 code.env #scan scan-def.routine code.calls-wubraken·table·survey-table (scan-thm.met 𝓤 H 𝓜 𝓖 𝓡))
     (cited 𝓤 H (Indexed 𝓤 H (𝓖 .A) (𝓜 .mem) (𝓡 .run)) 𝓜 𝓡 code.env #index index-def.routine code.calls-wubraken·requests·index-of (index-thm.met 𝓤 H 𝓜 𝓖 𝓡))
     (cited 𝓤 H (Turn 𝓤 H (𝓖 .A) (𝓜 .mem) (𝓡 .run)) 𝓜 𝓡 code.env #turn turn-def.routine code.calls-wubraken·records·act-on-record (turn-thm.met 𝓤 H 𝓜 𝓖 𝓡))
-    (cited 𝓤 H (Tell 𝓤 H (𝓖 .A) (𝓜 .mem) (𝓡 .run)) 𝓜 𝓡 code.env #tell tell-def.routine code.calls-wubraken·answers·answer-of (tell-thm.met 𝓤 H 𝓜 𝓖 𝓡))
     (cited 𝓤 H (Away 𝓤 H (𝓖 .A) (𝓜 .mem) (𝓡 .run)) 𝓜 𝓡 code.env #away away-def.routine code.calls-wubraken·records·turn-away (away-thm.met 𝓤 H 𝓜 𝓖 𝓡)))

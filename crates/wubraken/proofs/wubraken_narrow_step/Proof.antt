@@ -1,11 +1,11 @@
--- `wubraken_narrow_step` meets its contract: it hands its request on to `act_lent`. Assumes nothing.
+-- `wubraken_narrow_step` meets its contract: it hands its request on to `act_lent`, and answers what that responds. Assumes nothing.
 use mathlib.Core.Path.{refl}
 use contract.Running.{givenOf, tables, tablesOf}
 use denote.Triple.Spec.{tripleOf}
 use denote.Triple.Table.{entered, cited}
 use Rattle.arrival.specs.declared.Action.the-variants.{Step}
 use Rattle.arrival.specs.declared.Request.the-variants.{Narrow}
-use Rattle.wubraken.specs.Results.{ActsAs}
+use Rattle.wubraken.specs.Results.{ActsAs, AnswersAs, answered}
 use Rattle.wubraken.proofs.Forms.{number}
 use Rattle.wubraken.proofs.Passing.{two-meets}
 use Rattle.wubraken.proofs.Asked.{step-is, narrow-is}
@@ -17,6 +17,10 @@ use Rattle.wubraken.proofs.act_lent as callee
 use Rattle.wubraken.proofs.act_lent.Symbol as callee-def
 use Rattle.wubraken.proofs.act_lent.Symbol.{name as #callee}
 use Rattle.wubraken.proofs.act_lent.Met as callee-thm
+use Rattle.wubraken.proofs.answers.answer_of as tell
+use Rattle.wubraken.proofs.answers.answer_of.Symbol as tell-def
+use Rattle.wubraken.proofs.answers.answer_of.Symbol.{name as #tell}
+use Rattle.wubraken.proofs.answers.answer_of.Met as tell-thm
 use Rattle.wubraken.proofs.wubraken_narrow_step.Key.{name as #key}
 use Rattle.wubraken.proofs.wubraken_narrow_step as f
 use Rattle.wubraken.proofs.wubraken_narrow_step.Statement as stated
@@ -27,8 +31,10 @@ unfolding code.routine tablesOf
 wubraken-narrow-step-spec 𝓤 H 𝓜 𝓖 𝓡 =
     entered 𝓤 H (tripleOf 𝓤 H (𝓖 .A) f.signature (f.spec 𝓤 H (𝓖 .A) (𝓜 .mem) (𝓡 .run)))
     (tables 𝓤 H 𝓜 𝓡 code.env .C) (tables 𝓤 H 𝓜 𝓡 code.env .Λ) #key code.function (code.unfolded 𝓤 H 𝓜 𝓡)
-    (two-meets 𝓤 H (𝓖 .A) (givenOf 𝓤 H 𝓜 𝓖) ActsAs (tablesOf 𝓤 H 𝓜 (tables 𝓤 H 𝓜 𝓡 code.env)) #make #callee
+    (two-meets 𝓤 H (𝓖 .A) (givenOf 𝓤 H 𝓜 𝓖) ActsAs AnswersAs answered (tablesOf 𝓤 H 𝓜 (tables 𝓤 H 𝓜 𝓡 code.env)) #make #callee #tell
     (cited 𝓤 H (tripleOf 𝓤 H (𝓖 .A) callee.signature (callee.spec 𝓤 H (𝓖 .A) (𝓜 .mem) (𝓡 .run))) 𝓜 𝓡 code.env #callee callee-def.routine
-    code.calls-wubraken·act-lent (callee-thm.met 𝓤 H 𝓜 𝓖 𝓡)) number number (λ i n. Narrow (Step i) n)
+    code.calls-wubraken·act-lent (callee-thm.met 𝓤 H 𝓜 𝓖 𝓡))
+    (cited 𝓤 H (tripleOf 𝓤 H (𝓖 .A) tell.signature (tell.spec 𝓤 H (𝓖 .A) (𝓜 .mem) (𝓡 .run))) 𝓜 𝓡 code.env #tell tell-def.routine
+    code.calls-wubraken·answers·answer-of (tell-thm.met 𝓤 H 𝓜 𝓖 𝓡)) number number (λ i n. Narrow (Step i) n)
     (cited 𝓤 H (tripleOf 𝓤 H (𝓖 .A) make.signature (make.spec 𝓤 H (𝓖 .A) (𝓜 .mem) (𝓡 .run))) 𝓜 𝓡 code.env #make make-def.routine
     code.calls-wubraken·requests·narrow-step (make-thm.met 𝓤 H 𝓜 𝓖 𝓡)) (λ i h n g. narrow-is (Step i) n (step-is i (h .1)) (g .1)) (f.spec 𝓤 H (𝓖 .A) (𝓜 .mem) (𝓡 .run)) refl)
