@@ -37,7 +37,6 @@ use Rattle.calendar.specs.rules.NarrowCalls.{recordsInRange, narrowAct, turnsAf
 use Rattle.calendar.specs.rules.HostHistory.{requested, actionOf}
 use Rattle.calendar.specs.facts.Accepted.{Lent}
 use Rattle.calendar.specs.facts.RangeFacts.{record-ranges}
-use Rattle.laws.specs.Tests.{never}
 use Rattle.words.specs.Done.{Done, gives, refused, unlessRefused}
 use Rattle.words.specs.declared.replies.Reply.{Reply}
 use Rattle.operation.specs.LocalAct.{localAct, Admitted, LowFor, back, act-is, narrow-is}
@@ -49,7 +48,7 @@ use Rattle.admission.specs.NarrowGate.{RecordsSeen, narrow-away}
 use Rattle.wubraken.specs.declared.table.Survey.{Survey}
 use Rattle.wubraken.specs.declared.answers.Answer.{Answer}
 use Rattle.wubraken.specs.Answers.{answerOf, saidBy, answer-said}
-use Rattle.wubraken.specs.Survey.{Surveyed, Looked, surveyed, surveyed-worker, survey, survey-none, survey-ok-is, survey-low-is}
+use Rattle.wubraken.specs.Survey.{Surveyed, surveyed, surveyed-worker, survey, survey-none, survey-ok-is, survey-low-is}
 use Rattle.wubraken.specs.Requests.{turnsOf, isWhole, looksAtAll}
 use Rattle.wubraken.specs.LentGate.{flagOf, gateOn, passed}
 
@@ -229,9 +228,9 @@ module _ (sh : Shape) (s : List ℕ) (t : List Worker) (q : Request) where
       go (Narrow (Step j) n) e = tt
 
   -- What is done on one record, where the worker has one, and put back is what was requested.
-  surveyed-acts : i < surveyed sh (length t) → back t i (actOn sh q (length t) (survey sh q t) s (worker t i)) ≡ requested sh (lent s t) q
+  pub acted : i < surveyed sh (length t) → back t i (actOn sh q (length t) (survey sh q t) s (worker t i)) ≡ requested sh (lent s t) q
   unfolding actOn
-  surveyed-acts h = go (eqb (gate near) 0) refl
+  acted h = go (eqb (gate near) 0) refl
     where
       near : Bool
       near = nearBy sh q (survey sh q t) (worker t i)
@@ -249,42 +248,10 @@ module _ (sh : Shape) (s : List ℕ) (t : List Worker) (q : Request) where
           ap (λ (u : List Worker). record { memory = lent s u; response = Refused (gate near) }) (set-getD t i blank)
           ∙ refused-whole near (tells-near exists) (eqb-false _ 0 e)
 
-  -- A look up to the first record out of range is as good: it finds the same, or the gate refuses.
-  as-good : (w : Worker) (found : Survey) → Looked sh q t found → actOn sh q (length t) found s w ≡ actOn sh q (length t) (survey sh q t) s w
-  unfolding actOn
-  as-good w found L = go (found .ok) refl
-    where
-      out : found .ok ≡ false → looksAtAll q ≡ true
-      out e = pick (looksAtAll q) refl
-        where
-          pick : (b : Bool) → looksAtAll q ≡ b → b ≡ true
-          pick true f = refl
-          pick false f = never (sym e ∙ L .ok ∙ survey-none sh q t f)
-
-      -- by the flag alone
-      refuses : (x : Survey) → x .ok ≡ false → looksAtAll q ≡ true
-          → unlessRefused (gate (nearBy sh q x w)) s w (localTurns sh (turnsOf q) (localAct sh (x .low) s a w)) ≡ refused s w (gate false)
-      refuses x e all =
-          let near : nearBy sh q x w ≡ false = rw (all, e) in
-          rw (near, ne-eqb (gate false) 0 (λ z. never (passed (isWhole q) sh s i (length t) false z .records)))
-
-      go : (b : Bool) → found .ok ≡ b
-          → unlessRefused (gate (nearBy sh q found w)) s w (localTurns sh (turnsOf q) (localAct sh (found .low) s a w))
-          ≡ unlessRefused (gate (nearBy sh q (survey sh q t) w)) s w (localTurns sh (turnsOf q) (localAct sh (survey sh q t .low) s a w))
-      go true e =
-          ap (λ (x : Survey). unlessRefused (gate (nearBy sh q x w)) s w (localTurns sh (turnsOf q) (localAct sh (x .low) s a w))) (L .all e)
-      go false e = refuses found e (out e) ∙ sym (refuses (survey sh q t) (sym (L .ok) ∙ e) (out e))
-
-  pub acted : (found : Survey) → Looked sh q t found → i < surveyed sh (length t)
-      → back t i (actOn sh q (length t) found s (worker t i)) ≡ requested sh (lent s t) q
-  acted found L h = ap (back t i) (as-good (worker t i) found L) ∙ surveyed-acts h
-
   -- Past the workers' records there is no worker, or the gate refuses anyway.
-  pub away-is : (found : Survey) → Looked sh q t found → ltb i (surveyed sh (length t)) ≡ false
-      → gave s t (Refused (gateOn (isWhole q) sh s i (length t) (found .ok))) ≡ requested sh (lent s t) q
-  away-is found L beyond =
-      ap (λ (ok : Bool). gave s t (Refused (gate ok))) (L .ok)
-      ∙ refused-whole (survey sh q t .ok) tells (λ z.
+  pub away-is : ltb i (surveyed sh (length t)) ≡ false
+      → gave s t (Refused (gateOn (isWhole q) sh s i (length t) (survey sh q t .ok))) ≡ requested sh (lent s t) q
+  away-is beyond = refused-whole (survey sh q t .ok) tells (λ z.
       let p = passed (isWhole q) sh s i (length t) (survey sh q t .ok) z in
       omega (arith, p .worker, past (record { limits = p .limits; store = p .laid .fits; table = p .table })))
     where

@@ -11,8 +11,7 @@ use borrow.Author.Tests.{ltb-true, ltb-false}
 use Rattle.arrival.specs.declared.Shape.{Shape}
 use Rattle.arrival.specs.declared.Worker.{Worker}
 use Rattle.arrival.specs.declared.Request.{Request}
-use Rattle.laws.specs.Tests.{never}
-use Rattle.laws.specs.Counting.{every, every-at, every-all}
+use Rattle.laws.specs.Counting.{every, every-at}
 use Rattle.calendar.specs.rules.Ranges.{shapeInRange, recordInRange, tableInRange, worker}
 use Rattle.starts.specs.LeastTicket.{lower, leastTicket, least-bound}
 use Rattle.wubraken.specs.declared.table.Survey.{Survey}
@@ -85,53 +84,17 @@ module _ (sh : Shape) (t : List Worker) where
   survey-low zero = refl
   survey-low (suc n) = ap (λ (l : ℕ). lower l (worker t n)) (survey-low n)
 
--- What a look up to the first record out of range finds: whether all are in range, and if so all that a look over all of them finds.
-pub record Looked (sh : Shape) (q : Request) (t : List Worker) (a : Survey) : Type 0 where
-  pub ok : a .ok ≡ survey sh q t .ok
-  pub all : a .ok ≡ true → a ≡ survey sh q t
-  pub low : a .low ≤ 4294967296
-
--- a record out of range among the first k is one among the first n
-out-stays : (sh : Shape) (t : List Worker) (k n : ℕ) → k ≤ n → surveyOf sh t k .ok ≡ false → surveyOf sh t n .ok ≡ false
-out-stays sh t k n h e = go (surveyOf sh t n .ok) refl
-  where
-    go : (b : Bool) → surveyOf sh t n .ok ≡ b → b ≡ false
-    go false f = refl
-    go true f =
-        never (sym e ∙ survey-ok sh t k
-        ∙ every-all (λ i. recordInRange sh (worker t i)) k (λ i l. every-at (λ i. recordInRange sh (worker t i)) n (sym (survey-ok sh t n) ∙ f) i (omega arith)))
-
--- where the look ends: behind the last, or behind one out of range
-pub looked : (sh : Shape) (q : Request) (t : List Worker) (k : ℕ) → k ≤ lookedAt sh q (length t)
-    → (ltb k (lookedAt sh q (length t)) && surveyOf sh t k .ok) ≡ false → Looked sh q t (surveyOf sh t k)
-looked sh q t k h e = go (ltb k n) refl (surveyOf sh t k .ok) refl e
-  where
-    n : ℕ
-    n = lookedAt sh q (length t)
-
-    low : surveyOf sh t k .low ≤ 4294967296
-    low = rw (survey-low sh t k) (least-bound t k)
-
-    go : (b : Bool) → ltb k n ≡ b → (c : Bool) → surveyOf sh t k .ok ≡ c → (b && c) ≡ false → Looked sh q t (surveyOf sh t k)
-    go true f true g e = never (sym e)
-    go true f false g e =
-        record { ok = g ∙ sym (out-stays sh t k n h g); all = λ up. never (sym g ∙ up); low = low }
-    go false f c g e =
-        let same : k ≡ n = omega (arith, ltb-false k n f) in
-        record { ok = ap (λ (m : ℕ). surveyOf sh t m .ok) same; all = λ up. ap (surveyOf sh t) same; low = low }
-
 -- What the look tells of the record w of the request's worker.
 pub record Surveyed (sh : Shape) (q : Request) (a : Survey) (w : Worker) : Type 0 where
   pub shape : shapeInRange sh ≡ true
   pub ranged : looksAtAll q ≡ true → a .ok ≡ true → recordInRange sh w ≡ true
   pub low : a .low ≤ 4294967296
 
-pub survey-tells : (sh : Shape) (q : Request) (t : List Worker) (a : Survey) (i : ℕ) → Looked sh q t a → i < surveyed sh (length t)
-    → Surveyed sh q a (worker t i)
-survey-tells sh q t a i L h = record {
+pub survey-tells : (sh : Shape) (q : Request) (t : List Worker) (i : ℕ) → i < surveyed sh (length t) → Surveyed sh q (survey sh q t) (worker t i)
+survey-tells sh q t i h = record {
   shape = surveyed-shape sh (length t) i h;
-  ranged = λ all ok. every-at _ (lookedAt sh q (length t)) (sym (survey-ok sh t (lookedAt sh q (length t))) ∙ sym (L .ok) ∙ ok) i (rw all h);
-  low = L .low;
+  ranged = λ all ok. every-at _ (lookedAt sh q (length t)) (sym (survey-ok sh t (lookedAt sh q (length t))) ∙ ok) i (rw all h);
+  low = rw (survey-low sh t (lookedAt sh q (length t))) (least-bound t (lookedAt sh q (length t)));
 }
 
 -- Where nothing is looked at, nothing is out of range.

@@ -5,7 +5,7 @@ ghost use mathlib.Core.List.{_++_};
 ghost use Prim.Native.Nat.{_≤_};
 ghost use lib.ListN.{length, drop, replicate};
 ghost use Rattle.calendar.specs.rules.Ranges.{shapeInRange, blank};
-ghost use Rattle.wubraken.specs.Survey.{seen, surveyed, lookedAt, Looked};
+ghost use Rattle.wubraken.specs.Survey.{seen, surveyed, lookedAt, survey};
 use super::requests::looks_at_all;
 use admission::ranges::record_in_range;
 use admission::ranges::shape_in_range;
@@ -56,9 +56,9 @@ pub fn records_looked_at(shape: Shape, request: Request, n: usize) -> usize
     records_surveyed(shape, n)
 }
 
-// The look over the workers' records, up to the first that is out of range.
+// The look over the workers' records.
 pub fn survey_table(shape: Shape, request: Request, table: &[Worker]) -> Survey
-    ensures { λ r. ⌜ Looked shape request (now (table .entry)) r ⌝ }
+    ensures { λ r. ⌜ r ≡ survey shape request (now (table .entry)) ⌝ }
 {
     let n = records_looked_at(shape, request, table.len());
     let mut found = Survey {
@@ -66,7 +66,7 @@ pub fn survey_table(shape: Shape, request: Request, table: &[Worker]) -> Survey
         low: word::COUNTS,
     };
     let mut k: usize = 0;
-    while (k < n) & found.ok {
+    while k < n {
         let w = table[k];
         found = look(shape, found, w);
         k = k + 1;

@@ -69,7 +69,7 @@ use Rattle.calendar.specs.rules.HostHistory.{requested, actionOf}
 use Rattle.words.specs.declared.replies.Reply.{Reply}
 use Rattle.words.specs.Done.{gives}
 use Rattle.wubraken.specs.declared.table.Survey.{Survey}
-use Rattle.wubraken.specs.Survey.{surveyed, Looked, surveyed-bound, survey-tells}
+use Rattle.wubraken.specs.Survey.{surveyed, survey, surveyed-bound, survey-tells}
 use Rattle.wubraken.specs.Requests.{isWhole}
 use Rattle.wubraken.specs.LentGate.{gateOn}
 use Rattle.wubraken.specs.Results.{lent, gave, put-back, actOn, acted, away-is}
@@ -176,30 +176,30 @@ Scan 𝓤 H A mem run = tripleOf 𝓤 H A scan.signature (scan.spec 𝓤 H A mem
 -- of what `survey_table` ensures, the clause alone: it has no last value
 scan-of : {M : Type 1} (𝓤 : URA M) (H : Heap 𝓤) (A : Atoms 𝓤) (mem : Memory → SProp 𝓤) (run : Routine → Fun 𝓤) (κ : Lft) (sh : Shape) (x : Request)
     (y : RefT (List Worker)) (r : Survey)
-    → ent 𝓤 (ensured 𝓤 H A scan.ended (scan.clauses 𝓤 H A mem run) (κ, tt) (sh, (x, (y, tt))) tt r) (fact 𝓤 (Looked sh x (y .now) r))
+    → ent 𝓤 (ensured 𝓤 H A scan.ended (scan.clauses 𝓤 H A mem run) (κ, tt) (sh, (x, (y, tt))) tt r) (fact 𝓤 (r ≡ survey sh x (y .now)))
 scan-of 𝓤 H A mem run κ sh x y r =
-    exE 𝓤 _ (λ ws. snd∗ 𝓤 (sem 𝓤 H A (lasts scan.ended (κ, tt) (sh, (x, (y, tt))) ws)) (fact 𝓤 (Looked sh x (y .now) r)))
+    exE 𝓤 _ (λ ws. snd∗ 𝓤 (sem 𝓤 H A (lasts scan.ended (κ, tt) (sh, (x, (y, tt))) ws)) (fact 𝓤 (r ≡ survey sh x (y .now))))
 
--- what the callees said, and what the contract says of it, where the look over the table found `all`
-module _ (sh : Shape) (x : Request) (S : List ℕ) (ys : List Worker) (all : Survey) where
+-- what the callees said, and what the contract says of it
+module _ (sh : Shape) (x : Request) (S : List ℕ) (ys : List Worker) where
   abbrev elem : Worker
   elem = getD ys (actor (actionOf x)) blank
 
   abbrev Said : Reply → List ℕ → Type 0
-  Said r zs = gives zs r ≡ actOn sh x (length ys) all S elem
+  Said r zs = gives zs r ≡ actOn sh x (length ys) (survey sh x ys) S elem
 
   abbrev SaidAway : Response → List ℕ → Type 0
-  SaidAway r zs = (r ≡ Refused (gateOn (isWhole x) sh S (actor (actionOf x)) (length ys) (all .ok))) × (zs ≡ S)
+  SaidAway r zs = (r ≡ Refused (gateOn (isWhole x) sh S (actor (actionOf x)) (length ys) (survey sh x ys .ok))) × (zs ≡ S)
 
   abbrev Says : Response → List ℕ → List Worker → Type 0
   Says v zs ws = gave zs ws v ≡ requested sh (lent S ys) x
 
-  says-in : Looked sh x ys all → actor (actionOf x) < surveyed sh (length ys) → (r : Reply) (zs : List ℕ) → Said r zs
+  says-in : actor (actionOf x) < surveyed sh (length ys) → (r : Reply) (zs : List ℕ) → Said r zs
       → Says (r .response) zs (set ys (actor (actionOf x)) (r .worker))
-  says-in L h r zs e = put-back ys (actor (actionOf x)) zs r (actOn sh x (length ys) all S elem) e ∙ acted sh S ys x all L h
+  says-in h r zs e = put-back ys (actor (actionOf x)) zs r (actOn sh x (length ys) (survey sh x ys) S elem) e ∙ acted sh S ys x h
 
-  says-out : Looked sh x ys all → ltb (actor (actionOf x)) (surveyed sh (length ys)) ≡ false → (r : Response) (zs : List ℕ) → SaidAway r zs → Says r zs ys
-  says-out L beyond r zs e = (λ k. gave (e .1 k) ys (e .0 k)) ∙ away-is sh S ys x all L beyond
+  says-out : ltb (actor (actionOf x)) (surveyed sh (length ys)) ≡ false → (r : Response) (zs : List ℕ) → SaidAway r zs → Says r zs ys
+  says-out beyond r zs e = (λ k. gave (e .1 k) ys (e .0 k)) ∙ away-is sh S ys x beyond
 
 module _ {M : Type 1} (𝓤 : URA M) (H : Heap 𝓤) (A : Atoms 𝓤) (W : Given 𝓤 H A) (mem : Memory → SProp 𝓤) (run : Routine → Fun 𝓤) (κ κ′ : Lft) (q q′ : Share)
     (sh : Shape) (x : Request) (b o : ℕ) (γ : GName) (S : List ℕ) (b′ o′ : ℕ) (γ′ : GName) (ys : List Worker)
@@ -234,7 +234,10 @@ module _ {M : Type 1} (𝓤 : URA M) (H : Heap 𝓤) (A : Atoms 𝓤) (W : Given
   at = (vals-sh sh, (vals-q x, (sv ∷ [], (tv ∷ [], tt))))
 
   abbrev wk : Worker
-  wk = getD ys i blank
+  wk = elem sh x S ys
+
+  abbrev all : Survey
+  all = survey sh x ys
 
   abbrev Post : Val → SProp 𝓤
   Post = walkOf 𝓤 H A f.ended stayed (f.clauses 𝓤 H A mem run) .post (((κ, (κ′, tt)), (q, (q′, tt)), tt, args, at), tt)
@@ -253,8 +256,8 @@ module _ {M : Type 1} (𝓤 : URA M) (H : Heap 𝓤) (A : Atoms 𝓤) (W : Given
       move ! (1 ∷ 0 ∷ []) $ join ! $ frame ! $ done !
 
   -- the same for `act_on_record`
-  abbrev to-turn : Survey → Turn 𝓤 H A mem run .Ghost
-  to-turn all = (
+  abbrev to-turn : Turn 𝓤 H A mem run .Ghost
+  to-turn = (
     (
       (κ, tt),
       (q, tt),
@@ -265,10 +268,10 @@ module _ {M : Type 1} (𝓤 : URA M) (H : Heap 𝓤) (A : Atoms 𝓤) (W : Given
     tt,
   )
 
-  goes-turn : (all : Survey) → Looked sh x ys all → Is Sv.the-row all (vals-s all) → i < n → Is T.the-row wk (vals wk)
-      → ent 𝓤 (sep 𝓤 (A .lft κ q) (sem 𝓤 H A (MutSlice (named 0) κ u64 .own s (sv ∷ [])))) (Turn 𝓤 H A mem run .pre (to-turn all))
-  goes-turn all L all-is inside g =
-      qed W (‵ (flft κ q) ∷ ‵ (MutSlice (named 0) κ u64 .own s (sv ∷ [])) ∷ []) ∵ says ! (survey-tells sh x ys all i L inside) $ nothing ! $ move ! (1 ∷ 0 ∷ []) $
+  goes-turn : Is Sv.the-row all (vals-s all) → i < n → Is T.the-row wk (vals wk)
+      → ent 𝓤 (sep 𝓤 (A .lft κ q) (sem 𝓤 H A (MutSlice (named 0) κ u64 .own s (sv ∷ [])))) (Turn 𝓤 H A mem run .pre to-turn)
+  goes-turn all-is inside g =
+      qed W (‵ (flft κ q) ∷ ‵ (MutSlice (named 0) κ u64 .own s (sv ∷ [])) ∷ []) ∵ says ! (survey-tells sh x ys i inside) $ nothing ! $ move ! (1 ∷ 0 ∷ []) $
       join ! $ frame ! $
       nothing ! $ move ! (1 ∷ 0 ∷ []) $ fjoin ! $ owned ! T.the-row (Is T.the-row) (LL.makes T.the-type T′.the-plain 𝓤 H A) wk _ g $ fjoin ! $
       owned ! Sv.the-row (Is Sv.the-row) (LL.makes Sv.the-type Sv′.the-plain 𝓤 H A) all _ all-is $ fjoin ! $
@@ -277,22 +280,22 @@ module _ {M : Type 1} (𝓤 : URA M) (H : Heap 𝓤) (A : Atoms 𝓤) (W : Given
       owned ! Sh.the-row (Is Sh.the-row) (LL.makes Sh.the-type Sh′.the-plain 𝓤 H A) sh _ sh-is $ fjoin ! $ done !
 
   -- and for `turn_away`
-  abbrev to-away : Survey → Away 𝓤 H A mem run .Ghost
-  to-away all = (
+  abbrev to-away : Away 𝓤 H A mem run .Ghost
+  to-away = (
     ((κ, tt), (q, tt), tt, (sh, (x, (length ys, (all, (s, tt))))), (vals-sh sh, (vals-q x, (vint w64 (length ys) ∷ [], (vals-s all, (sv ∷ [], tt)))))),
     tt,
   )
 
-  goes-away : (all : Survey) → Is Sv.the-row all (vals-s all)
-      → ent 𝓤 (sep 𝓤 (A .lft κ q) (sem 𝓤 H A (MutSlice (named 0) κ u64 .own s (sv ∷ [])))) (Away 𝓤 H A mem run .pre (to-away all))
-  goes-away all all-is =
+  goes-away : Is Sv.the-row all (vals-s all)
+      → ent 𝓤 (sep 𝓤 (A .lft κ q) (sem 𝓤 H A (MutSlice (named 0) κ u64 .own s (sv ∷ [])))) (Away 𝓤 H A mem run .pre to-away)
+  goes-away all-is =
       qed W (‵ (flft κ q) ∷ ‵ (MutSlice (named 0) κ u64 .own s (sv ∷ [])) ∷ []) ∵ nothing ! $ move ! (1 ∷ 0 ∷ []) $ join ! $
       nothing ! $ move ! (2 ∷ 0 ∷ []) $ fjoin ! $ owned ! Sv.the-row (Is Sv.the-row) (LL.makes Sv.the-type Sv′.the-plain 𝓤 H A) all _ all-is $ fjoin ! $
       owned ! usize (Is usize) (uint-makes 𝓤 H A W w64) (length ys) _ (refl, room .0) $ fjoin ! $
       owned ! Rq.the-row (Is Rq.the-row) (EL.makes Rq.the-type Rq′.the-plain 𝓤 H A) x _ x-is $ fjoin ! $
       owned ! Sh.the-row (Is Sh.the-row) (LL.makes Sh.the-type Sh′.the-plain 𝓤 H A) sh _ sh-is $ fjoin ! $ move ! (1 ∷ 0 ∷ []) $ join ! $ frame ! $ done !
 
-  exits : (w : Worker) (a : Response) (zs : List ℕ) → gave zs (set ys i w) a ≡ requested sh (lent S ys) x → length zs ≡ length S
+  exits : (w : Worker) (a : Response) (zs : List ℕ) → Says sh x S ys a zs (set ys i w) → length zs ≡ length S
       → Is Q.the-row a (val-a a ∷ [])
       → ent 𝓤 (⋆ 𝓤 H A (‵ (fobs γ′ (codedHoleys T.the-row .code (heres T.the-row (set ys i w))))
       ∷ ‵ (fbor κ′ (Held T.the-row (length (set ys i w)) b′ o′ γ′)) ∷ ‵ (flft κ′ q′) ∷ (‵ (flft κ q) ⊛ ‵ ftrue) ∷ ‵ (finally u64 γ zs) ∷ []))
@@ -314,7 +317,7 @@ module _ {M : Type 1} (𝓤 : URA M) (H : Heap 𝓤) (A : Atoms 𝓤) (W : Given
       frame ! $ owned ! Q.the-row (Is Q.the-row) (EL.makes Q.the-type Q′.the-plain 𝓤 H A) a _ is $ done !
 
   -- where worker i has no record the table is as it was
-  exits-out : (r : Response) (zs : List ℕ) → gave zs ys r ≡ requested sh (lent S ys) x → length zs ≡ length S → Is Q.the-row r (val-a r ∷ [])
+  exits-out : (r : Response) (zs : List ℕ) → Says sh x S ys r zs ys → length zs ≡ length S → Is Q.the-row r (val-a r ∷ [])
       → ent 𝓤 (⋆ 𝓤 H A ((‵ (flft κ q) ⊛ ‵ ftrue) ∷ ‵ (finally u64 γ zs) ∷ ‵ (MutSlice (named 1) κ′ T.the-row .own (t ys) (tv ∷ [])) ∷ ‵ (flft κ′ q′) ∷ []))
       (Post (val-a r))
   exits-out r zs e same is =
@@ -370,10 +373,10 @@ module _ {M : Type 1} (𝓤 : URA M) (H : Heap 𝓤) (A : Atoms 𝓤) (W : Given
         (and-then ! (load ! (from ! (stop !)) (look ! 23 refl)) (no-more !)))) (λ v₀.
         use1 W (later (some (λ (m : Survey). ((‵ (flft (ν ∷ []) fullShare) ⊛ ‵ ftrue) ⊛ ‵ (Sv.the-row .own m (v₀ ∷ [])))
         ⊛ raw (ensured 𝓤 H A scan.ended (scan.clauses 𝓤 H A mem run) (ν ∷ [], tt) (sh, (x, (at-name δ ys, tt))) tt m)))) (id⊢ 𝓤 _) $ await ! tt $ pick ! (λ m.
-        split ! $ move ! (1 ∷ []) $ use1 W (raw (fact 𝓤 (Looked sh x ys m))) (scan-of 𝓤 H A mem run (ν ∷ []) sh x (at-name δ ys) m) $ heard ! (Looked sh x ys m) (λ L.
+        split ! $ move ! (1 ∷ []) $ use1 W (raw (fact 𝓤 (m ≡ all))) (scan-of 𝓤 H A mem run (ν ∷ []) sh x (at-name δ ys) m) $ heard ! (m ≡ all) (λ e₀.
         split ! $ move ! (1 ∷ []) $ peeks ! Sv.the-row (Is Sv.the-row) (shows 𝓤 H A Sv.the-row) m (v₀ ∷ []) (λ is₀.
         land ! (from ! (stop !)) (init ! 34 refl (LL.lawful Sv.the-type Sv′.the-laws 𝓤 H A W .typed m _ is₀ .0)) $
-        rewrite ! 34 (λ (u : Val). ‵ (fat fullShare Sv′.mir l₆ 0 u)) (ap only (LL.tells Sv.the-type Sv′.the-laws m _ is₀)) refl $
+        rewrite ! 34 (λ (u : Val). ‵ (fat fullShare Sv′.mir l₆ 0 u)) (ap only (LL.tells Sv.the-type Sv′.the-laws m _ is₀) ∙ ap val-s e₀) refl $
         -- the lifetime is ended, and the table comes back
         drop ! $ split ! $ lft-end ! tt $ move ! (0 ∷ 2 ∷ []) $
         use2 W (later (‵ (MutSlice (named 1) κ′ T.the-row .own (t ys) (tv ∷ [])) ⊛ ‵ (flft κ′ q′))) (comes-back-shared T.the-row κ′ (ν ∷ []) q′ γ′ b′ o′ 𝓤 H A W
@@ -404,19 +407,19 @@ module _ {M : Type 1} (𝓤 : URA M) (H : Heap 𝓤) (A : Atoms 𝓤) (W : Given
         (and-then ! (load ! (from ! (fld ! refl (stop !))) (look-in ! 47 (sub ! 1 refl (whole !)))) (no-more !)))) (from ! (stop !)) (init ! 17 refl
         (tt, (tt, (record { fits = room-s .0 }, tt)))) $
         -- `act_on_record`
-        move ! (9 ∷ 10 ∷ []) $ use2 W (raw (Turn 𝓤 H A mem run .pre (to-turn m))) (goes-turn m L (m-is m v₀ is₀) (ltb→lt i n inside) g) $
-        calls-at ! fm (Turn 𝓤 H A mem run) known (to-turn m)
+        move ! (9 ∷ 10 ∷ []) $ use2 W (raw (Turn 𝓤 H A mem run .pre to-turn)) (goes-turn (all-is m v₀ is₀ e₀) (ltb→lt i n inside) g) $
+        calls-at ! fm (Turn 𝓤 H A mem run) known to-turn
         (and-then ! (load ! (from ! (stop !)) (look ! 50 refl)) (and-then ! (load ! (from ! (stop !)) (look ! 48 refl))
         (and-then ! (load ! (from ! (stop !)) (look ! 42 refl)) (and-then ! (load ! (from ! (stop !)) (look ! 38 refl))
         (and-then ! (load ! (from ! (stop !)) (look ! 34 refl)) (and-then ! (load ! (from ! (stop !)) (look ! 16 refl)) (no-more !))))))) (λ v.
         use1 W (later (some (λ (r : Reply). ((‵ (flft κ q) ⊛ ‵ ftrue) ⊛ ‵ (U.the-row .own r (v ∷ [])))
-        ⊛ raw (ensured 𝓤 H A turn.ended (turn.clauses 𝓤 H A mem run) (κ, tt) (sh, (x, (length ys, (m, (wk, (s, tt)))))) tt r)))) (id⊢ 𝓤 _) $
+        ⊛ raw (ensured 𝓤 H A turn.ended (turn.clauses 𝓤 H A mem run) (κ, tt) (sh, (x, (length ys, (all, (wk, (s, tt)))))) tt r)))) (id⊢ 𝓤 _) $
         await ! tt $ pick ! (λ r.
         split ! $ move ! (1 ∷ []) $ use1 W
         (some (λ (zs : Unit {0} × (Unit {0} × (Unit {0} × (Unit {0} × (Unit {0} × (List ℕ × Unit {0})))))).
-        ‵ (lasts turn.ended (κ, tt) (sh, (x, (length ys, (m, (wk, (s, tt)))))) zs)
-        ⊛ raw (fact 𝓤 (Said sh x S ys m r (zs .1 .1 .1 .1 .1 .0))))) (id⊢ 𝓤 _) $ pick ! (λ zs.
-        split ! $ move ! (1 ∷ []) $ heard ! (Said sh x S ys m r (zs .1 .1 .1 .1 .1 .0)) (λ e. fsplit ! $ drop ! $ fsplit ! $ drop ! $ fsplit ! $
+        ‵ (lasts turn.ended (κ, tt) (sh, (x, (length ys, (all, (wk, (s, tt)))))) zs)
+        ⊛ raw (fact 𝓤 (Said sh x S ys r (zs .1 .1 .1 .1 .1 .0))))) (id⊢ 𝓤 _) $ pick ! (λ zs.
+        split ! $ move ! (1 ∷ []) $ heard ! (Said sh x S ys r (zs .1 .1 .1 .1 .1 .0)) (λ e. fsplit ! $ drop ! $ fsplit ! $ drop ! $ fsplit ! $
         drop ! $ fsplit ! $ drop ! $ fsplit ! $ drop ! $ fsplit ! $ fsplit ! $ move ! (1 ∷ []) $ feqL ! (λ same.
         move ! (2 ∷ []) $ split ! $ move ! (1 ∷ []) $ peeks ! U.the-row (Is U.the-row) (shows 𝓤 H A U.the-row) r (v ∷ []) (λ is.
         land ! (from ! (stop !)) (init ! 35 refl (LL.lawful U.the-type U′.the-laws 𝓤 H A W .typed r _ is .0)) $
@@ -446,25 +449,25 @@ module _ {M : Type 1} (𝓤 : URA M) (H : Heap 𝓤) (A : Atoms 𝓤) (W : Given
         move ! (18 ∷ 19 ∷ []) $ free1 ! $ move ! (16 ∷ 17 ∷ []) $ free1 ! $ move ! (14 ∷ 15 ∷ []) $ free1 ! $ move ! (12 ∷ 13 ∷ []) $ free1 ! $
         move ! (10 ∷ 11 ∷ []) $ free1 ! $ free0 ! $
         keep ! (0 ∷ 1 ∷ 2 ∷ 4 ∷ 5 ∷ []) $ by ! (exits (r .worker) (r .response) (zs .1 .1 .1 .1 .1 .0)
-        (says-in sh x S ys m L (ltb→lt i n inside) r (zs .1 .1 .1 .1 .1 .0) e) same (response-is r v is))))))))))
+        (says-in sh x S ys (ltb→lt i n inside) r (zs .1 .1 .1 .1 .1 .0) e) same (response-is r v is))))))))))
         (λ outside.
         assigns ! (addr ! (from ! (fld ! refl (hop ! (look-in ! 42 (sub ! 0 refl (whole !))) (stop !))))) (from ! (stop !)) (init ! 8 refl (tt, tt)) $
         assigns ! (agg ! (and-then ! (load ! (from ! (stop !)) (look ! 8 refl))
         (and-then ! (load ! (from ! (fld ! refl (stop !))) (look-in ! 42 (sub ! 1 refl (whole !)))) (no-more !)))) (from ! (stop !)) (init ! 6 refl
         (tt, (tt, (record { fits = room-s .0 }, tt)))) $
         -- `turn_away`
-        move ! (4 ∷ 5 ∷ []) $ use2 W (raw (Away 𝓤 H A mem run .pre (to-away m))) (goes-away m (m-is m v₀ is₀)) $
-        calls-at ! fm (Away 𝓤 H A mem run) known-away (to-away m)
+        move ! (4 ∷ 5 ∷ []) $ use2 W (raw (Away 𝓤 H A mem run .pre to-away)) (goes-away (all-is m v₀ is₀ e₀)) $
+        calls-at ! fm (Away 𝓤 H A mem run) known-away to-away
         (and-then ! (load ! (from ! (stop !)) (look ! 45 refl))
         (and-then ! (load ! (from ! (stop !)) (look ! 43 refl)) (and-then ! (load ! (from ! (stop !)) (look ! 37 refl))
         (and-then ! (load ! (from ! (stop !)) (look ! 33 refl)) (and-then ! (load ! (from ! (stop !)) (look ! 5 refl)) (no-more !)))))) (λ v.
         use1 W (later (some (λ (r : Response). ((‵ (flft κ q) ⊛ ‵ ftrue) ⊛ ‵ (Q.the-row .own r (v ∷ [])))
-        ⊛ raw (ensured 𝓤 H A away.ended (away.clauses 𝓤 H A mem run) (κ, tt) (sh, (x, (length ys, (m, (s, tt))))) tt r)))) (id⊢ 𝓤 _) $ await ! tt $
+        ⊛ raw (ensured 𝓤 H A away.ended (away.clauses 𝓤 H A mem run) (κ, tt) (sh, (x, (length ys, (all, (s, tt))))) tt r)))) (id⊢ 𝓤 _) $ await ! tt $
         pick ! (λ r.
         split ! $ move ! (1 ∷ []) $ use1 W
         (some (λ (zs : (Unit {0} × (Unit {0} × (Unit {0} × (Unit {0} × (List ℕ × Unit {0})))))). ‵ (lasts away.ended (κ, tt)
-        (sh, (x, (length ys, (m, (s, tt))))) zs) ⊛ raw (fact 𝓤 (SaidAway sh x S ys m r (zs .1 .1 .1 .1 .0))))) (id⊢ 𝓤 _) $ pick ! (λ zs.
-        split ! $ move ! (1 ∷ []) $ heard ! (SaidAway sh x S ys m r (zs .1 .1 .1 .1 .0)) (λ e. fsplit ! $ drop ! $ fsplit ! $ drop ! $ fsplit ! $ drop ! $
+        (sh, (x, (length ys, (all, (s, tt))))) zs) ⊛ raw (fact 𝓤 (SaidAway sh x S ys r (zs .1 .1 .1 .1 .0))))) (id⊢ 𝓤 _) $ pick ! (λ zs.
+        split ! $ move ! (1 ∷ []) $ heard ! (SaidAway sh x S ys r (zs .1 .1 .1 .1 .0)) (λ e. fsplit ! $ drop ! $ fsplit ! $ drop ! $ fsplit ! $ drop ! $
         fsplit ! $ drop ! $ fsplit ! $ fsplit ! $ move ! (1 ∷ []) $ feqL ! (λ same.
         move ! (2 ∷ []) $ split ! $ move ! (1 ∷ []) $ peeks ! Q.the-row (Is Q.the-row) (shows 𝓤 H A Q.the-row) r (v ∷ []) (λ is.
         land ! (from ! (stop !)) (init ! 50 refl (EL.lawful Q.the-type Q′.the-laws 𝓤 H A W tt .typed r _ is .0)) $
@@ -479,7 +482,7 @@ module _ {M : Type 1} (𝓤 : URA M) (H : Heap 𝓤) (A : Atoms 𝓤) (W : Given
         move ! (24 ∷ 25 ∷ []) $ free1 ! $ move ! (22 ∷ 23 ∷ []) $ free1 ! $ move ! (20 ∷ 21 ∷ []) $ free1 ! $ move ! (18 ∷ 19 ∷ []) $ free1 ! $
         move ! (16 ∷ 17 ∷ []) $ free1 ! $ move ! (14 ∷ 15 ∷ []) $ free1 ! $ move ! (12 ∷ 13 ∷ []) $ free1 ! $ move ! (10 ∷ 11 ∷ []) $ free1 ! $
         move ! (8 ∷ 9 ∷ []) $ free1 ! $ free0 ! $
-        keep ! (1 ∷ 2 ∷ 4 ∷ 5 ∷ []) $ by ! (exits-out r (zs .1 .1 .1 .1 .0) (says-out sh x S ys m L (fails _ outside) r (zs .1 .1 .1 .1 .0) e) same
+        keep ! (1 ∷ 2 ∷ 4 ∷ 5 ∷ []) $ by ! (exits-out r (zs .1 .1 .1 .1 .0) (says-out sh x S ys (fails _ outside) r (zs .1 .1 .1 .1 .0) e) same
         (subst (Is Q.the-row r) (EL.tells Q.the-type Q′.the-laws r _ is) is)))))))))))))))))))))))))))))))))))))))
       where
         typed : (w : Worker) → Is T.the-row w (vals w) → Holds (hasTy T′.mir (val w)) × WT (val w)
@@ -494,8 +497,8 @@ module _ {M : Type 1} (𝓤 : URA M) (H : Heap 𝓤) (A : Atoms 𝓤) (W : Given
         typed-a : (r : Response) → Is Q.the-row r (vals-a r) → Holds (hasTy Q′.mir (val-a r)) × WT (val-a r)
         typed-a r g = EL.lawful Q.the-type Q′.the-laws 𝓤 H A W tt .typed r _ g .0
 
-        m-is : (m : Survey) (v : Val) → Is Sv.the-row m (v ∷ []) → Is Sv.the-row m (vals-s m)
-        m-is m v is = subst (Is Sv.the-row m) (LL.tells Sv.the-type Sv′.the-laws m (v ∷ []) is) is
+        all-is : (m : Survey) (v : Val) → Is Sv.the-row m (v ∷ []) → m ≡ all → Is Sv.the-row all (vals-s all)
+        all-is m v is e = subst (λ (y : Survey). Is Sv.the-row y (vals-s y)) e (subst (Is Sv.the-row m) (LL.tells Sv.the-type Sv′.the-laws m (v ∷ []) is) is)
 
         worker-is : (r : Reply) (v : Val) → Is U.the-row r (v ∷ []) → Is T.the-row (r .worker) (vals (r .worker))
         worker-is r v is = LL.owed U.the-type U′.the-laws r _ is .0
