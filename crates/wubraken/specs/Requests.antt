@@ -1,7 +1,6 @@
 -- What a request asks of the look at the lent memory. Assumes nothing.
 use mathlib.Core.Bool.{Bool, true, false}
 use Prim.Native.Nat.{ℕ}
-use Rattle.arrival.specs.declared.Action.{Action}
 use Rattle.arrival.specs.declared.Action.the-variants.{Enqueue, Dequeue, Step}
 use Rattle.arrival.specs.declared.Request.{Request}
 use Rattle.arrival.specs.declared.Request.the-variants.{Whole, Narrow}
