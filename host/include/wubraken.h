@@ -241,8 +241,9 @@ typedef struct {
 /* Works through the records of a turn file and writes one line a record, as
  * wubraken_open, _enqueue, _dequeue and _step would answer them. It looks through
  * the lent memory once, not once a record, and works on a copy of the workers'
- * records, which it stores back. It needs at least WUBRAKEN_LINE bytes of room, and some 20 KB of stack.
- * To go on, hand in the shape it answered and the input from `read` on. */
+ * records, which it stores back. It needs at least WUBRAKEN_LINE bytes of room, and
+ * some 20 KB of stack. To go on, hand in the shape it answered and the input from
+ * `read` on. */
 wubraken_batch_end wubraken_run_batch(wubraken_shape shape,
                                       const uint8_t *input, size_t bytes,
                                       uint8_t *out, size_t room,
