@@ -19,8 +19,8 @@
  * What the caller owes: a pointer leads to as many elements as its length says,
  * is aligned, and is not null even for a length of 0; the buffers of one call
  * lie apart; nobody else uses them during the call. Nothing more. Any shape,
- * length, content and argument may be handed in; what cannot be done is refused
- * by a number and changes nothing.
+ * length, content and argument may be handed in; an opening, a start or a turn
+ * that cannot be done is refused by a number and changes nothing.
  *
  * Link target/staticlib/libwubraken.a, and for wubraken_run_batch
  * target/staticlib/libwubraken_batch.a beside it (x86-64, System V).
@@ -104,7 +104,7 @@ enum {
     WUBRAKEN_STORED = 3, /* an enqueue has ended: ticket */
     WUBRAKEN_TOOK = 4,   /* a dequeue has ended: time, path, order, distance, energy */
     WUBRAKEN_EMPTY = 5,  /* a dequeue has ended, and found the pool empty */
-    WUBRAKEN_REFUSED = 6 /* nothing was done: number */
+    WUBRAKEN_REFUSED = 6 /* an opening, a start or a turn is refused: number */
 };
 
 /* Why a call is refused. Of several reasons the lowest number is answered. */
@@ -238,11 +238,12 @@ typedef struct {
     uint64_t stop;
 } wubraken_batch_end;
 
-/* Works through the records of a turn file and writes one line a record, as the
- * single calls would answer them. It looks through the lent memory once, not
- * once a record, and works on a copy of the workers' records, which it stores
- * back. It needs at least WUBRAKEN_LINE bytes of room, and some 20 KB of stack.
- * To go on, hand in the shape it answered and the input from `read` on. */
+/* Works through the records of a turn file and writes one line a record, as
+ * wubraken_open, _enqueue, _dequeue and _step would answer them. It looks through
+ * the lent memory once, not once a record, and works on a copy of the workers'
+ * records, which it stores back. It needs at least WUBRAKEN_LINE bytes of room, and
+ * some 20 KB of stack. To go on, hand in the shape it answered and the input from
+ * `read` on. */
 wubraken_batch_end wubraken_run_batch(wubraken_shape shape,
                                       const uint8_t *input, size_t bytes,
                                       uint8_t *out, size_t room,
