@@ -106,7 +106,8 @@ module _ (sh : Shape) (t : List Worker) (i : ℕ) (limits : Limits sh) (exists :
               response = localAct sh 0 s (Step i) w .response;
             }) (sym (set-set t i w (localAct sh 0 s (Step i) w .worker)))
             ∙ ap (λ (v : Worker). back (set t i w) i (localAct sh 0 s (Step i) v)) (sym here)
-            ∙ narrow-is sh m (Step i) (recordInRange sh w) (λ l. seen) 0 tt (passes sh (length s) (length (set t i w)) i _ (lent-passes sh m L) (flag ∙ e) exists)
+            ∙ narrow-is sh m (Step i) (recordInRange sh w) (λ l. seen) 0 tt (passes sh (length s) (length (set t i w)) i _ (lent-passes sh m L) (flag ∙ e)
+            exists)
         go false e =
             let three : gateOf sh (length s) (length (set t i w)) i (nearOf sh s (length (set t i w)) (recordInRange sh w)) ≡ 3 = third e in
             ap (λ (k : ℕ). record { memory = m; response = Refused k }) (sym three)
@@ -155,7 +156,8 @@ not-ended n r g is e = go (eqb n 0) refl g is e
     go false z false is e = never (sym e)
 
 -- one turn more
-one-more : (sh : Shape) (n : ℕ) (d : Done) → n ≢ 0 → goesOn (d .response) ≡ true → localTurns sh n d ≡ localTurns sh (n - 1) (localTurn sh (d .store) (d .worker))
+one-more : (sh : Shape) (n : ℕ) (d : Done) → n ≢ 0 → goesOn (d .response) ≡ true → localTurns sh n d ≡ localTurns sh (n - 1)
+    (localTurn sh (d .store) (d .worker))
 unfolding localTurns
 one-more sh zero d some e = absurd (some refl)
 one-more sh (suc n) d some e = let k : suc n - 1 ≡ n = omega arith in rw (e, k)
@@ -197,7 +199,8 @@ module _ (sh : Shape) (low : ℕ) (s : List ℕ) (w : Worker) (A : Admitted sh s
       does : Bool → Done
       does b = cond b (done sh s (outcomeOf sh s (firstFreeBelow sh s low) a w)) (refused s w (firstOf (ownTests sh s (noneBelow sh low s) a w)))
 
-      go : (b : Bool) → eqb (firstOf (ownTests sh s (noneBelow sh low s) a w)) 0 ≡ b → goesOn (does b .response) ≡ true → Going sh (does b .store) (does b .worker)
+      go : (b : Bool) → eqb (firstOf (ownTests sh s (noneBelow sh low s) a w)) 0 ≡ b → goesOn (does b .response) ≡ true → Going sh (does b .store)
+          (does b .worker)
       go true z g = by-rule a (eqb-true _ 0 z)
       go false z g = never g
 

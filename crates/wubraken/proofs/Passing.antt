@@ -4,8 +4,8 @@
 --     Made, Tells                      the contracts of what makes the request, and the answer
 --     Responds, Answers                posts: P, and a response or an answer with what it claims
 --     one-goes .. three-goes           the walk of the code, which knows nothing of what is owned: the answer of what the callee responds
---     goes                             what the callee asks is there
 --     one-more                         of a plain parameter more there is nothing to say
+--     goes                             what the callee asks is there
 --     told-once .. told-thrice         what the callee claims of its response, told of the answer, with one to three parameters
 --     passes                           the walk between what the entry has and what it claims
 --     one-form .. three-form           so the forms' contracts are met
@@ -26,7 +26,8 @@ use prog.Wp.{Heap, Calls, Loops, WpFn, Tables}
 use ghost.Atoms.{Atoms, sem}
 use contract.Monad.{fact, fact-mono}
 use contract.Lifetimes.{Lfts, Shares}
-use types.Kit.{Given, ‵, raw, _⊛_, some, later, _$_, _∵_, !, qed, move, drop, use1, split, join, pick, rewrite, fjoin, show, frame, await, updating, now as at-once}
+use types.Kit.{Given, ‵, raw, _⊛_, some, later, _$_, _∵_, !, qed, move, drop, use1, split, join, pick, rewrite, fjoin, show, frame, await, updating}
+use types.Kit.{now as at-once}
 use types.Kit.{done}
 use types.Part.{agg, whole, sub, look-in}
 use types.Run.{look, init, forget, stop, hop, fld, from, load, addr, and-then, no-more, assigns, land, returns, enter, alloc1, alloc0, params1, pass1}
@@ -180,7 +181,8 @@ module _ {M : Type 1} (𝓤 : URA M) (H : Heap 𝓤) (A : Atoms 𝓤) (P : SProp
         (known : Triple 𝓤 (C make) (Made 𝓤 H A (F ∷ G ∷ []) (λ a q. q ≡ asks (a .0) (a .1 .0))))
         (x : Of F) (x-is : Is (row F) x (F .val x ∷ []))
         (y : Of G) (y-is : Is (row G) y (G .val y ∷ [])) where
-      pub two-goes : ent 𝓤 (calls (val-q (asks x y))) (WpFn 𝓤 H C Λ (entry-code make f tell (F ∷ G ∷ [])) (val-sh sh ∷ F .val x ∷ G .val y ∷ sv ∷ tv ∷ []) Answers)
+      pub two-goes : ent 𝓤 (calls (val-q (asks x y))) (WpFn 𝓤 H C Λ (entry-code make f tell (F ∷ G ∷ [])) (val-sh sh ∷ F .val x ∷ G .val y ∷ sv ∷ tv ∷ [])
+          Answers)
       two-goes =
           qed W (raw (calls (val-q (asks x y))) ∷ []) ∵ enter ! C Λ (entry-code make f tell (F ∷ G ∷ [])) (val-sh sh ∷ F .val x ∷ G .val y ∷ sv ∷ tv ∷ []) _ $
           alloc1 ! (λ l₀. alloc1 ! (λ l₁. alloc1 ! (λ l₂. alloc1 ! (λ l₃. alloc1 ! (λ l₄. alloc1 ! (λ l₅. alloc1 ! (λ l₆. alloc1 ! (λ l₇.
@@ -231,9 +233,11 @@ module _ {M : Type 1} (𝓤 : URA M) (H : Heap 𝓤) (A : Atoms 𝓤) (P : SProp
         (x : Of F) (x-is : Is (row F) x (F .val x ∷ []))
         (y : Of G) (y-is : Is (row G) y (G .val y ∷ []))
         (z : Of K) (z-is : Is (row K) z (K .val z ∷ [])) where
-      pub three-goes : ent 𝓤 (calls (val-q (asks x y z))) (WpFn 𝓤 H C Λ (entry-code make f tell (F ∷ G ∷ K ∷ [])) (val-sh sh ∷ F .val x ∷ G .val y ∷ K .val z ∷ sv ∷ tv ∷ []) Answers)
+      pub three-goes : ent 𝓤 (calls (val-q (asks x y z))) (WpFn 𝓤 H C Λ (entry-code make f tell (F ∷ G ∷ K ∷ []))
+          (val-sh sh ∷ F .val x ∷ G .val y ∷ K .val z ∷ sv ∷ tv ∷ []) Answers)
       three-goes =
-          qed W (raw (calls (val-q (asks x y z))) ∷ []) ∵ enter ! C Λ (entry-code make f tell (F ∷ G ∷ K ∷ [])) (val-sh sh ∷ F .val x ∷ G .val y ∷ K .val z ∷ sv ∷ tv ∷ []) _ $
+          qed W (raw (calls (val-q (asks x y z))) ∷ []) ∵ enter ! C Λ (entry-code make f tell (F ∷ G ∷ K ∷ []))
+          (val-sh sh ∷ F .val x ∷ G .val y ∷ K .val z ∷ sv ∷ tv ∷ []) _ $
           alloc1 ! (λ l₀. alloc1 ! (λ l₁. alloc1 ! (λ l₂. alloc1 ! (λ l₃. alloc1 ! (λ l₄. alloc1 ! (λ l₅. alloc1 ! (λ l₆. alloc1 ! (λ l₇.
           alloc1 ! (λ l₈. alloc1 ! (λ l₉. alloc1 ! (λ l₁₀. alloc1 ! (λ l₁₁. alloc1 ! (λ l₁₂. alloc0 ! $ params1 ! $
           pass1 ! (init ! 22 refl typed-sh) $ pass1 ! (init ! 20 refl (F .typed 𝓤 H A W x x-is)) $ pass1 ! (init ! 18 refl (G .typed 𝓤 H A W y y-is)) $
@@ -241,8 +245,10 @@ module _ {M : Type 1} (𝓤 : URA M) (H : Heap 𝓤) (A : Atoms 𝓤) (P : SProp
           pass1 ! (init ! 12 refl (tt, (tt, (record { fits = n′-fits }, tt)))) $ pass0 ! $
           -- the request
           calls-value ! fm (slots (F ∷ G ∷ K ∷ [])) (plain (λ _. Rq.the-row)) (keeps (F ∷ G ∷ K ∷ [])) (λ a q. q ≡ asks (a .0) (a .1 .0) (a .1 .1 .0)) known
-          (x, (y, (z, tt))) (F .val x ∷ [], (G .val y ∷ [], (K .val z ∷ [], tt))) (F .makes 𝓤 H A W, (G .makes 𝓤 H A W, (K .makes 𝓤 H A W, tt))) (x-is, (y-is, (z-is, tt)))
-          (and-then ! (load ! (from ! (stop !)) (look ! 21 refl)) (and-then ! (load ! (from ! (stop !)) (look ! 19 refl)) (and-then ! (load ! (from ! (stop !)) (look ! 17 refl)) (no-more !)))) (λ u q e is₀.
+          (x, (y, (z, tt))) (F .val x ∷ [], (G .val y ∷ [], (K .val z ∷ [], tt))) (F .makes 𝓤 H A W, (G .makes 𝓤 H A W, (K .makes 𝓤 H A W, tt)))
+          (x-is, (y-is, (z-is, tt)))
+          (and-then ! (load ! (from ! (stop !)) (look ! 21 refl)) (and-then ! (load ! (from ! (stop !)) (look ! 19 refl))
+          (and-then ! (load ! (from ! (stop !)) (look ! 17 refl)) (no-more !)))) (λ u q e is₀.
           land ! (from ! (stop !)) (init ! 8 refl (typed-q q u is₀)) $
           rewrite ! 8 (λ (w : Val). ‵ (fat fullShare Rq′.mir l₈ 0 w)) (ap only (EL.tells Rq.the-type Rq′.the-laws q _ is₀) ∙ ap val-q e) refl $
           -- store and table, and the callee
@@ -330,13 +336,15 @@ module _ {M : Type 1} (𝓤 : URA M) (H : Heap 𝓤) (A : Atoms 𝓤) (W : Given
         (monoR 𝓤 (sem 𝓤 H A (Last (d .1 .1 .0) (d .1 .1 .1 .0)))
         (fact-mono 𝓤 (claim sh q (now s) (now t) r (d .1 .1 .0) (d .1 .1 .1 .0)) (told sh q (now s) (now t) a (d .1 .1 .0) (d .1 .1 .1 .0))
         (λ c. answered sh q (now s) (now t) r a (d .1 .1 .0) (d .1 .1 .1 .0) c is)))
-        (exI 𝓤 (λ (e : Unit {0} × (Unit {0} × (List ℕ × (List Worker × Unit {0})))). Ends (Last (e .1 .1 .0) (e .1 .1 .1 .0)) a (e .1 .1 .0) (e .1 .1 .1 .0)) d))
+        (exI 𝓤 (λ (e : Unit {0} × (Unit {0} × (List ℕ × (List Worker × Unit {0})))). Ends (Last (e .1 .1 .0) (e .1 .1 .1 .0)) a (e .1 .1 .0)
+        (e .1 .1 .1 .0)) d))
 
     told-twice : (r : Response) (a : Answer) → a ≡ answerOf r
         → ent 𝓤 (Claims r) (ex 𝓤 (λ (e : Unit {0} × (Unit {0} × (Unit {0} × (List ℕ × (List Worker × Unit {0}))))).
         Ends (fsep ftrue (Last (e .1 .1 .1 .0) (e .1 .1 .1 .1 .0))) a (e .1 .1 .1 .0) (e .1 .1 .1 .1 .0)))
     told-twice r a is =
-        via 𝓤 (ex 𝓤 (λ (e : Unit {0} × (Unit {0} × (List ℕ × (List Worker × Unit {0})))). Ends (Last (e .1 .1 .0) (e .1 .1 .1 .0)) a (e .1 .1 .0) (e .1 .1 .1 .0)))
+        via 𝓤 (ex 𝓤 (λ (e : Unit {0} × (Unit {0} × (List ℕ × (List Worker × Unit {0})))). Ends (Last (e .1 .1 .0) (e .1 .1 .1 .0)) a (e .1 .1 .0)
+        (e .1 .1 .1 .0)))
         (told-once r a is)
         (one-more (Unit {0} × (Unit {0} × (List ℕ × (List Worker × Unit {0})))) (λ d. Last (d .1 .1 .0) (d .1 .1 .1 .0))
         (λ d. told sh q (now s) (now t) a (d .1 .1 .0) (d .1 .1 .1 .0)))
@@ -401,12 +409,24 @@ module _ {M : Type 1} (𝓤 : URA M) (H : Heap 𝓤) (A : Atoms 𝓤) (W : Given
         let own-F : Fml = row F .own (a .1 .0) (F .val (a .1 .0) ∷ []) in
         let own-G : Fml = row G .own (a .1 .1 .0) (G .val (a .1 .1 .0) ∷ []) in
         via 𝓤 (onEntry 𝓤 H A (entry (F ∷ G ∷ [])) κs qs a (y .0 .4)) (fst∗ 𝓤 (onEntry 𝓤 H A (entry (F ∷ G ∷ [])) κs qs a (y .0 .4)) (emp 𝓤))
-        (said 𝓤 H A (entry (F ∷ G ∷ [])) κs qs (vals-sh, ((λ x. F .val x ∷ []), ((λ x. G .val x ∷ []), (slice-vals, (slice-vals, tt)))))
-        (LL.tells Sh.the-type Sh′.the-laws, (F .tells, (G .tells, (mut-slice-tells (named 0) (κs .0) u64, (mut-slice-tells (named 1) (κs .1 .0) T.the-row, tt))))) a
+        (said 𝓤 H A (entry (F ∷ G ∷ [])) κs qs (vals-sh, ((λ x. F .val x ∷ []), ((λ x. G .val x ∷ []), (slice-vals, (slice-vals, tt))))) (
+          LL.tells Sh.the-type Sh′.the-laws,
+          (
+            F .tells,
+            (
+              G .tells,
+              (
+                mut-slice-tells (named 0) (κs .0) u64,
+                (mut-slice-tells (named 1) (κs .1 .0) T.the-row, tt),
+              ),
+            ),
+          ),
+        ) a
         (λ us. WpFn 𝓤 H (𝓣 .C) (𝓣 .Λ) (entry-code make f tell (F ∷ G ∷ [])) (flat (typesAt (entry (F ∷ G ∷ []) .params) κs) us)
         (tripleOf 𝓤 H A (entry (F ∷ G ∷ [])) (Two 𝓤 H A claim told F G asks) .post y)) (y .0 .4) (λ are.
         via 𝓤 (sep 𝓤 (alive 𝓤 H A (entry (F ∷ G ∷ [])) κs qs) (sem 𝓤 H A own)) (monoR 𝓤 (alive 𝓤 H A (entry (F ∷ G ∷ [])) κs qs)
-        (via 𝓤 (sem 𝓤 H A (fsep own-F (fsep own-G own))) (snd∗ 𝓤 (sem 𝓤 H A (Sh.the-row .own (a .0) (vals-sh (a .0)))) (sem 𝓤 H A (fsep own-F (fsep own-G own))))
+        (via 𝓤 (sem 𝓤 H A (fsep own-F (fsep own-G own))) (snd∗ 𝓤 (sem 𝓤 H A (Sh.the-row .own (a .0) (vals-sh (a .0))))
+        (sem 𝓤 H A (fsep own-F (fsep own-G own))))
         (via 𝓤 (sem 𝓤 H A (fsep own-G own)) (snd∗ 𝓤 (sem 𝓤 H A own-F) (sem 𝓤 H A (fsep own-G own)))
         (snd∗ 𝓤 (sem 𝓤 H A own-G) (sem 𝓤 H A own)))))
         (passes κs qs (a .0) (asks (a .1 .0) (a .1 .1 .0)) s t (are .0) (fits (a .1 .0) (are .1 .0) (a .1 .1 .0) (are .1 .1 .0)) _
@@ -418,7 +438,8 @@ module _ {M : Type 1} (𝓤 : URA M) (H : Heap 𝓤) (A : Atoms 𝓤) (W : Given
 
     three-form : (F G K : Front) (asks : Of F → Of G → Of K → Request)
         → Triple 𝓤 (𝓣 .C make) (Made 𝓤 H A (F ∷ G ∷ K ∷ []) (λ a q. q ≡ asks (a .0) (a .1 .0) (a .1 .1 .0)))
-        → ((x : Of F) → Is (row F) x (F .val x ∷ []) → (y : Of G) → Is (row G) y (G .val y ∷ []) → (z : Of K) → Is (row K) z (K .val z ∷ []) → Is Rq.the-row (asks x y z) (vals-q (asks x y z)))
+        → ((x : Of F) → Is (row F) x (F .val x ∷ []) → (y : Of G) → Is (row G) y (G .val y ∷ []) → (z : Of K) → Is (row K) z (K .val z ∷ []) → Is Rq.the-row
+        (asks x y z) (vals-q (asks x y z)))
         → Meets 𝓤 H A (entry (F ∷ G ∷ K ∷ [])) (WpFn 𝓤 H (𝓣 .C) (𝓣 .Λ) (entry-code make f tell (F ∷ G ∷ K ∷ []))) (Three 𝓤 H A claim told F G K asks)
     three-form F G K asks makes fits y =
         let κs : Lfts 2 = y .0 .0 in
@@ -431,20 +452,46 @@ module _ {M : Type 1} (𝓤 : URA M) (H : Heap 𝓤) (A : Atoms 𝓤) (W : Given
         let own-G : Fml = row G .own (a .1 .1 .0) (G .val (a .1 .1 .0) ∷ []) in
         let own-K : Fml = row K .own (a .1 .1 .1 .0) (K .val (a .1 .1 .1 .0) ∷ []) in
         via 𝓤 (onEntry 𝓤 H A (entry (F ∷ G ∷ K ∷ [])) κs qs a (y .0 .4)) (fst∗ 𝓤 (onEntry 𝓤 H A (entry (F ∷ G ∷ K ∷ [])) κs qs a (y .0 .4)) (emp 𝓤))
-        (said 𝓤 H A (entry (F ∷ G ∷ K ∷ [])) κs qs (vals-sh, ((λ x. F .val x ∷ []), ((λ x. G .val x ∷ []), ((λ x. K .val x ∷ []), (slice-vals, (slice-vals, tt))))))
-        (LL.tells Sh.the-type Sh′.the-laws, (F .tells, (G .tells, (K .tells, (mut-slice-tells (named 0) (κs .0) u64, (mut-slice-tells (named 1) (κs .1 .0) T.the-row, tt)))))) a
+        (said 𝓤 H A (entry (F ∷ G ∷ K ∷ [])) κs qs (
+          vals-sh,
+          (
+            (λ x. F .val x ∷ []),
+            (
+              (λ x. G .val x ∷ []),
+              ((λ x. K .val x ∷ []), (slice-vals, (slice-vals, tt))),
+            ),
+          ),
+        ) (
+          LL.tells Sh.the-type Sh′.the-laws,
+          (
+            F .tells,
+            (
+              G .tells,
+              (
+                K .tells,
+                (
+                  mut-slice-tells (named 0) (κs .0) u64,
+                  (mut-slice-tells (named 1) (κs .1 .0) T.the-row, tt),
+                ),
+              ),
+            ),
+          ),
+        ) a
         (λ us. WpFn 𝓤 H (𝓣 .C) (𝓣 .Λ) (entry-code make f tell (F ∷ G ∷ K ∷ [])) (flat (typesAt (entry (F ∷ G ∷ K ∷ []) .params) κs) us)
         (tripleOf 𝓤 H A (entry (F ∷ G ∷ K ∷ [])) (Three 𝓤 H A claim told F G K asks) .post y)) (y .0 .4) (λ are.
         via 𝓤 (sep 𝓤 (alive 𝓤 H A (entry (F ∷ G ∷ K ∷ [])) κs qs) (sem 𝓤 H A own)) (monoR 𝓤 (alive 𝓤 H A (entry (F ∷ G ∷ K ∷ [])) κs qs)
-        (via 𝓤 (sem 𝓤 H A (fsep own-F (fsep own-G (fsep own-K own)))) (snd∗ 𝓤 (sem 𝓤 H A (Sh.the-row .own (a .0) (vals-sh (a .0)))) (sem 𝓤 H A (fsep own-F (fsep own-G (fsep own-K own)))))
+        (via 𝓤 (sem 𝓤 H A (fsep own-F (fsep own-G (fsep own-K own)))) (snd∗ 𝓤 (sem 𝓤 H A (Sh.the-row .own (a .0) (vals-sh (a .0))))
+        (sem 𝓤 H A (fsep own-F (fsep own-G (fsep own-K own)))))
         (via 𝓤 (sem 𝓤 H A (fsep own-G (fsep own-K own))) (snd∗ 𝓤 (sem 𝓤 H A own-F) (sem 𝓤 H A (fsep own-G (fsep own-K own))))
         (via 𝓤 (sem 𝓤 H A (fsep own-K own)) (snd∗ 𝓤 (sem 𝓤 H A own-G) (sem 𝓤 H A (fsep own-K own)))
         (snd∗ 𝓤 (sem 𝓤 H A own-K) (sem 𝓤 H A own))))))
-        (passes κs qs (a .0) (asks (a .1 .0) (a .1 .1 .0) (a .1 .1 .1 .0)) s t (are .0) (fits (a .1 .0) (are .1 .0) (a .1 .1 .0) (are .1 .1 .0) (a .1 .1 .1 .0) (are .1 .1 .1 .0)) _
+        (passes κs qs (a .0) (asks (a .1 .0) (a .1 .1 .0) (a .1 .1 .1 .0)) s t (are .0) (fits (a .1 .0) (are .1 .0) (a .1 .1 .0) (are .1 .1 .0)
+        (a .1 .1 .1 .0) (are .1 .1 .1 .0)) _
         (three-goes 𝓤 H A (alive 𝓤 H A callee κs qs) (Claims κs qs (a .0) (asks (a .1 .0) (a .1 .1 .0) (a .1 .1 .1 .0)) s t)
         (λ b. Three 𝓤 H A claim told F G K asks κs a .ensures tt b) (told-thrice κs qs (a .0) (asks (a .1 .0) (a .1 .1 .0) (a .1 .1 .1 .0)) s t)
         W (𝓣 .C) (𝓣 .Λ) (fmOf 𝓤 H (W .laws) 𝓣) make f tell known-tell (a .0)
-        (s .ptr .0) (s .ptr .1) (length (now s)) (t .ptr .0) (t .ptr .1) (length (now t)) (are .0) (are .1 .1 .1 .1 .0 .0 .1 .0) (are .1 .1 .1 .1 .1 .0 .0 .1 .0)
+        (s .ptr .0) (s .ptr .1) (length (now s)) (t .ptr .0) (t .ptr .1) (length (now t)) (are .0) (are .1 .1 .1 .1 .0 .0 .1 .0)
+        (are .1 .1 .1 .1 .1 .0 .0 .1 .0)
         F G K asks makes (a .1 .0) (are .1 .0) (a .1 .1 .0) (are .1 .1 .0) (a .1 .1 .1 .0) (are .1 .1 .1 .0)))))
 
     -- a contract that is the form's
@@ -466,7 +513,8 @@ module _ {M : Type 1} (𝓤 : URA M) (H : Heap 𝓤) (A : Atoms 𝓤) (W : Given
 
     pub three-meets : (F G K : Front) (asks : Of F → Of G → Of K → Request)
         → Triple 𝓤 (𝓣 .C make) (Made 𝓤 H A (F ∷ G ∷ K ∷ []) (λ a q. q ≡ asks (a .0) (a .1 .0) (a .1 .1 .0)))
-        → ((x : Of F) → Is (row F) x (F .val x ∷ []) → (y : Of G) → Is (row G) y (G .val y ∷ []) → (z : Of K) → Is (row K) z (K .val z ∷ []) → Is Rq.the-row (asks x y z) (vals-q (asks x y z)))
+        → ((x : Of F) → Is (row F) x (F .val x ∷ []) → (y : Of G) → Is (row G) y (G .val y ∷ []) → (z : Of K) → Is (row K) z (K .val z ∷ []) → Is Rq.the-row
+        (asks x y z) (vals-q (asks x y z)))
         → (c : Spec 𝓤 (entry (F ∷ G ∷ K ∷ []))) → c ≡ Three 𝓤 H A claim told F G K asks
         → Meets 𝓤 H A (entry (F ∷ G ∷ K ∷ [])) (WpFn 𝓤 H (𝓣 .C) (𝓣 .Λ) (entry-code make f tell (F ∷ G ∷ K ∷ []))) c
     three-meets F G K asks makes fits c e =

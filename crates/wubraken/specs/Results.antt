@@ -96,7 +96,8 @@ nearBy sh q seen w = cond (looksAtAll q) (seen .ok) (recordInRange sh w)
 -- refused by 1 to 4, or done, with n records lent
 unfoldable pub actOn : Shape → Request → ℕ → Survey → List ℕ → Worker → Done
 actOn sh q n seen s w =
-    unlessRefused (gateOn (isWhole q) sh s (actor (actionOf q)) n (nearBy sh q seen w)) s w (localTurns sh (turnsOf q) (localAct sh (seen .low) s (actionOf q) w))
+    unlessRefused (gateOn (isWhole q) sh s (actor (actionOf q)) n (nearBy sh q seen w)) s w
+    (localTurns sh (turnsOf q) (localAct sh (seen .low) s (actionOf q) w))
 
 -- by what the gate said
 module _ (sh : Shape) (q : Request) (n : ℕ) (seen : Survey) (s : List ℕ) (w : Worker) (k : ℕ)
@@ -130,7 +131,8 @@ request-is sh m (Whole a) = refl
 request-is sh m (Narrow a n) = refl
 
 -- what is refused has no turns behind it
-nothing-after : (sh : Shape) (i n k : ℕ) (m : Memory) → turnsAfter sh i n (record { memory = m; response = Refused k }) ≡ record { memory = m; response = Refused k }
+nothing-after : (sh : Shape) (i n k : ℕ) (m : Memory) → turnsAfter sh i n (record { memory = m; response = Refused k }) ≡ record
+    { memory = m; response = Refused k }
 unfolding turnsAfter
 nothing-after sh i zero k m = refl
 nothing-after sh i (suc n) k m = refl
@@ -165,7 +167,8 @@ module _ (sh : Shape) (s : List ℕ) (t : List Worker) (q : Request) where
     first-refused = go (isWhole q) refl
       where
         go : (b : Bool) → isWhole q ≡ b → gateOf sh (length s) (length t) i (flagOf b sh s (length t) ok) ≢ 0
-            → record { memory = m; response = Refused (gateOf sh (length s) (length t) i (flagOf b sh s (length t) ok)) } ≡ cond b (act sh m a) (narrowAct sh m a)
+            → record { memory = m; response = Refused (gateOf sh (length s) (length t) i (flagOf b sh s (length t) ok)) } ≡ cond b (act sh m a)
+            (narrowAct sh m a)
         go true e n = refused-is sh m (soundOf sh s (length t) ok) (W e) a n
         go false e n = narrow-away sh m a ok (N e) n
 
@@ -239,7 +242,8 @@ module _ (sh : Shape) (s : List ℕ) (t : List Worker) (q : Request) where
       exists = surveyed-worker sh (length t) i h
 
       go : (b : Bool) → eqb (gate near) 0 ≡ b
-          → back t i (cond b (localTurns sh (turnsOf q) (localAct sh (survey sh q t .low) s a (worker t i))) (refused s (worker t i) (gate near))) ≡ requested sh m q
+          → back t i (cond b (localTurns sh (turnsOf q) (localAct sh (survey sh q t .low) s a (worker t i))) (refused s (worker t i) (gate near))) ≡
+          requested sh m q
       go true e =
           let z = eqb-true _ 0 e in
           let p = passed (isWhole q) sh s i (length t) near z in

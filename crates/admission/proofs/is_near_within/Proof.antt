@@ -16,7 +16,8 @@ words-in-range-requires c κs = laid-long _ _ _ (c .before .before .before .pre)
 
 returns-2 : tie.Need-returns-2
 returns-2 c =
-    rw (c .words-in-range .ensures) (sym (near-long _ _ _ _ (c .before .before .before .before .pre) (sym (c .before .before .is-short .ensures) ∙ c .before .if1 .left)))
+    rw (c .words-in-range .ensures) (sym (near-long _ _ _ _ (c .before .before .before .before .pre)
+    (sym (c .before .before .is-short .ensures) ∙ c .before .if1 .left)))
 
 pub is-near-within-spec : {M : Type 1} → statement M
 is-near-within-spec = tie.close (tie.spec is-short-requires returns words-in-range-requires returns-2)

@@ -223,11 +223,13 @@ module _ (sh : Shape) (s : List ℕ) where
           ticket = F .ticket;
         })
     record-kept (again-3 q h) rt sn = free-stage sh w 1 F (omega arith)
-    record-kept (prepared q) rt sn = put-stage sh (withCurrent (current sh s) w) 5 with-current (omega arith) (omega arith) (r .enqueues (omega arith) (omega arith))
+    record-kept (prepared q) rt sn = put-stage sh (withCurrent (current sh s) w) 5 with-current (omega arith) (omega arith)
+        (r .enqueues (omega arith) (omega arith))
     record-kept (linked q h) rt sn = put-stage sh w 6 F (omega arith) (omega arith) (r .enqueues (omega arith) (omega arith))
     record-kept (again-5 q h) rt sn = free-stage sh w 1 F (omega arith)
     record-kept (stored-6 q h) rt sn = free-stage sh (withCurrent (current sh s) w) 0 with-current (omega arith)
-    record-kept (on-7 q h) rt sn = put-stage sh (withCurrent (current sh s) w) 7 with-current (omega arith) (omega arith) (r .enqueues (omega arith) (omega arith))
+    record-kept (on-7 q h) rt sn = put-stage sh (withCurrent (current sh s) w) 7 with-current (omega arith) (omega arith)
+        (r .enqueues (omega arith) (omega arith))
     record-kept (stored-7 q h) rt sn = free-stage sh w 0 F (omega arith)
     record-kept (back-6 q h) rt sn = put-stage sh w 6 F (omega arith) (omega arith) (r .enqueues (omega arith) (omega arith))
     record-kept (current-read q) rt sn =
@@ -323,7 +325,8 @@ turn-tests sh s w I r {o} c = go (linksInRange sh (o .worker)) refl (recordInRan
 abbrev Words : Shape → View → Type 0
 Words sh m = (m .current / 4294967296 < sh .buckets) × (m .started < 4294967296) × (m .last < sh .nodes)
 
-written : (sh : Shape) (s : List ℕ) (ws : List Write) → layout sh ≤ length s → AllInside sh ws → Words sh (updates ws (view sh s)) → WordRanges sh (writeAll sh s ws)
+written : (sh : Shape) (s : List ℕ) (ws : List Write) → layout sh ≤ length s → AllInside sh ws → Words sh (updates ws (view sh s)) → WordRanges sh
+    (writeAll sh s ws)
 written sh s ws fits inside h =
     let (c, k, n) = subst (Words sh) (sym (view-writeAll sh s ws fits inside)) h in
     record { current = c; started = k; last = n }

@@ -54,7 +54,8 @@ returns-2 c =
     let a = c .before .before .before .before .before .before .before .before .before .before .before .before .before .args in
     let l = c .before .before .before .before .before .before .before .before .before .before .loop in
     let p = c .before .before .before .before .before .before .before .before .perform in
-    let (some, on) = not-ended (l .left) (p .result .response) _ (c .before .before .before .before .before .goes-on .ensures) (c .before .before .before .before .if1 .left) in
+    let (some, on) = not-ended (l .left) (p .result .response) _ (c .before .before .before .before .before .goes-on .ensures)
+    (c .before .before .before .before .if1 .left) in
     let G = going (a .shape) (a .low) (l .store) (l .w) (l .inv .0) (l .action) (gives _ (p .result)) (p .ensures) on in
     rw (c .refuse .ensures)
     (turns-out (a .shape) (l .left) (gives _ (p .result)) G some on (sym (c .before .before .links-in-range .ensures) ∙ not-true _ (c .before .if2 .taken))
@@ -62,12 +63,16 @@ returns-2 c =
 
 sub-left : tie.Need-sub-left Inv-loop μ-loop
 sub-left c =
-    let (some, on) = not-ended (c .before .before .before .before .before .before .before .before .before .loop .left) (c .before .before .before .before .before .before .before .perform .result .response) _ (c .before .before .before .before .goes-on .ensures) (c .before .before .before .if1 .left) in
+    let (some, on) = not-ended (c .before .before .before .before .before .before .before .before .before .loop .left)
+    (c .before .before .before .before .before .before .before .perform .result .response) _ (c .before .before .before .before .goes-on .ensures)
+    (c .before .before .before .if1 .left) in
     omega (arith, some)
 
 loop-less : tie.Need-loop-less Inv-loop μ-loop
 loop-less c =
-    let (some, on) = not-ended (c .before .before .before .before .before .before .before .before .before .loop .left) (c .before .before .before .before .before .before .before .perform .result .response) _ (c .before .before .before .before .goes-on .ensures) (c .before .before .before .if1 .left) in
+    let (some, on) = not-ended (c .before .before .before .before .before .before .before .before .before .loop .left)
+    (c .before .before .before .before .before .before .before .perform .result .response) _ (c .before .before .before .before .goes-on .ensures)
+    (c .before .before .before .if1 .left) in
     omega (arith, some)
 
 loop-again : tie.Need-loop-again Inv-loop μ-loop

@@ -37,4 +37,5 @@ wubraken-dequeue-spec 𝓤 H 𝓜 𝓖 𝓡 =
     (cited 𝓤 H (tripleOf 𝓤 H (𝓖 .A) tell.signature (tell.spec 𝓤 H (𝓖 .A) (𝓜 .mem) (𝓡 .run))) 𝓜 𝓡 code.env #tell tell-def.routine
     code.calls-wubraken·answers·answer-of (tell-thm.met 𝓤 H 𝓜 𝓖 𝓡)) number (λ i. Whole (Dequeue i))
     (cited 𝓤 H (tripleOf 𝓤 H (𝓖 .A) make.signature (make.spec 𝓤 H (𝓖 .A) (𝓜 .mem) (𝓡 .run))) 𝓜 𝓡 code.env #make make-def.routine
-    code.calls-wubraken·requests·whole-dequeue (make-thm.met 𝓤 H 𝓜 𝓖 𝓡)) (λ i h. whole-is (Dequeue i) (dequeue-is i (h .1))) (f.spec 𝓤 H (𝓖 .A) (𝓜 .mem) (𝓡 .run)) refl)
+    code.calls-wubraken·requests·whole-dequeue (make-thm.met 𝓤 H 𝓜 𝓖 𝓡)) (λ i h. whole-is (Dequeue i) (dequeue-is i (h .1)))
+    (f.spec 𝓤 H (𝓖 .A) (𝓜 .mem) (𝓡 .run)) refl)

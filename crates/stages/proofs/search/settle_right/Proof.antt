@@ -44,4 +44,5 @@ returns-3 c =
     )
 
 pub settle-right-spec : {M : Type 1} → statement M
-settle-right-spec = tie.close (tie.spec go-on-requires returns go-on-requires-2 returns-2 item-at-requires energy-requires took-requires answer-requires returns-3)
+settle-right-spec = tie.close (tie.spec go-on-requires returns go-on-requires-2 returns-2 item-at-requires energy-requires took-requires answer-requires
+    returns-3)

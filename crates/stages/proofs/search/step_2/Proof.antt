@@ -47,7 +47,8 @@ returns-2 c =
     rw (
       ← c .before .before .before .before .before .before .before .before .get-cell .ensures,
       ne-eqb _ _ (c .before .before .before .before .before .before .before .if1 .left),
-      ← (c .before .before .before .before .is-lower .ensures ∙ lower-keys (itemAt (a .shape) (a .store .now) (a .w .right)) (itemAt (a .shape) (a .store .now) (a .w .own)) _ _
+      ← (c .before .before .before .before .is-lower .ensures ∙ lower-keys (itemAt (a .shape) (a .store .now) (a .w .right))
+          (itemAt (a .shape) (a .store .now) (a .w .own)) _ _
           (c .before .before .before .before .before .before .key-at .ensures) (c .before .before .before .before .before .key-at2 .ensures)),
       c .before .before .before .if2 .left,
       eq-eqb _ _ (c .before .if3 .taken),
@@ -73,7 +74,8 @@ returns-3 c =
     rw (
       ← c .before .before .before .before .before .before .before .get-cell .ensures,
       ne-eqb _ _ (c .before .before .before .before .before .before .if1 .left),
-      ← (c .before .before .before .is-lower .ensures ∙ lower-keys (itemAt (a .shape) (a .store .now) (a .w .right)) (itemAt (a .shape) (a .store .now) (a .w .own)) _ _
+      ← (c .before .before .before .is-lower .ensures ∙ lower-keys (itemAt (a .shape) (a .store .now) (a .w .right))
+          (itemAt (a .shape) (a .store .now) (a .w .own)) _ _
           (c .before .before .before .before .before .key-at .ensures) (c .before .before .before .before .key-at2 .ensures)),
       c .before .before .if2 .taken,
     ) (c .settle-right .ensures)
@@ -85,8 +87,10 @@ returns-4 c =
     rw (
       ← c .before .before .before .before .before .before .before .before .before .before .before .get-cell .ensures,
       ne-eqb _ _ (c .before .before .before .before .before .before .before .before .before .before .if1 .left),
-      ← (c .before .before .before .before .before .before .before .is-lower .ensures ∙ lower-keys (itemAt (a .shape) (a .store .now) (a .w .right)) (itemAt (a .shape) (a .store .now) (a .w .own)) _ _
-          (c .before .before .before .before .before .before .before .before .before .key-at .ensures) (c .before .before .before .before .before .before .before .before .key-at2 .ensures)),
+      ← (c .before .before .before .before .before .before .before .is-lower .ensures ∙ lower-keys (itemAt (a .shape) (a .store .now) (a .w .right))
+          (itemAt (a .shape) (a .store .now) (a .w .own)) _ _
+          (c .before .before .before .before .before .before .before .before .before .key-at .ensures)
+          (c .before .before .before .before .before .before .before .before .key-at2 .ensures)),
       c .before .before .before .before .before .before .if2 .left,
       ne-eqb _ _ (c .before .before .before .before .if3 .left),
       c .answer .ensures,

@@ -35,7 +35,9 @@ same-length c = search needs
 returns : tie.Need-returns
 returns c =
     let a = c .before .before .before .before .before .before .before .before .before .before .args in
-    let gated = c .before .gate-on .ensures ∙ (λ j. gateOn (c .before .before .before .before .before .before .before .before .is-whole .ensures j) (a .shape) (a .store .now) (c .before .before .before .before .before .before .before .index-of .ensures j) (a .n) (c .before .before .before .before .before .before .are-near .ensures j)) in
+    let gated = c .before .gate-on .ensures ∙ (λ j. gateOn (c .before .before .before .before .before .before .before .before .is-whole .ensures j)
+    (a .shape) (a .store .now) (c .before .before .before .before .before .before .before .index-of .ensures j) (a .n)
+    (c .before .before .before .before .before .before .are-near .ensures j)) in
     let out = eqb-false _ 0 (sym (c .before .before .before .before .is-let-in .ensures) ∙ not-true _ (c .before .before .before .if1 .taken)) in
     ap (λ (r : Reply). gives (a .store .now) r) (c .refuse .ensures)
     ∙ refused-on _ (a .request) _ _ _ (a .w) _ gated (λ z. out (sym (c .before .gate-on .ensures) ∙ z))
@@ -51,7 +53,9 @@ perform-turns-requires c κs =
     let a = c .before .before .before .before .before .before .before .before .before .before .args in
     let S = c .before .before .before .before .before .before .before .before .before .before .pre in
     let passes = eqb-true _ 0 (sym (c .before .before .before .before .is-let-in .ensures) ∙ not-false _ (c .before .before .before .if1 .left)) in
-    let gated = sym passes ∙ (λ j. gateOn (c .before .before .before .before .before .before .before .before .is-whole .ensures j) (a .shape) (a .store .now) (c .before .before .before .before .before .before .before .index-of .ensures j) (a .n) (c .before .before .before .before .before .before .are-near .ensures j)) in
+    let gated = sym passes ∙ (λ j. gateOn (c .before .before .before .before .before .before .before .before .is-whole .ensures j) (a .shape)
+    (a .store .now) (c .before .before .before .before .before .before .before .index-of .ensures j) (a .n)
+    (c .before .before .before .before .before .before .are-near .ensures j)) in
     (admits (a .shape) (a .request) (a .n) (a .seen) (a .store .now) (a .w) S (sym gated), S .low)
 
 same-length-2 : tie.Need-same-length-2
@@ -60,10 +64,14 @@ same-length-2 c = search needs
 returns-2 : tie.Need-returns-2
 returns-2 c =
     let a = c .before .before .before .before .before .before .before .before .before .before .before .before .before .args in
-    let passes = eqb-true _ 0 (sym (c .before .before .before .before .before .before .before .is-let-in .ensures) ∙ not-false _ (c .before .before .before .before .before .before .if1 .left)) in
-    let gated = sym passes ∙ (λ j. gateOn (c .before .before .before .before .before .before .before .before .before .before .before .is-whole .ensures j) (a .shape) (a .store .now) (c .before .before .before .before .before .before .before .before .before .before .index-of .ensures j) (a .n) (c .before .before .before .before .before .before .before .before .before .are-near .ensures j)) in
+    let passes = eqb-true _ 0 (sym (c .before .before .before .before .before .before .before .is-let-in .ensures) ∙ not-false _
+    (c .before .before .before .before .before .before .if1 .left)) in
+    let gated = sym passes ∙ (λ j. gateOn (c .before .before .before .before .before .before .before .before .before .before .before .is-whole .ensures j)
+    (a .shape) (a .store .now) (c .before .before .before .before .before .before .before .before .before .before .index-of .ensures j) (a .n)
+    (c .before .before .before .before .before .before .before .before .before .are-near .ensures j)) in
     c .before .before .perform-turns .ensures
-    ∙ (λ j. localTurns (a .shape) (c .before .before .before .before .turns-of .ensures j) (localAct (a .shape) (a .seen .low) (a .store .now) (c .before .before .before .before .before .action-of .ensures j) (a .w)))
+    ∙ (λ j. localTurns (a .shape) (c .before .before .before .before .turns-of .ensures j) (localAct (a .shape) (a .seen .low) (a .store .now)
+    (c .before .before .before .before .before .action-of .ensures j) (a .w)))
     ∙ done-on _ (a .request) _ _ _ (a .w) 0 gated refl
 
 pub act-on-record-spec : {M : Type 1} → statement M

@@ -212,7 +212,8 @@ module _ {M : Type 1} (𝓤 : URA M) (H : Heap 𝓤) (A : Atoms 𝓤) (W : Given
   exits : (r : Survey) → r ≡ surveyOf sh ys n → Fits r → ent 𝓤 (⋆ 𝓤 H A (Had [])) (Post (val-s r))
   exits r e fits =
       qed W (Had []) ∵
-      suffices ! _ (ends-at 𝓤 H A f.ended stayed (f.clauses 𝓤 H A mem run) W (((κ, tt), (q, tt), tt, x, at), tt) (val-s r) r (tt, (tt, (tt, tt))) (tt, (tt, (tt, tt)))) $
+      suffices ! _ (ends-at 𝓤 H A f.ended stayed (f.clauses 𝓤 H A mem run) W (((κ, tt), (q, tt), tt, x, at), tt) (val-s r) r (tt, (tt, (tt, tt)))
+      (tt, (tt, (tt, tt)))) $
       says ! e $
       nothing ! $ move ! (1 ∷ 0 ∷ []) $ join ! $ frame ! $ move ! (1 ∷ 0 ∷ []) $ fjoin ! $ move ! (1 ∷ 0 ∷ []) $ fjoin ! $ nothing ! $ move ! (1 ∷ 0 ∷ []) $
       fjoin ! $
@@ -279,10 +280,12 @@ module _ {M : Type 1} (𝓤 : URA M) (H : Heap 𝓤) (A : Atoms 𝓤) (W : Given
 
     abbrev En : Env 𝓤 H
     En =
-        (ty-s, l₀) ∷ (ty-sh, l₁) ∷ (ty-q, lq) ∷ (ty-t, l₂) ∷ (word, l₃) ∷ (ty-s, l₄) ∷ (word, l₅) ∷ (ty-w, l₆) ∷ (word, l₇) ∷ (tyBool, l₈) ∷ (word, l₉) ∷ (tyPtr, l₁₀)
+        (ty-s, l₀) ∷ (ty-sh, l₁) ∷ (ty-q, lq) ∷ (ty-t, l₂) ∷ (word, l₃) ∷ (ty-s, l₄) ∷ (word, l₅) ∷ (ty-w, l₆) ∷ (word, l₇) ∷ (tyBool, l₈) ∷ (word, l₉) ∷
+        (tyPtr, l₁₀)
         ∷ (ty-w, l₁₁) ∷ []
 
-    -- the invariant: what is had of the table; _11 to _8 and _6, which are room; the table's length; k, what was found, n, the table, the request, the shape; and room for
+    -- the invariant: what is had of the table; _11 to _8 and _6, which are room; the table's length; k, what was found, n, the table, the request, the
+    -- shape; and room for
     -- the result
     abbrev At : Upto → List (Item 𝓤)
     At k = Had (
@@ -291,7 +294,8 @@ module _ {M : Type 1} (𝓤 : URA M) (H : Heap 𝓤) (A : Atoms 𝓤) (W : Given
         ∷ ‵ (fat fullShare word l₇ 0 (vint w64 (length ys))) ∷ ‵ (fdies word l₇) ∷ ‵ (froom ty-w l₆ 0) ∷ ‵ (fdies ty-w l₆)
         ∷ ‵ (fat fullShare word l₅ 0 (vint w64 (k .0))) ∷ ‵ (fdies word l₅) ∷ ‵ (fat fullShare ty-s l₄ 0 (val-s (surveyOf sh ys (k .0)))) ∷ ‵ (fdies ty-s l₄)
         ∷ ‵ (fat fullShare word l₃ 0 (vint w64 n)) ∷ ‵ (fdies word l₃) ∷ ‵ (fat fullShare ty-t l₂ 0 sv) ∷ ‵ (fdies ty-t l₂)
-        ∷ ‵ (fat fullShare ty-q lq 0 (val-q rq)) ∷ ‵ (fdies ty-q lq) ∷ ‵ (fat fullShare ty-sh l₁ 0 (val-sh sh)) ∷ ‵ (fdies ty-sh l₁) ∷ ‵ (froom ty-s l₀ 0) ∷ ‵ (fdies ty-s l₀) ∷ [])
+        ∷ ‵ (fat fullShare ty-q lq 0 (val-q rq)) ∷ ‵ (fdies ty-q lq) ∷ ‵ (fat fullShare ty-sh l₁ 0 (val-sh sh)) ∷ ‵ (fdies ty-sh l₁) ∷ ‵ (froom ty-s l₀ 0) ∷
+        ‵ (fdies ty-s l₀) ∷ [])
 
     abbrev Turned : Upto → Out → SProp 𝓤
     Turned k = afterTurn 𝓤 H (Below 𝓤 H A Nearer At k) (afterBlock 𝓤 H (afterSeq 𝓤 H (Wp 𝓤 H C Λ En mir.t-6 (atReturn 𝓤 H En Post)) (atReturn 𝓤 H En Post)))
@@ -359,7 +363,8 @@ module _ {M : Type 1} (𝓤 : URA M) (H : Heap 𝓤) (A : Atoms 𝓤) (W : Given
         (val-s (surveyOf sh ys (k .0))) (k .1 .1))) $
         returns ! (look ! 28 refl) $ forget ! 10 refl $ forget ! 12 refl $ forget ! 16 refl $ forget ! 18 refl $ forget ! 20 refl $ forget ! 22 refl $
         forget ! 24 refl $ forget ! 26 refl $ forget ! 28 refl $
-        move ! (28 ∷ 29 ∷ []) $ free1 ! $ move ! (26 ∷ 27 ∷ []) $ free1 ! $ move ! (24 ∷ 25 ∷ []) $ free1 ! $ move ! (22 ∷ 23 ∷ []) $ free1 ! $ move ! (20 ∷ 21 ∷ []) $ free1 ! $
+        move ! (28 ∷ 29 ∷ []) $ free1 ! $ move ! (26 ∷ 27 ∷ []) $ free1 ! $ move ! (24 ∷ 25 ∷ []) $ free1 ! $ move ! (22 ∷ 23 ∷ []) $ free1 ! $ move !
+        (20 ∷ 21 ∷ []) $ free1 ! $
         move ! (18 ∷ 19 ∷ []) $ free1 ! $ move ! (16 ∷ 17 ∷ []) $ free1 ! $ move ! (14 ∷ 15 ∷ []) $ free1 ! $ move ! (12 ∷ 13 ∷ []) $ free1 ! $
         move ! (10 ∷ 11 ∷ []) $ free1 ! $ move ! (8 ∷ 9 ∷ []) $ free1 ! $ move ! (6 ∷ 7 ∷ []) $ free1 ! $ move ! (4 ∷ 5 ∷ []) $ free1 ! $ free0 ! $
         by ! (exits (surveyOf sh ys (k .0)) (ap (surveyOf sh ys) (le-antisymm (k .1 .0) (ltb-false (k .0) n e))) (k .1 .1))
@@ -369,7 +374,8 @@ module _ {M : Type 1} (𝓤 : URA M) (H : Heap 𝓤) (A : Atoms 𝓤) (W : Given
   walk 𝓣 known-count known =
       qed W ((‵ (flft κ q) ⊛ ‵ ftrue) ∷ ‵ (owns (Sh.the-row ∷ Rq.the-row ∷ ShrSlice (named 0) κ T.the-row ∷ []) x at) ∷ []) ∵
       enter ! (𝓣 .C) (𝓣 .Λ) code.function (val-sh sh ∷ val-q rq ∷ sv ∷ []) _ $
-      alloc1 ! (λ l₀. alloc1 ! (λ l₁. alloc1 ! (λ lq. alloc1 ! (λ l₂. alloc1 ! (λ l₃. alloc1 ! (λ l₄. alloc1 ! (λ l₅. alloc1 ! (λ l₆. alloc1 ! (λ l₇. alloc1 ! (λ l₈.
+      alloc1 ! (λ l₀. alloc1 ! (λ l₁. alloc1 ! (λ lq. alloc1 ! (λ l₂. alloc1 ! (λ l₃. alloc1 !
+      (λ l₄. alloc1 ! (λ l₅. alloc1 ! (λ l₆. alloc1 ! (λ l₇. alloc1 ! (λ l₈.
       alloc1 ! (λ l₉. alloc1 ! (λ l₁₀. alloc1 ! (λ l₁₁. alloc0 ! $ params1 ! $
       pass1 ! (init ! 22 refl typed-sh) $ pass1 ! (init ! 20 refl typed-q) $ pass1 ! (init ! 18 refl (tt, (tt, (record { fits = room .0 }, tt)))) $ pass0 ! $
       assigns ! (of-opd ! (load ! (from ! (fld ! refl (stop !))) (look-in ! 18 (sub ! 1 refl (whole !))))) (from ! (stop !))
@@ -389,7 +395,8 @@ module _ {M : Type 1} (𝓤 : URA M) (H : Heap 𝓤) (A : Atoms 𝓤) (W : Given
       (init ! 14 refl made-typed) $ rewrite ! 14 (λ (v : Val). ‵ (fat fullShare ty-s l₄ 0 v)) (made-start sh ys) refl $
       assigns ! (of-opd ! (lit ! tt)) (from ! (stop !)) (init ! 12 refl (tt, record { fits = lit< tt })) $
       move ! (27 ∷ []) $ fsplit ! $ drop ! $ fsplit ! $ drop ! $ fsplit ! $ fsplit ! $ move ! (1 ∷ []) $ fsplit ! $ move ! (30 ∷ []) $ split ! $
-      keep ! (0 ∷ 3 ∷ 2 ∷ 4 ∷ 6 ∷ 7 ∷ 8 ∷ 9 ∷ 10 ∷ 11 ∷ 12 ∷ 13 ∷ 14 ∷ 15 ∷ 16 ∷ 17 ∷ 18 ∷ 19 ∷ 20 ∷ 21 ∷ 22 ∷ 23 ∷ 24 ∷ 25 ∷ 26 ∷ 27 ∷ 28 ∷ 29 ∷ 30 ∷ 31 ∷ []) $
+      keep ! (0 ∷ 3 ∷ 2 ∷ 4 ∷ 6 ∷ 7 ∷ 8 ∷ 9 ∷ 10 ∷ 11 ∷ 12 ∷ 13 ∷ 14 ∷ 15 ∷ 16 ∷ 17 ∷ 18 ∷ 19 ∷ 20 ∷ 21 ∷ 22 ∷ 23 ∷ 24 ∷ 25 ∷ 26 ∷ 27 ∷ 28 ∷ 29 ∷ 30 ∷ 31 ∷
+      []) $
       first ! $ blocks ! $ loops ! 𝓣 Nearer Nearer-wf (At 𝓣 known l₀ l₁ lq l₂ l₃ l₄ l₅ l₆ l₇ l₈ l₉ l₁₀ l₁₁) (λ k.
       turn-at 𝓣 known l₀ l₁ lq l₂ l₃ l₄ l₅ l₆ l₇ l₈ l₉ l₁₀ l₁₁ k (ltb (k .0) n) refl)
       (0, (zero-le, begins sh ys)))))))))))))))))))
