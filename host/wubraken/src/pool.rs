@@ -270,7 +270,7 @@ impl<S: AsMut<[u64]>, T: AsMut<[Worker]>> Pool<S, T> {
     }
 
     /// Works through the records of a turn file and writes one line a record, as
-    /// the single calls would answer them. The memory is looked through once, not
+    /// the whole calls of [`raw`](crate::raw) would answer them. The memory is looked through once, not
     /// once a record. An opening among the records changes the pool's shape.
     ///
     /// A batch may end before its input does, or inside a record; `examples/batches.rs`

@@ -45,7 +45,7 @@ pub mod kind {
     pub const TOOK: u64 = 4;
     /// A dequeue has ended, and found the pool empty.
     pub const EMPTY: u64 = 5;
-    /// Nothing was done: number.
+    /// The start or turn was refused, and did nothing: number.
     pub const REFUSED: u64 = 6;
 }
 
