@@ -1,18 +1,17 @@
 -- Refusals 1 to 4 of a call on lent memory, the flag computed by a look at every field, or a narrow one. Assumes nothing.
-use mathlib.Core.Path.{_≡_, refl, sym, _∙_}
+use mathlib.Core.Path.{_≡_, ap, _∙_}
 use mathlib.Core.List.{List}
-use mathlib.Core.Bool.{Bool, true, false, cond, _&&_}
+use mathlib.Core.Bool.{Bool, true, false, cond}
 use Prim.Native.Nat.{ℕ, _<_, _≤_}
-use native.Mathlib.Omega.{arith}
-use lib.Dec.{eqb, ltb}
+use lib.Dec.{eqb}
 use lib.ListN.{length}
-use borrow.Author.Tests.{eq-eqb, ne-eqb, ltb-true, ltb-false}
+use borrow.Author.Tests.{eq-eqb}
 use Rattle.arrival.specs.declared.Shape.{Shape}
-use Rattle.laws.specs.Tests.{parts, never}
+use Rattle.laws.specs.Tests.{parts}
 use Rattle.calendar.specs.rules.Ranges.{wordsInRange, storeInRange}
 use Rattle.calendar.specs.facts.RangeFacts.{Limits, WordRanges, word-ranges}
 use Rattle.words.specs.Laid.{Laid, laid}
-use Rattle.admission.specs.Gate.{gateOf, gate-passed, gate-opens, openGate, open-passed, passes, soundOf, sound-opens}
+use Rattle.admission.specs.Gate.{gateOf, gate-passed, gate-opens, openGate, open-passed, soundOf, sound-opens}
 use Rattle.admission.specs.NarrowGate.{nearOf, near-opens}
 
 -- of n records, where `ok` says that those looked at are in range; the flag by a look at all words, or at the three first
@@ -49,23 +48,13 @@ passed whole sh s i n ok e =
     go true opens up = let (ranged, records) = parts (storeInRange sh s) ok (rw opens at up) in (first-words sh s ranged, records)
     go false opens up = parts (wordsInRange sh s) ok (rw opens at up)
 
--- Where the flag is up and the worker exists nothing refuses, and only there.
-pub let-in : (whole : Bool) (sh : Shape) (s : List ℕ) (i n : ℕ) (ok : Bool) → (flagOf whole sh s n ok && ltb i (sh .workers)) ≡ eqb (gateOn whole sh s i n ok) 0
+-- where the flag is up 1 and 2 do not apply
+pub flag-opens : (whole : Bool) (sh : Shape) (s : List ℕ) (n : ℕ) (ok : Bool) → flagOf whole sh s n ok ≡ true → openGate sh (length s) n ≡ 0
+flag-opens true sh s n ok e = sound-opens sh s n ok e
+flag-opens false sh s n ok e = near-opens sh s n ok e
+
+-- the gate by the flag
+pub gate-by : (whole : Bool) (sh : Shape) (s : List ℕ) (i n : ℕ) (ok flag : Bool) (k : ℕ) → flag ≡ flagOf whole sh s n ok → k ≡ gateOf sh (length s) n i flag
+    → k ≡ gateOn whole sh s i n ok
 unfolding gateOn
-let-in whole sh s i n ok = go (flagOf whole sh s n ok) refl (ltb i (sh .workers)) refl
-  where
-    k : ℕ
-    k = gateOf sh (length s) n i (flagOf whole sh s n ok)
-
-    up-opens : flagOf whole sh s n ok ≡ true → openGate sh (length s) n ≡ 0
-    up-opens = pick whole
-      where
-        pick : (whole : Bool) → flagOf whole sh s n ok ≡ true → openGate sh (length s) n ≡ 0
-        pick true e = sound-opens sh s n ok e
-        pick false e = near-opens sh s n ok e
-
-    go : (b : Bool) → flagOf whole sh s n ok ≡ b → (e : Bool) → ltb i (sh .workers) ≡ e
-        → (b && e) ≡ eqb (gateOf sh (length s) n i (flagOf whole sh s n ok)) 0
-    go true up true h = sym (eq-eqb k 0 (passes sh (length s) n i (flagOf whole sh s n ok) (up-opens up) up (ltb-true i (sh .workers) h)))
-    go true up false h = sym (ne-eqb k 0 (λ z. omega (arith, gate-passed sh (length s) n i (flagOf whole sh s n ok) z .1, ltb-false i (sh .workers) h)))
-    go false down e h = sym (ne-eqb k 0 (λ z. never (sym down ∙ gate-passed sh (length s) n i (flagOf whole sh s n ok) z .0)))
+gate-by whole sh s i n ok flag k e f = f ∙ ap (gateOf sh (length s) n i) e

@@ -3,7 +3,7 @@ ghost use mathlib.Core.Path.{_≡_};
 ghost use Rattle.arrival.specs.declared.Response.the-variants.{Refused};
 ghost use Rattle.wubraken.specs.Answers.{answerOf};
 ghost use Rattle.wubraken.specs.Survey.{Surveyed};
-ghost use Rattle.wubraken.specs.LentGate.{gateOn};
+ghost use Rattle.wubraken.specs.LentGate.{flagOf, gateOn};
 ghost use Rattle.words.specs.Done.{gives};
 ghost use Rattle.calendar.specs.rules.Operations.{actor as actorOf};
 ghost use Rattle.calendar.specs.rules.HostHistory.{actionOf};
@@ -11,7 +11,6 @@ ghost use Rattle.calendar.specs.rules.Ranges.{shapeInRange};
 ghost use Rattle.wubraken.specs.Requests.{isWhole};
 ghost use Rattle.wubraken.specs.Results.{nearBy, actOn, recordsOpened};
 ghost use mathlib.Core.Bool.{true};
-ghost use lib.Dec.{eqb};
 ghost use Rattle.admission.specs.Gate.{openResponse};
 use super::answers::Answer;
 use super::answers::answer_of;
@@ -46,16 +45,15 @@ fn gate_on(shape: Shape, whole: bool, i: usize, n: usize, ok: bool, store: &[u64
     gate(shape, store.len(), n, i as u64, near)
 }
 
-// Whether it is 0, at one look where all is well, for a shape within its limits.
-fn is_let_in(shape: Shape, whole: bool, i: usize, n: usize, ok: bool, store: &[u64]) -> bool
+// The flag that it goes by, for a shape within its limits.
+fn flag_within(shape: Shape, whole: bool, n: usize, ok: bool, store: &[u64]) -> bool
     requires { ⌜ shapeInRange shape ≡ true ⌝ }
-    ensures { λ r. ⌜ r ≡ eqb (gateOn whole shape (now (store .entry)) i n ok) 0 ⌝ }
+    ensures { λ r. ⌜ r ≡ flagOf whole shape (now (store .entry)) n ok ⌝ }
 {
-    let exists = (i as u64) < shape.workers;
     if whole {
-        return is_sound(shape, n, ok, store) & exists;
+        return is_sound(shape, n, ok, store);
     }
-    is_near_within(shape, n, ok, store) & exists
+    is_near_within(shape, n, ok, store)
 }
 
 // The response where worker i has no record.
@@ -106,8 +104,9 @@ pub fn act_on_record(
     let whole = is_whole(request);
     let i = index_of(request);
     let near = are_near(shape, request, seen, w);
-    if !is_let_in(shape, whole, i, n, near, store) {
-        let k = gate_on(shape, whole, i, n, near, store);
+    let flag = flag_within(shape, whole, n, near, store);
+    let k = gate(shape, store.len(), n, i as u64, flag);
+    if k != 0 {
         return refuse(w, k);
     }
     perform_turns(

@@ -66,7 +66,7 @@ wide-requires-4 c κs = search needs
 
 returns-4 : tie.Need-returns-4
 unfolding energyOf wordsFrom
-returns-4 c = c .wide4 .ensures ∙ in-row 128 128 (c .before .before .before .before .before .args .k) (omega arith) (omega arith)
+returns-4 c = c .wide4 .ensures ∙ in-row 128 112 (c .before .before .before .before .before .args .k) (omega arith) (omega arith)
 
 mul-wide-5 : tie.Need-mul-wide-5
 mul-wide-5 c = search needs
@@ -79,7 +79,7 @@ wide-requires-5 c κs = search needs
 
 returns-5 : tie.Need-returns-5
 unfolding energyOf wordsFrom
-returns-5 c = c .wide5 .ensures ∙ in-row 256 256 (c .before .before .before .before .before .before .args .k) (omega arith) (omega arith)
+returns-5 c = c .wide5 .ensures ∙ in-row 240 120 (c .before .before .before .before .before .before .args .k) (omega arith) (omega arith)
 
 mul-wide-6 : tie.Need-mul-wide-6
 mul-wide-6 c = search needs
@@ -92,7 +92,62 @@ wide-requires-6 c κs = search needs
 
 returns-6 : tie.Need-returns-6
 unfolding energyOf wordsFrom
-returns-6 c = c .wide6 .ensures ∙ in-row 512 512 (c .before .before .before .before .before .before .args .k) (omega arith) (omega arith)
+returns-6 c = c .wide6 .ensures ∙ in-row 360 128 (c .before .before .before .before .before .before .before .args .k) (omega arith) (omega arith)
+
+mul-wide-7 : tie.Need-mul-wide-7
+mul-wide-7 c = search needs
+
+array-read-wide-7 : tie.Need-array-read-wide-7
+array-read-wide-7 c = search needs
+
+wide-requires-7 : tie.Need-wide-requires-7
+wide-requires-7 c κs = search needs
+
+returns-7 : tie.Need-returns-7
+unfolding energyOf wordsFrom
+returns-7 c = c .wide7 .ensures ∙ in-row 488 136 (c .before .before .before .before .before .before .before .before .args .k) (omega arith) (omega arith)
+
+mul-wide-8 : tie.Need-mul-wide-8
+mul-wide-8 c = search needs
+
+array-read-wide-8 : tie.Need-array-read-wide-8
+array-read-wide-8 c = search needs
+
+wide-requires-8 : tie.Need-wide-requires-8
+wide-requires-8 c κs = search needs
+
+returns-8 : tie.Need-returns-8
+unfolding energyOf wordsFrom
+returns-8 c = c .wide8 .ensures ∙ in-row 624 144 (c .before .before .before .before .before .before .before .before .before .args .k) (omega arith)
+    (omega arith)
+
+mul-wide-9 : tie.Need-mul-wide-9
+mul-wide-9 c = search needs
+
+array-read-wide-9 : tie.Need-array-read-wide-9
+array-read-wide-9 c = search needs
+
+wide-requires-9 : tie.Need-wide-requires-9
+wide-requires-9 c κs = search needs
+
+returns-9 : tie.Need-returns-9
+unfolding energyOf wordsFrom
+returns-9 c = c .wide9 .ensures ∙ in-row 768 152 (c .before .before .before .before .before .before .before .before .before .before .args .k) (omega arith)
+    (omega arith)
+
+mul-wide-10 : tie.Need-mul-wide-10
+mul-wide-10 c = search needs
+
+array-read-wide-10 : tie.Need-array-read-wide-10
+array-read-wide-10 c = search needs
+
+wide-requires-10 : tie.Need-wide-requires-10
+wide-requires-10 c κs = search needs
+
+returns-10 : tie.Need-returns-10
+unfolding energyOf wordsFrom
+returns-10 c = c .wide10 .ensures ∙ in-row 920 104 (c .before .before .before .before .before .before .before .before .before .before .args .k)
+    (omega arith) (omega arith)
 
 pub entry-spec : {M : Type 1} → statement M
 entry-spec =
@@ -121,4 +176,20 @@ entry-spec =
     mul-wide-6
     array-read-wide-6
     wide-requires-6
-    returns-6)
+    returns-6
+    mul-wide-7
+    array-read-wide-7
+    wide-requires-7
+    returns-7
+    mul-wide-8
+    array-read-wide-8
+    wide-requires-8
+    returns-8
+    mul-wide-9
+    array-read-wide-9
+    wide-requires-9
+    returns-9
+    mul-wide-10
+    array-read-wide-10
+    wide-requires-10
+    returns-10)
