@@ -345,7 +345,8 @@ static inline wubraken_answer wubraken_pool_run(const wubraken_pool *pool, uint6
 }
 
 /* A worker puts an arrival in: begins, and goes on by at most so many turns;
- * UINT64_MAX is as good as no limit. STORED; or BEGUN or ON: the turns are used
+ * UINT64_MAX is as good as no limit, in memory that grew from an opening (in other
+ * memory a list may lead in a circle, and no end comes). STORED; or BEGUN or ON: the turns are used
  * up, and the call goes on by _run or _step. A refusal in the midst (11: no epoch
  * is left; 3: damaged memory) leaves the call in progress, which
  * wubraken_pool_in_progress tells. Refusals: 1 to 6, 9, 11, 12. */
@@ -357,8 +358,7 @@ static inline wubraken_answer wubraken_pool_put(const wubraken_pool *pool, uint6
 }
 
 /* A worker takes the earliest arrival out: begins, and goes on by at most so many
- * turns; UINT64_MAX is as good as no limit. TOOK or EMPTY; or BEGUN or ON, as
- * above. Refusals: 1 to 4, 9, 11. */
+ * turns, with UINT64_MAX as above. TOOK or EMPTY; or BEGUN or ON, as above. Refusals: 1 to 4, 9, 11. */
 static inline wubraken_answer wubraken_pool_take(const wubraken_pool *pool, uint64_t worker, uint64_t turns)
 {
     return wubraken_narrow_dequeue(pool->shape, worker, turns,

@@ -10,6 +10,7 @@ use Rattle.arrival.specs.declared.Shape.{Shape}
 use Rattle.laws.specs.Tests.{parts}
 use Rattle.calendar.specs.rules.Ranges.{wordsInRange, storeInRange}
 use Rattle.calendar.specs.facts.RangeFacts.{Limits, WordRanges, word-ranges}
+use Rattle.calendar.specs.facts.Narrow.{words-of-store}
 use Rattle.words.specs.Laid.{Laid, laid}
 use Rattle.admission.specs.Gate.{gateOf, gate-passed, gate-opens, openGate, open-passed, soundOf, sound-opens}
 use Rattle.admission.specs.NarrowGate.{nearOf, near-opens}
@@ -30,11 +31,6 @@ pub record Passed (sh : Shape) (s : List ℕ) (i n : ℕ) (ok : Bool) : Type 0 w
   pub records : ok ≡ true
   pub worker : i < sh .workers
 
--- a store in range has its three first words in range
-first-words : (sh : Shape) (s : List ℕ) → storeInRange sh s ≡ true → wordsInRange sh s ≡ true
-unfolding storeInRange
-first-words sh s e = parts _ _ (parts _ _ e .0) .0
-
 pub passed : (whole : Bool) (sh : Shape) (s : List ℕ) (i n : ℕ) (ok : Bool) → gateOn whole sh s i n ok ≡ 0 → Passed sh s i n ok
 unfolding gateOn soundOf nearOf
 passed whole sh s i n ok e =
@@ -45,7 +41,7 @@ passed whole sh s i n ok e =
     record { limits = p .0; laid = laid sh s (p .0) (p .1); words = word-ranges sh s words; table = p .2; records = records; worker = worker }
   where
     go : (whole : Bool) → eqb (openGate sh (length s) n) 0 ≡ true → flagOf whole sh s n ok ≡ true → (wordsInRange sh s ≡ true) × (ok ≡ true)
-    go true opens up = let (ranged, records) = parts (storeInRange sh s) ok (rw opens at up) in (first-words sh s ranged, records)
+    go true opens up = let (ranged, records) = parts (storeInRange sh s) ok (rw opens at up) in (words-of-store sh s ranged, records)
     go false opens up = parts (wordsInRange sh s) ok (rw opens at up)
 
 -- where the flag is up 1 and 2 do not apply

@@ -172,8 +172,8 @@ module _ (sh : Shape) (s : List ℕ) (t : List Worker) (q : Request) where
         go true e n = refused-is sh m (soundOf sh s (length t) ok) (W e) a n
         go false e n = narrow-away sh m a ok (N e) n
 
-    refused-whole : gate ok ≢ 0 → record { memory = m; response = Refused (gate ok) } ≡ requested sh m q
-    refused-whole n =
+    gate-refuses : gate ok ≢ 0 → record { memory = m; response = Refused (gate ok) } ≡ requested sh m q
+    gate-refuses n =
         sym (nothing-after sh i (turnsOf q) (gate ok) m) ∙ ap (turnsAfter sh i (turnsOf q)) (first-refused n) ∙ request-is sh m q
 
     -- what it lets pass is done
@@ -186,9 +186,9 @@ module _ (sh : Shape) (s : List ℕ) (t : List Worker) (q : Request) where
         go true e z = act-is sh m (soundOf sh s (length t) ok) (W e) a low f z
         go false e z = narrow-is sh m a ok (N e) low f z
 
-    done-whole : gate ok ≡ 0 → (low : ℕ) → LowFor sh t a low
+    gate-lets : gate ok ≡ 0 → (low : ℕ) → LowFor sh t a low
         → back t i (localTurns sh (turnsOf q) (localAct sh low s a (worker t i))) ≡ requested sh m q
-    done-whole z low f =
+    gate-lets z low f =
         let p = passed (isWhole q) sh s i (length t) ok z in
         turns-back sh t i (p .limits) (p .worker) (p .table) (turnsOf q) (localAct sh low s a (worker t i))
         (omega (arith, p .laid .fits, act-length sh low s a (worker t i)))
@@ -247,15 +247,15 @@ module _ (sh : Shape) (s : List ℕ) (t : List Worker) (q : Request) where
       go true e =
           let z = eqb-true _ 0 e in
           let p = passed (isWhole q) sh s i (length t) near z in
-          done-whole near (tells-near exists) z (survey sh q t .low) (low-for (record { limits = p .limits; store = p .laid .fits; table = p .table }))
+          gate-lets near (tells-near exists) z (survey sh q t .low) (low-for (record { limits = p .limits; store = p .laid .fits; table = p .table }))
       go false e =
           ap (λ (u : List Worker). record { memory = lent s u; response = Refused (gate near) }) (set-getD t i blank)
-          ∙ refused-whole near (tells-near exists) (eqb-false _ 0 e)
+          ∙ gate-refuses near (tells-near exists) (eqb-false _ 0 e)
 
   -- Past the workers' records there is no worker, or the gate refuses anyway.
   pub away-is : ltb i (surveyed sh (length t)) ≡ false
       → gave s t (Refused (gateOn (isWhole q) sh s i (length t) (survey sh q t .ok))) ≡ requested sh (lent s t) q
-  away-is beyond = refused-whole (survey sh q t .ok) tells (λ z.
+  away-is beyond = gate-refuses (survey sh q t .ok) tells (λ z.
       let p = passed (isWhole q) sh s i (length t) (survey sh q t .ok) z in
       omega (arith, p .worker, past (record { limits = p .limits; store = p .laid .fits; table = p .table })))
     where

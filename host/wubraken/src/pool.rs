@@ -225,12 +225,13 @@ impl<S: AsMut<[u64]>, T: AsMut<[Worker]>> Pool<S, T> {
     }
 
     /// A worker puts an arrival in: [`Pool::enqueue`], then [`Pool::run`] by at most
-    /// so many turns; `u64::MAX` is as good as no limit. A limit that is used up
+    /// so many turns; `u64::MAX` is as good as no limit, in memory that grew from an
+    /// opening (in other memory a list may lead in a circle). A limit that is used up
     /// leaves the call in progress.
     ///
-    /// Refusals 1 to 6, 9, 11 and 12 are of the start, and nothing has begun. A turn
-    /// can be refused too: by 11, where no epoch is left, or by 3 in damaged memory.
-    /// Then the call stays in progress, and [`Pool::in_progress`] says so.
+    /// A start that is refused (1 to 6, 9, 11 or 12) has begun nothing. A turn behind
+    /// it can be refused too: by 11, where no epoch is left, or by 3 in damaged
+    /// memory. Then the call stays in progress; [`Pool::in_progress`] tells which.
     ///
     /// ```
     /// use wubraken::{Arrival, Pool, Put, Shape, Step};

@@ -1,4 +1,5 @@
 -- Narrow starts and turns: where store and table are in range they are those of Operations; on any memory they keep what those keep.
+--     words-of-store                           a store in range has its three first words in range
 --     narrow-same                              in range: the same memory and response
 --     narrow-same-unless-3, narrow-3-is-3      on any memory, unless the operation is refused by 3; what is refused by 3 here is so there
 --     narrow-said                              what is accepted answers no refusal
@@ -32,7 +33,7 @@ use Rattle.calendar.specs.facts.NarrowAccepted.{narrow-parts, narrow-acc
 
 -- ── in range ──
 -- of what the operation looks at, this is a part
-words-of-store : (sh : Shape) (s : List ℕ) → storeInRange sh s ≡ true → wordsInRange sh s ≡ true
+pub words-of-store : (sh : Shape) (s : List ℕ) → storeInRange sh s ≡ true → wordsInRange sh s ≡ true
 unfolding storeInRange
 words-of-store sh s e = left-true (wordsInRange sh s) _ (left-true _ _ e)
 

@@ -1,6 +1,5 @@
 -- `operation::perform` does what its action's own function does. Assumes nothing.
 use mathlib.Core.Path.{_∙_}
-use native.Mathlib.Omega.{arith}
 use Rattle.operation.specs.LocalAct.{ready, local-enqueue, local-dequeue, local-step}
 use borrow.Author.Needs.{needs}
 use Rattle.operation.proofs.perform.Statement.{statement}

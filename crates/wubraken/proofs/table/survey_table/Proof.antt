@@ -68,7 +68,7 @@ use Rattle.arrival.specs.declared.Worker.{Worker}
 use Rattle.arrival.specs.declared.Request.{Request}
 use Rattle.calendar.specs.rules.Ranges.{blank, shapeInRange}
 use Rattle.wubraken.specs.declared.table.Survey.{Survey}
-use Rattle.wubraken.specs.Survey.{unseen, seen, surveyOf, surveyed, surveyed-bound, surveyed-shape, lookedAt, looked-at-bound, survey-start, survey-more}
+use Rattle.wubraken.specs.Survey.{unseen, seen, surveyOf, surveyed-bound, surveyed-shape, lookedAt, looked-at-bound, survey-start, survey-more}
 use Rattle.arrival.proofs.Shape as Sh
 use Rattle.arrival.proofs.Shape.Laws as Sh′
 use Rattle.arrival.proofs.Request as Rq
