@@ -1,3 +1,4 @@
 pub mod Watched
 pub mod Gate
+pub mod RecordTests
 pub mod NarrowGate

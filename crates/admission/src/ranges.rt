@@ -6,6 +6,7 @@ ghost use Rattle.calendar.specs.rules.Ranges.{shapeInRange, pathInRange, orderI
 ghost use Rattle.calendar.specs.rules.Ranges.{recordInRange};
 ghost use Rattle.calendar.specs.facts.RecordsKept.{linksInRange};
 ghost use Rattle.words.specs.Laid.{Laid};
+ghost use Rattle.admission.specs.RecordTests.{callInRange, placeInRange, wordsHeldInRange};
 use arrival::Shape;
 use arrival::Worker;
 use words::field;
@@ -130,26 +131,50 @@ pub fn store_in_range(shape: Shape, store: &[u64]) -> bool
     words_in_range(shape, store) & heads_in_range(shape, store) & nodes_in_range(shape, store)
 }
 
-// A record's share of refusal 3.
+// Which call a record is of: its stage, its kind, its node. Stages 4 to 7 are a put's, 8 to 13 a take's.
+fn call_in_range(shape: Shape, w: Worker) -> bool
+    ensures { λ r. ⌜ r ≡ callInRange shape w ⌝ }
+{
+    let k = w.stage;
+    (k <= 13) & (w.kind <= 1) & ((k < 4) | (w.kind == k / 8)) & (w.own < shape.nodes)
+}
+
+// Where its call stands: not at the last bucket at 12, and right is no end at 2, 3, 10 and 11.
+fn place_in_range(shape: Shape, w: Worker) -> bool
+    requires { ⌜ 1 ≤ shape .buckets ⌝ }
+    requires { ⌜ shape .buckets + shape .nodes < 65536 ⌝ }
+    ensures { λ r. ⌜ r ≡ placeInRange shape w ⌝ }
+{
+    let k = w.stage;
+    (w.bucket < shape.buckets)
+        & (!(k == 12) | !(w.bucket == shape.buckets - 1))
+        & (w.left < shape.buckets + shape.nodes)
+        & (w.right <= shape.nodes)
+        & (!((2 <= k) & (k <= 3) | (10 <= k) & (k <= 11)) | !(w.right == shape.nodes))
+}
+
+// The words that it holds from the store, and its ticket.
+fn words_held_in_range(shape: Shape, w: Worker) -> bool
+    ensures { λ r. ⌜ r ≡ wordsHeldInRange shape w ⌝ }
+{
+    (w.seen / 2 <= shape.nodes)
+        & (w.current / word::COUNTS < shape.buckets)
+        & (w.ticket < word::COUNTS)
+}
+
+// A record's share of refusal 3, in three parts: a record out of range is rare, and branches cost less than the sum of all tests.
 pub fn record_in_range(shape: Shape, w: Worker) -> bool
     requires { ⌜ 1 ≤ shape .buckets ⌝ }
     requires { ⌜ shape .buckets + shape .nodes < 65536 ⌝ }
     ensures { λ r. ⌜ r ≡ recordInRange shape w ⌝ }
 {
-    let k = w.stage;
-    (k <= 13)
-        & (w.kind <= 1)
-        & (!((4 <= k) & (k <= 7)) | (w.kind == 0))
-        & (!((8 <= k) & (k <= 13)) | (w.kind == 1))
-        & (w.own < shape.nodes)
-        & (w.bucket < shape.buckets)
-        & (!(k == 12) | !(w.bucket == shape.buckets - 1))
-        & (w.left < shape.buckets + shape.nodes)
-        & (w.right <= shape.nodes)
-        & (!((2 <= k) & (k <= 3) | (10 <= k) & (k <= 11)) | !(w.right == shape.nodes))
-        & (w.seen / 2 <= shape.nodes)
-        & (w.current / word::COUNTS < shape.buckets)
-        & (w.ticket < word::COUNTS)
+    if !call_in_range(shape, w) {
+        return false;
+    }
+    if !place_in_range(shape, w) {
+        return false;
+    }
+    words_held_in_range(shape, w)
 }
 
 // What a turn may have read from elsewhere into its record.

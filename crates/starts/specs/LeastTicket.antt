@@ -25,16 +25,18 @@ leastTicket t (suc n) = lower (leastTicket t n) (worker t n)
 abbrev pub freeBelow : ℕ → ℕ → Bool
 freeBelow low x = eqb x 0 || (leb 2 x && (ltb x (2 + low) || eqb low 4294967296))
 
+pub lower-bound : (low : ℕ) (w : Worker) → lower low w ≤ low
+lower-bound low w = go (inProgress w) (ltb (w .ticket) low) refl
+  where
+    go : (a b : Bool) → ltb (w .ticket) low ≡ b → cond (a && b) (w .ticket) low ≤ low
+    go true true e = omega (arith, ltb-true (w .ticket) low e)
+    go true false e = omega arith
+    go false b e = omega arith
+
 pub least-bound : (t : List Worker) (n : ℕ) → leastTicket t n ≤ 4294967296
 unfolding leastTicket
 least-bound t zero = omega arith
-least-bound t (suc n) = go (inProgress (worker t n)) (ltb (worker t n .ticket) (leastTicket t n)) refl (least-bound t n)
-  where
-    go : (a b : Bool) → ltb (worker t n .ticket) (leastTicket t n) ≡ b → leastTicket t n ≤ 4294967296
-        → cond (a && b) (worker t n .ticket) (leastTicket t n) ≤ 4294967296
-    go true true e h = omega (arith, ltb-true (worker t n .ticket) (leastTicket t n) e)
-    go true false e h = h
-    go false b e h = h
+least-bound t (suc n) = omega (arith, lower-bound (leastTicket t n) (worker t n), least-bound t n)
 
 -- a test against the lower of two numbers
 below-lower : (b : Bool) (y m l : ℕ) → ltb y (cond (b && ltb m l) m l) ≡ (ltb y l && not (b && leb m y))

@@ -219,16 +219,17 @@ module _ (sh : Shape) (s : List ℕ) (t : List Worker) (q : Request) where
       go (Narrow (Step j) n) e f h = rw (le-leb (sh .workers) j h) (f refl)
 
   -- and the least ticket
-  low-for : Lent sh s t → LowFor sh t a (survey sh q t .low)
+  low-for : Lent sh s t → nearBy sh q (survey sh q t) (worker t i) ≡ true → LowFor sh t a (survey sh q t .low)
   low-for l = go q (λ all. survey-low-is sh q t (shape-tests sh (l .limits)) (le-ltb (length t) (sh .workers) (l .table)) all)
     where
-      go : (q : Request) → (looksAtAll q ≡ true → survey sh q t .low ≡ leastTicket t (sh .workers)) → LowFor sh t (actionOf q) (survey sh q t .low)
-      go (Whole (Enqueue j x)) e = e refl
-      go (Whole (Dequeue j)) e = tt
-      go (Whole (Step j)) e = tt
-      go (Narrow (Enqueue j x) n) e = e refl
-      go (Narrow (Dequeue j) n) e = tt
-      go (Narrow (Step j) n) e = tt
+      go : (q : Request) → (looksAtAll q ≡ true → survey sh q t .ok ≡ true → survey sh q t .low ≡ leastTicket t (sh .workers))
+          → nearBy sh q (survey sh q t) (worker t (actor (actionOf q))) ≡ true → LowFor sh t (actionOf q) (survey sh q t .low)
+      go (Whole (Enqueue j x)) e ok = e refl ok
+      go (Whole (Dequeue j)) e ok = tt
+      go (Whole (Step j)) e ok = tt
+      go (Narrow (Enqueue j x) n) e ok = e refl ok
+      go (Narrow (Dequeue j) n) e ok = tt
+      go (Narrow (Step j) n) e ok = tt
 
   -- What is done on one record, where the worker has one, and put back is what was requested.
   pub acted : i < surveyed sh (length t) → back t i (actOn sh q (length t) (survey sh q t) s (worker t i)) ≡ requested sh (lent s t) q
@@ -247,7 +248,8 @@ module _ (sh : Shape) (s : List ℕ) (t : List Worker) (q : Request) where
       go true e =
           let z = eqb-true _ 0 e in
           let p = passed (isWhole q) sh s i (length t) near z in
-          gate-lets near (tells-near exists) z (survey sh q t .low) (low-for (record { limits = p .limits; store = p .laid .fits; table = p .table }))
+          gate-lets near (tells-near exists) z (survey sh q t .low)
+          (low-for (record { limits = p .limits; store = p .laid .fits; table = p .table }) (p .records))
       go false e =
           ap (λ (u : List Worker). record { memory = lent s u; response = Refused (gate near) }) (set-getD t i blank)
           ∙ gate-refuses near (tells-near exists) (eqb-false _ 0 e)

@@ -4,6 +4,7 @@ use mathlib.Core.List.{List}
 use mathlib.Core.Bool.{Bool, true, false, cond, _&&_}
 use Prim.Native.Nat.{ℕ, zero, suc, _+_, _<_, _≤_}
 use native.Mathlib.Omega.{arith}
+use native.Mathlib.Nat.{add-zero, add-suc}
 use native.Mathlib.Numerals.{add-one}
 use lib.Dec.{ltb}
 use lib.ListN.{length}
@@ -11,9 +12,10 @@ use borrow.Author.Tests.{ltb-true, ltb-false}
 use Rattle.arrival.specs.declared.Shape.{Shape}
 use Rattle.arrival.specs.declared.Worker.{Worker}
 use Rattle.arrival.specs.declared.Request.{Request}
+use Rattle.laws.specs.Tests.{never, left-true}
 use Rattle.laws.specs.Counting.{every, every-at}
 use Rattle.calendar.specs.rules.Ranges.{shapeInRange, recordInRange, tableInRange, worker}
-use Rattle.starts.specs.LeastTicket.{lower, leastTicket, least-bound}
+use Rattle.starts.specs.LeastTicket.{lower, lower-bound, leastTicket}
 use Rattle.wubraken.specs.declared.table.Survey.{Survey}
 use Rattle.wubraken.specs.Requests.{looksAtAll}
 
@@ -23,12 +25,16 @@ unseen = record { ok = true; low = 4294967296 }
 
 -- one record more
 unfoldable pub seen : Shape → Survey → Worker → Survey
-seen sh a w = record { ok = a .ok && recordInRange sh w; low = lower (a .low) w }
+seen sh a w = cond (recordInRange sh w) (record { ok = a .ok; low = lower (a .low) w }) (record { ok = false; low = a .low })
+
+-- but none behind one that is out of range
+unfoldable pub next : Shape → Survey → Worker → Survey
+next sh a w = cond (a .ok) (seen sh a w) a
 
 -- the first n records
 unfoldable pub surveyOf : Shape → List Worker → ℕ → Survey
 surveyOf sh t zero = unseen
-surveyOf sh t (suc n) = seen sh (surveyOf sh t n) (worker t n)
+surveyOf sh t (suc n) = next sh (surveyOf sh t n) (worker t n)
 
 -- how many of n records are the workers': all if there are fewer; none in a shape outside its limits
 abbrev pub surveyed : Shape → ℕ → ℕ
@@ -73,16 +79,54 @@ looked-at-bound sh q n = go (looksAtAll q)
     go true = omega arith
     go false = omega arith
 
+module _ (sh : Shape) (a : Survey) (w : Worker) where
+  abbrev one : Bool → Bool → Survey
+  one all this = cond all (cond this (record { ok = a .ok; low = lower (a .low) w }) (record { ok = false; low = a .low })) a
+
+  next-ok : next sh a w .ok ≡ (a .ok && recordInRange sh w)
+  unfolding next seen
+  next-ok = go (a .ok) refl (recordInRange sh w)
+    where
+      go : (b : Bool) → a .ok ≡ b → (c : Bool) → one b c .ok ≡ (b && c)
+      go true e true = e
+      go true e false = refl
+      go false e c = e
+
+  next-low : next sh a w .ok ≡ true → next sh a w .low ≡ lower (a .low) w
+  unfolding next seen
+  next-low = go (a .ok) refl (recordInRange sh w)
+    where
+      go : (b : Bool) → a .ok ≡ b → (c : Bool) → one b c .ok ≡ true → one b c .low ≡ lower (a .low) w
+      go true e true ok = refl
+      go true e false ok = never ok
+      go false e c ok = never (sym e ∙ ok)
+
+  next-bound : next sh a w .low ≤ a .low
+  unfolding next seen
+  next-bound = go (a .ok) (recordInRange sh w)
+    where
+      go : (b c : Bool) → one b c .low ≤ a .low
+      go true true = lower-bound (a .low) w
+      go true false = omega arith
+      go false c = omega arith
+
 module _ (sh : Shape) (t : List Worker) where
   pub survey-ok : (n : ℕ) → surveyOf sh t n .ok ≡ every n (λ i. recordInRange sh (worker t i))
-  unfolding surveyOf unseen seen every
+  unfolding surveyOf unseen every
   survey-ok zero = refl
-  survey-ok (suc n) = ap (λ (b : Bool). b && recordInRange sh (worker t n)) (survey-ok n)
+  survey-ok (suc n) = next-ok sh (surveyOf sh t n) (worker t n) ∙ ap (λ (b : Bool). b && recordInRange sh (worker t n)) (survey-ok n)
 
-  pub survey-low : (n : ℕ) → surveyOf sh t n .low ≡ leastTicket t n
-  unfolding surveyOf unseen seen leastTicket
-  survey-low zero = refl
-  survey-low (suc n) = ap (λ (l : ℕ). lower l (worker t n)) (survey-low n)
+  pub survey-low : (n : ℕ) → surveyOf sh t n .ok ≡ true → surveyOf sh t n .low ≡ leastTicket t n
+  unfolding surveyOf unseen leastTicket
+  survey-low zero ok = refl
+  survey-low (suc n) ok =
+      let before = left-true (surveyOf sh t n .ok) (recordInRange sh (worker t n)) (sym (next-ok sh (surveyOf sh t n) (worker t n)) ∙ ok) in
+      next-low sh (surveyOf sh t n) (worker t n) ok ∙ ap (λ (l : ℕ). lower l (worker t n)) (survey-low n before)
+
+  survey-bound : (n : ℕ) → surveyOf sh t n .low ≤ 4294967296
+  unfolding surveyOf unseen
+  survey-bound zero = omega arith
+  survey-bound (suc n) = omega (arith, next-bound sh (surveyOf sh t n) (worker t n), survey-bound n)
 
 -- What the look tells of the record w of the request's worker.
 pub record Surveyed (sh : Shape) (q : Request) (a : Survey) (w : Worker) : Type 0 where
@@ -94,7 +138,7 @@ pub survey-tells : (sh : Shape) (q : Request) (t : List Worker) (i : ℕ) → i 
 survey-tells sh q t i h = record {
   shape = surveyed-shape sh (length t) i h;
   ranged = λ all ok. every-at _ (lookedAt sh q (length t)) (sym (survey-ok sh t (lookedAt sh q (length t))) ∙ ok) i (rw all h);
-  low = rw (survey-low sh t (lookedAt sh q (length t))) (least-bound t (lookedAt sh q (length t)));
+  low = survey-bound sh t (lookedAt sh q (length t));
 }
 
 -- Where nothing is looked at, nothing is out of range.
@@ -112,14 +156,22 @@ module _ (sh : Shape) (q : Request) (t : List Worker) (inside : shapeInRange sh 
   unfolding tableInRange
   survey-ok-is = survey-ok sh t (lookedAt sh q (length t)) ∙ ap (λ (n : ℕ). every n (λ i. recordInRange sh (worker t i))) all
 
-  pub survey-low-is : survey sh q t .low ≡ leastTicket t (sh .workers)
-  survey-low-is = survey-low sh t (lookedAt sh q (length t)) ∙ ap (leastTicket t) all
+  pub survey-low-is : survey sh q t .ok ≡ true → survey sh q t .low ≡ leastTicket t (sh .workers)
+  survey-low-is ok = survey-low sh t (lookedAt sh q (length t)) ok ∙ ap (leastTicket t) all
 
 -- ── for the loop ──
 pub survey-start : (sh : Shape) (t : List Worker) → unseen ≡ surveyOf sh t 0
 unfolding surveyOf
 survey-start sh t = refl
 
-pub survey-more : (sh : Shape) (t : List Worker) (k : ℕ) → seen sh (surveyOf sh t k) (worker t k) ≡ surveyOf sh t (k + 1)
-unfolding surveyOf
-survey-more sh t k = rw add-one
+pub survey-more : (sh : Shape) (t : List Worker) (k : ℕ) → surveyOf sh t k .ok ≡ true → seen sh (surveyOf sh t k) (worker t k) ≡ surveyOf sh t (k + 1)
+unfolding surveyOf next
+survey-more sh t k ok = rw add-one (sym (ap (λ (b : Bool). cond b (seen sh (surveyOf sh t k) (worker t k)) (surveyOf sh t k)) ok))
+
+pub survey-ends : (sh : Shape) (t : List Worker) (k d : ℕ) → surveyOf sh t k .ok ≡ false → surveyOf sh t k ≡ surveyOf sh t (k + d)
+unfolding surveyOf next
+survey-ends sh t k zero out = rw add-zero
+survey-ends sh t k (suc d) out =
+    let so-far = survey-ends sh t k d out in
+    let still = sym (ap (λ (a : Survey). a .ok) so-far) ∙ out in
+    rw add-suc (so-far ∙ sym (ap (λ (b : Bool). cond b (seen sh (surveyOf sh t (k + d)) (worker t (k + d))) (surveyOf sh t (k + d))) still))

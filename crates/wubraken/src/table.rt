@@ -16,7 +16,7 @@ use arrival::Worker;
 use starts::free::lower_ticket;
 use words::word;
 
-// What a look over records finds: whether all are in range, and the least ticket in progress.
+// What a look over records finds: whether all are in range, and if so the least ticket in progress.
 pub struct Survey {
     pub ok: bool,
     pub low: u64,
@@ -27,8 +27,14 @@ pub fn look(shape: Shape, found: Survey, w: Worker) -> Survey
     requires { ⌜ shapeInRange shape ≡ true ⌝ }
     ensures { λ r. ⌜ r ≡ seen shape found w ⌝ }
 {
+    if !record_in_range(shape, w) {
+        return Survey {
+            ok: false,
+            low: found.low,
+        };
+    }
     Survey {
-        ok: found.ok & record_in_range(shape, w),
+        ok: found.ok,
         low: lower_ticket(found.low, w),
     }
 }
@@ -56,7 +62,7 @@ pub fn records_looked_at(shape: Shape, request: Request, n: usize) -> usize
     records_surveyed(shape, n)
 }
 
-// The look over the workers' records.
+// The look over the workers' records, to the first that is out of range.
 pub fn survey_table(shape: Shape, request: Request, table: &[Worker]) -> Survey
     ensures { λ r. ⌜ r ≡ survey shape request (now (table .entry)) ⌝ }
 {
@@ -66,7 +72,7 @@ pub fn survey_table(shape: Shape, request: Request, table: &[Worker]) -> Survey
         low: word::COUNTS,
     };
     let mut k: usize = 0;
-    while k < n {
+    while (k < n) & found.ok {
         let w = table[k];
         found = look(shape, found, w);
         k = k + 1;

@@ -18,7 +18,7 @@ use native.Mathlib.Omega.{arith}
 use native.Mathlib.Nat.{le-antisymm}
 use native.Mathlib.Numerals.{add-one-le, add-one-dec}
 use mathlib.Core.WellFounded.{WellFounded, InvImage·wf}
-use mathlib.Core.Bool.{Bool, true, false}
+use mathlib.Core.Bool.{Bool, true, false, _&&_}
 use mathlib.Core.List.{List, [], _∷_}
 use lib.WfN.{Nat·lt-wfRel}
 use lib.ListN.{length, getD}
@@ -66,9 +66,10 @@ use denote.Exit.{yes}
 use Rattle.arrival.specs.declared.Shape.{Shape}
 use Rattle.arrival.specs.declared.Worker.{Worker}
 use Rattle.arrival.specs.declared.Request.{Request}
+use Rattle.laws.specs.Tests.{left-true, right-true}
 use Rattle.calendar.specs.rules.Ranges.{blank, shapeInRange}
 use Rattle.wubraken.specs.declared.table.Survey.{Survey}
-use Rattle.wubraken.specs.Survey.{unseen, seen, surveyOf, surveyed-bound, surveyed-shape, lookedAt, looked-at-bound, survey-start, survey-more}
+use Rattle.wubraken.specs.Survey.{unseen, seen, surveyOf, surveyed-bound, surveyed-shape, lookedAt, looked-at-bound, survey-start, survey-more, survey-ends}
 use Rattle.arrival.proofs.Shape as Sh
 use Rattle.arrival.proofs.Shape.Laws as Sh′
 use Rattle.arrival.proofs.Request as Rq
@@ -268,7 +269,7 @@ module _ {M : Type 1} (𝓤 : URA M) (H : Heap 𝓤) (A : Atoms 𝓤) (W : Given
   Nearer-wf : WellFounded Nearer
   Nearer-wf = InvImage·wf (λ (k : Upto). n - k .0) (Nat·lt-wfRel .wf)
 
-  module _ (𝓣 : Tables 𝓤 H) (known : Triple 𝓤 (𝓣 .C #look) (Look 𝓤 H A mem run)) (l₀ l₁ lq l₂ l₃ l₄ l₅ l₆ l₇ l₈ l₉ l₁₀ l₁₁ : ℕ) where
+  module _ (𝓣 : Tables 𝓤 H) (known : Triple 𝓤 (𝓣 .C #look) (Look 𝓤 H A mem run)) (l₀ l₁ lq l₂ l₃ l₄ l₅ l₆ l₇ l₈ l₉ l₁₀ l₁₁ l₁₂ : ℕ) where
     abbrev C : Calls 𝓤 H
     C = 𝓣 .C
 
@@ -280,17 +281,16 @@ module _ {M : Type 1} (𝓤 : URA M) (H : Heap 𝓤) (A : Atoms 𝓤) (W : Given
 
     abbrev En : Env 𝓤 H
     En =
-        (ty-s, l₀) ∷ (ty-sh, l₁) ∷ (ty-q, lq) ∷ (ty-t, l₂) ∷ (word, l₃) ∷ (ty-s, l₄) ∷ (word, l₅) ∷ (ty-w, l₆) ∷ (word, l₇) ∷ (tyBool, l₈) ∷ (word, l₉) ∷
-        (tyPtr, l₁₀)
-        ∷ (ty-w, l₁₁) ∷ []
+        (ty-s, l₀) ∷ (ty-sh, l₁) ∷ (ty-q, lq) ∷ (ty-t, l₂) ∷ (word, l₃) ∷ (ty-s, l₄) ∷ (word, l₅) ∷ (ty-w, l₆) ∷ (word, l₇) ∷ (tyBool, l₈) ∷ (tyBool, l₉)
+        ∷ (word, l₁₀) ∷ (tyPtr, l₁₁) ∷ (ty-w, l₁₂) ∷ []
 
-    -- the invariant: what is had of the table; _11 to _8 and _6, which are room; the table's length; k, what was found, n, the table, the request, the
+    -- the invariant: what is had of the table; _12 to _8 and _6, which are room; the table's length; k, what was found, n, the table, the request, the
     -- shape; and room for
     -- the result
     abbrev At : Upto → List (Item 𝓤)
     At k = Had (
-        ‵ (froom ty-w l₁₁ 0) ∷ ‵ (fdies ty-w l₁₁) ∷ ‵ (froom tyPtr l₁₀ 0) ∷ ‵ (fdies tyPtr l₁₀) ∷ ‵ (froom word l₉ 0) ∷ ‵ (fdies word l₉)
-        ∷ ‵ (froom tyBool l₈ 0) ∷ ‵ (fdies tyBool l₈)
+        ‵ (froom ty-w l₁₂ 0) ∷ ‵ (fdies ty-w l₁₂) ∷ ‵ (froom tyPtr l₁₁ 0) ∷ ‵ (fdies tyPtr l₁₁) ∷ ‵ (froom word l₁₀ 0) ∷ ‵ (fdies word l₁₀)
+        ∷ ‵ (froom tyBool l₉ 0) ∷ ‵ (fdies tyBool l₉) ∷ ‵ (froom tyBool l₈ 0) ∷ ‵ (fdies tyBool l₈)
         ∷ ‵ (fat fullShare word l₇ 0 (vint w64 (length ys))) ∷ ‵ (fdies word l₇) ∷ ‵ (froom ty-w l₆ 0) ∷ ‵ (fdies ty-w l₆)
         ∷ ‵ (fat fullShare word l₅ 0 (vint w64 (k .0))) ∷ ‵ (fdies word l₅) ∷ ‵ (fat fullShare ty-s l₄ 0 (val-s (surveyOf sh ys (k .0)))) ∷ ‵ (fdies ty-s l₄)
         ∷ ‵ (fat fullShare word l₃ 0 (vint w64 n)) ∷ ‵ (fdies word l₃) ∷ ‵ (fat fullShare ty-t l₂ 0 sv) ∷ ‵ (fdies ty-t l₂)
@@ -300,51 +300,56 @@ module _ {M : Type 1} (𝓤 : URA M) (H : Heap 𝓤) (A : Atoms 𝓤) (W : Given
     abbrev Turned : Upto → Out → SProp 𝓤
     Turned k = afterTurn 𝓤 H (Below 𝓤 H A Nearer At k) (afterBlock 𝓤 H (afterSeq 𝓤 H (Wp 𝓤 H C Λ En mir.t-6 (atReturn 𝓤 H En Post)) (atReturn 𝓤 H En Post)))
 
-    -- a turn, by whether there is a record left
-    turn-at : (k : Upto) (t : Bool) → ltb (k .0) n ≡ t → Sq W (At k) (runs C Λ En mir.turn-1 (anyQ (Turned k)))
+    -- a turn, by whether there is a record left and all before it are in range
+    turn-at : (k : Upto) (t : Bool) → (ltb (k .0) n && surveyOf sh ys (k .0) .ok) ≡ t → Sq W (At k) (runs C Λ En mir.turn-1 (anyQ (Turned k)))
     unfolding afterTurn
     turn-at k true e =
-        assigns ! (bin ! (load ! (from ! (stop !)) (look ! 16 refl)) (load ! (from ! (stop !)) (look ! 20 refl)) tt) (from ! (stop !))
-        (init ! 10 refl (tt, tt)) $
-        rewrite ! 10 (λ (t : Bool). ‵ (fat fullShare tyBool l₈ 0 (vbool t))) e refl $ stays ! (load ! (from ! (stop !)) (look ! 10 refl)) $
-        assigns ! (bin ! (load ! (from ! (stop !)) (look ! 16 refl)) (lit ! tt) (record { fits = place-fits })) (from ! (stop !)) (init ! 8 refl
+        assigns ! (bin ! (load ! (from ! (stop !)) (look ! 18 refl)) (load ! (from ! (stop !)) (look ! 22 refl)) tt) (from ! (stop !))
+        (init ! 12 refl (tt, tt)) $
+        assigns ! (bin ! (load ! (from ! (stop !)) (look ! 12 refl)) (load ! (from ! (fld ! refl (stop !))) (look-in ! 20 (sub ! 0 refl (whole !)))) tt)
+        (from ! (stop !)) (init ! 10 refl (tt, tt)) $
+        rewrite ! 10 (λ (t : Bool). ‵ (fat fullShare tyBool l₉ 0 (vbool t))) e refl $ stays ! (load ! (from ! (stop !)) (look ! 10 refl)) $
+        assigns ! (bin ! (load ! (from ! (stop !)) (look ! 18 refl)) (lit ! tt) (record { fits = place-fits })) (from ! (stop !)) (init ! 8 refl
         (tt, record { fits = place-fits })) $
-        assigns ! (bin ! (load ! (from ! (fld ! refl (stop !))) (look-in ! 22 (sub ! 0 refl (whole !)))) (load ! (from ! (stop !)) (look ! 8 refl)) tt)
+        assigns ! (bin ! (load ! (from ! (fld ! refl (stop !))) (look-in ! 24 (sub ! 0 refl (whole !)))) (load ! (from ! (stop !)) (look ! 8 refl)) tt)
         (from ! (stop !)) (init ! 6 refl (tt, tt)) $
-        rewrite ! 6 (λ (p : ℕ). ‵ (fat fullShare tyPtr l₁₀ 0 (vptr b p))) (sym (place-is 72 o (k .0))) refl $
+        rewrite ! 6 (λ (p : ℕ). ‵ (fat fullShare tyPtr l₁₁ 0 (vptr b p))) (sym (place-is 72 o (k .0))) refl $
         -- record k is taken out, copied, and put back
         move ! (1 ∷ 0 ∷ []) $ looks-slice ! tt T.the-row (Is T.the-row) (shows 𝓤 H A T.the-row) vals (LL.tells T.the-type T′.the-laws)
         (LL.copy T.the-type T′.the-copy 𝓤 H A W) ys b o (λ q′.
         elem-out ! T.the-row (Is T.the-row) (shows 𝓤 H A T.the-row) vals (LL.tells T.the-type T′.the-laws) q′ ys (k .0) blank b o inside (λ g.
         assigns ! (of-opd ! (load ! (from ! (hop ! (look ! 9 refl) (stop !))) (look-raw ! 0 refl))) (from ! (stop !)) (init ! 7 refl (typed elem g)) $
-        assigns ! (of-opd ! (load ! (from ! (stop !)) (look ! 7 refl))) (from ! (stop !)) (init ! 17 refl (typed elem g)) $
+        assigns ! (of-opd ! (load ! (from ! (stop !)) (look ! 7 refl))) (from ! (stop !)) (init ! 19 refl (typed elem g)) $
         elem-back ! T.the-row q′ ys (k .0) blank (vals elem) b o inside $ shuts-slice ! tt T.the-row q′ ys b o $
         -- `look`
         use0 W (raw (Look 𝓤 H A mem run .pre (to-look (surveyOf sh ys (k .0)) elem))) (goes-look (surveyOf sh ys (k .0)) elem
         (surveyed-shape sh (length ys) (k .0) (omega (arith, less, looked-at-bound sh rq (length ys)))) (k .1 .1) g) $
         calls-at ! (fmOf 𝓤 H (W .laws) 𝓣) (Look 𝓤 H A mem run) known (to-look (surveyOf sh ys (k .0)) elem)
-        (and-then ! (load ! (from ! (stop !)) (look ! 27 refl))
-        (and-then ! (load ! (from ! (stop !)) (look ! 19 refl)) (and-then ! (load ! (from ! (stop !)) (look ! 15 refl)) (no-more !)))) (λ v.
+        (and-then ! (load ! (from ! (stop !)) (look ! 29 refl))
+        (and-then ! (load ! (from ! (stop !)) (look ! 21 refl)) (and-then ! (load ! (from ! (stop !)) (look ! 17 refl)) (no-more !)))) (λ v.
         use1 W (later (some (λ (r : Survey). (‵ ftrue ⊛ ‵ (S.the-row .own r (v ∷ []))) ⊛ raw (ensured 𝓤 H A look-fn.ended (look-fn.clauses 𝓤 H A mem run) tt
         (sh, (surveyOf sh ys (k .0), (elem, tt))) tt r)))) (id⊢ 𝓤 _) $ await ! tt $ pick ! (λ r.
         split ! $ move ! (1 ∷ []) $ use1 W (raw (fact 𝓤 (r ≡ seen sh (surveyOf sh ys (k .0)) elem)))
         (look-of 𝓤 H A mem run sh (surveyOf sh ys (k .0)) elem r) $ heard ! (r ≡ seen sh (surveyOf sh ys (k .0)) elem) (λ e′. split ! $ drop ! $
-        peeks ! S.the-row (Is S.the-row) (shows 𝓤 H A S.the-row) r (v ∷ []) (λ is. land ! (from ! (stop !)) (store ! 19 refl (typed-s r v is)) $
-        rewrite ! 19 (λ (u : Val). ‵ (fat fullShare ty-s l₄ 0 u)) (ap only (LL.tells S.the-type S′.the-laws r (v ∷ []) is)
-        ∙ ap val-s (e′ ∙ survey-more sh ys (k .0))) refl $
-        assigns-last ! (bin ! (load ! (from ! (stop !)) (look ! 17 refl)) (lit ! tt) (record { fits = next-fits })) (from ! (stop !)) (store ! 17 refl
+        peeks ! S.the-row (Is S.the-row) (shows 𝓤 H A S.the-row) r (v ∷ []) (λ is. land ! (from ! (stop !)) (store ! 21 refl (typed-s r v is)) $
+        rewrite ! 21 (λ (u : Val). ‵ (fat fullShare ty-s l₄ 0 u)) (ap only (LL.tells S.the-type S′.the-laws r (v ∷ []) is)
+        ∙ ap val-s (e′ ∙ survey-more sh ys (k .0) ok)) refl $
+        assigns-last ! (bin ! (load ! (from ! (stop !)) (look ! 19 refl)) (lit ! tt) (record { fits = next-fits })) (from ! (stop !)) (store ! 19 refl
         (tt, record { fits = next-fits })) $
-        drop ! $ forget ! 4 refl $ forget ! 6 refl $ forget ! 8 refl $ forget ! 10 refl $ forget ! 14 refl $
+        drop ! $ forget ! 4 refl $ forget ! 6 refl $ forget ! 8 refl $ forget ! 10 refl $ forget ! 12 refl $ forget ! 16 refl $
         again ! Nearer At k (
           k .0 + 1,
-          (add-one-le less, subst Fits (e′ ∙ survey-more sh ys (k .0)) (subst (Is S.the-row r) (LL.tells S.the-type S′.the-laws r (v ∷ []) is) is)),
+          (add-one-le less, subst Fits (e′ ∙ survey-more sh ys (k .0) ok) (subst (Is S.the-row r) (LL.tells S.the-type S′.the-laws r (v ∷ []) is) is)),
         ) (add-one-dec n (k .0) less)))))))
       where
         elem : Worker
         elem = getD ys (k .0) blank
 
         less : k .0 < n
-        less = ltb-true (k .0) n e
+        less = ltb-true (k .0) n (left-true (ltb (k .0) n) (surveyOf sh ys (k .0) .ok) e)
+
+        ok : surveyOf sh ys (k .0) .ok ≡ true
+        ok = right-true (ltb (k .0) n) (surveyOf sh ys (k .0) .ok) e
 
         inside : k .0 < length ys
         inside = omega (arith, less, within)
@@ -355,19 +360,22 @@ module _ {M : Type 1} (𝓤 : URA M) (H : Heap 𝓤) (A : Atoms 𝓤) (W : Given
         next-fits : k .0 + 1 < 2 ^ 64
         next-fits = omega (arith, inside, room .0)
     turn-at k false e =
-        assigns ! (bin ! (load ! (from ! (stop !)) (look ! 16 refl)) (load ! (from ! (stop !)) (look ! 20 refl)) tt) (from ! (stop !))
-        (init ! 10 refl (tt, tt)) $
-        rewrite ! 10 (λ (t : Bool). ‵ (fat fullShare tyBool l₈ 0 (vbool t))) e refl $ leaves-loop ! (load ! (from ! (stop !)) (look ! 10 refl)) $
+        assigns ! (bin ! (load ! (from ! (stop !)) (look ! 18 refl)) (load ! (from ! (stop !)) (look ! 22 refl)) tt) (from ! (stop !))
+        (init ! 12 refl (tt, tt)) $
+        assigns ! (bin ! (load ! (from ! (stop !)) (look ! 12 refl)) (load ! (from ! (fld ! refl (stop !))) (look-in ! 20 (sub ! 0 refl (whole !)))) tt)
+        (from ! (stop !)) (init ! 10 refl (tt, tt)) $
+        rewrite ! 10 (λ (t : Bool). ‵ (fat fullShare tyBool l₉ 0 (vbool t))) e refl $ leaves-loop ! (load ! (from ! (stop !)) (look ! 10 refl)) $
         exec ! C Λ En mir.t-6 (atRet En Post) $
-        assigns ! (of-opd ! (load ! (from ! (stop !)) (look ! 18 refl))) (from ! (stop !)) (init ! 28 refl (typed-s (surveyOf sh ys (k .0))
+        assigns ! (of-opd ! (load ! (from ! (stop !)) (look ! 20 refl))) (from ! (stop !)) (init ! 30 refl (typed-s (surveyOf sh ys (k .0))
         (val-s (surveyOf sh ys (k .0))) (k .1 .1))) $
-        returns ! (look ! 28 refl) $ forget ! 10 refl $ forget ! 12 refl $ forget ! 16 refl $ forget ! 18 refl $ forget ! 20 refl $ forget ! 22 refl $
-        forget ! 24 refl $ forget ! 26 refl $ forget ! 28 refl $
-        move ! (28 ∷ 29 ∷ []) $ free1 ! $ move ! (26 ∷ 27 ∷ []) $ free1 ! $ move ! (24 ∷ 25 ∷ []) $ free1 ! $ move ! (22 ∷ 23 ∷ []) $ free1 ! $ move !
-        (20 ∷ 21 ∷ []) $ free1 ! $
-        move ! (18 ∷ 19 ∷ []) $ free1 ! $ move ! (16 ∷ 17 ∷ []) $ free1 ! $ move ! (14 ∷ 15 ∷ []) $ free1 ! $ move ! (12 ∷ 13 ∷ []) $ free1 ! $
-        move ! (10 ∷ 11 ∷ []) $ free1 ! $ move ! (8 ∷ 9 ∷ []) $ free1 ! $ move ! (6 ∷ 7 ∷ []) $ free1 ! $ move ! (4 ∷ 5 ∷ []) $ free1 ! $ free0 ! $
-        by ! (exits (surveyOf sh ys (k .0)) (ap (surveyOf sh ys) (le-antisymm (k .1 .0) (ltb-false (k .0) n e))) (k .1 .1))
+        returns ! (look ! 30 refl) $ forget ! 10 refl $ forget ! 12 refl $ forget ! 14 refl $ forget ! 18 refl $ forget ! 20 refl $ forget ! 22 refl $ forget ! 24 refl $ forget ! 26 refl $ forget ! 28 refl $ forget ! 30 refl $ move ! (30 ∷ 31 ∷ []) $ free1 ! $ move ! (28 ∷ 29 ∷ []) $ free1 ! $ move ! (26 ∷ 27 ∷ []) $ free1 ! $ move ! (24 ∷ 25 ∷ []) $ free1 ! $ move ! (22 ∷ 23 ∷ []) $ free1 ! $ move ! (20 ∷ 21 ∷ []) $ free1 ! $ move ! (18 ∷ 19 ∷ []) $ free1 ! $ move ! (16 ∷ 17 ∷ []) $ free1 ! $ move ! (14 ∷ 15 ∷ []) $ free1 ! $ move ! (12 ∷ 13 ∷ []) $ free1 ! $ move ! (10 ∷ 11 ∷ []) $ free1 ! $ move ! (8 ∷ 9 ∷ []) $ free1 ! $ move ! (6 ∷ 7 ∷ []) $ free1 ! $ move ! (4 ∷ 5 ∷ []) $ free1 ! $ free0 ! $
+        by ! (exits (surveyOf sh ys (k .0)) (ended (ltb (k .0) n) refl e) (k .1 .1))
+      where
+        ended : (t : Bool) → ltb (k .0) n ≡ t → (t && surveyOf sh ys (k .0) .ok) ≡ false → surveyOf sh ys (k .0) ≡ surveyOf sh ys n
+        ended true f out =
+            let d : k .0 + (n - k .0) ≡ n = omega (arith, k .1 .0) in
+            survey-ends sh ys (k .0) (n - k .0) out ∙ ap (surveyOf sh ys) d
+        ended false f out = ap (surveyOf sh ys) (le-antisymm (k .1 .0) (ltb-false (k .0) n f))
 
   walk : (𝓣 : Tables 𝓤 H) → Triple 𝓤 (𝓣 .C #count) (Count 𝓤 H A mem run) → Triple 𝓤 (𝓣 .C #look) (Look 𝓤 H A mem run)
       → ent 𝓤 (onEntry 𝓤 H A f.signature (κ, tt) (q, tt) x at) (WpFn 𝓤 H (𝓣 .C) (𝓣 .Λ) code.function (val-sh sh ∷ val-q rq ∷ sv ∷ []) Post)
@@ -376,30 +384,30 @@ module _ {M : Type 1} (𝓤 : URA M) (H : Heap 𝓤) (A : Atoms 𝓤) (W : Given
       enter ! (𝓣 .C) (𝓣 .Λ) code.function (val-sh sh ∷ val-q rq ∷ sv ∷ []) _ $
       alloc1 ! (λ l₀. alloc1 ! (λ l₁. alloc1 ! (λ lq. alloc1 ! (λ l₂. alloc1 ! (λ l₃. alloc1 !
       (λ l₄. alloc1 ! (λ l₅. alloc1 ! (λ l₆. alloc1 ! (λ l₇. alloc1 ! (λ l₈.
-      alloc1 ! (λ l₉. alloc1 ! (λ l₁₀. alloc1 ! (λ l₁₁. alloc0 ! $ params1 ! $
-      pass1 ! (init ! 22 refl typed-sh) $ pass1 ! (init ! 20 refl typed-q) $ pass1 ! (init ! 18 refl (tt, (tt, (record { fits = room .0 }, tt)))) $ pass0 ! $
-      assigns ! (of-opd ! (load ! (from ! (fld ! refl (stop !))) (look-in ! 18 (sub ! 1 refl (whole !))))) (from ! (stop !))
-      (init ! 8 refl (tt, record { fits = room .0 })) $
+      alloc1 ! (λ l₉. alloc1 ! (λ l₁₀. alloc1 ! (λ l₁₁. alloc1 ! (λ l₁₂. alloc0 ! $ params1 ! $
+      pass1 ! (init ! 24 refl typed-sh) $ pass1 ! (init ! 22 refl typed-q) $ pass1 ! (init ! 20 refl (tt, (tt, (record { fits = room .0 }, tt)))) $ pass0 ! $
+      assigns ! (of-opd ! (load ! (from ! (fld ! refl (stop !))) (look-in ! 20 (sub ! 1 refl (whole !))))) (from ! (stop !))
+      (init ! 10 refl (tt, record { fits = room .0 })) $
       -- how many records are looked at
       use0 W (raw (Count 𝓤 H A mem run .pre to-count)) goes-count $
       calls-at ! (fmOf 𝓤 H (W .laws) 𝓣) (Count 𝓤 H A mem run) known-count to-count
-      (and-then ! (load ! (from ! (stop !)) (look ! 23 refl)) (and-then ! (load ! (from ! (stop !)) (look ! 21 refl))
-      (and-then ! (load ! (from ! (stop !)) (look ! 9 refl)) (no-more !)))) (λ v₀.
+      (and-then ! (load ! (from ! (stop !)) (look ! 25 refl)) (and-then ! (load ! (from ! (stop !)) (look ! 23 refl))
+      (and-then ! (load ! (from ! (stop !)) (look ! 11 refl)) (no-more !)))) (λ v₀.
       use1 W (later (some (λ (r : ℕ). (‵ ftrue ⊛ ‵ (usize .own r (v₀ ∷ [])))
       ⊛ raw (ensured 𝓤 H A count.ended (count.clauses 𝓤 H A mem run) tt (sh, (rq, (length ys, tt))) tt r)))) (id⊢ 𝓤 _) $ await ! tt $ pick ! (λ m.
       split ! $ move ! (1 ∷ []) $ use1 W (raw (fact 𝓤 (m ≡ n))) (count-of 𝓤 H A mem run sh rq (length ys) m) $ heard ! (m ≡ n) (λ e₀. split ! $ drop ! $
-      peeks ! usize (Is usize) (shows 𝓤 H A usize) m (v₀ ∷ []) (λ is₀. land ! (from ! (stop !)) (init ! 17 refl (uint-lawful 𝓤 H A W w64 .typed m _ is₀ .0)) $
-      rewrite ! 17 (λ (u : Val). ‵ (fat fullShare (tyInt w64) l₃ 0 u)) (ap only (is₀ .0) ∙ ap (vint w64) e₀) refl $ drop ! $
+      peeks ! usize (Is usize) (shows 𝓤 H A usize) m (v₀ ∷ []) (λ is₀. land ! (from ! (stop !)) (init ! 19 refl (uint-lawful 𝓤 H A W w64 .typed m _ is₀ .0)) $
+      rewrite ! 19 (λ (u : Val). ‵ (fat fullShare (tyInt w64) l₃ 0 u)) (ap only (is₀ .0) ∙ ap (vint w64) e₀) refl $ drop ! $
       assigns ! (agg ! (and-then ! (true-lit !)
       (and-then ! (big-lit ! (record { fits = lit< tt })) (no-more !)))) (from ! (stop !))
-      (init ! 14 refl made-typed) $ rewrite ! 14 (λ (v : Val). ‵ (fat fullShare ty-s l₄ 0 v)) (made-start sh ys) refl $
-      assigns ! (of-opd ! (lit ! tt)) (from ! (stop !)) (init ! 12 refl (tt, record { fits = lit< tt })) $
-      move ! (27 ∷ []) $ fsplit ! $ drop ! $ fsplit ! $ drop ! $ fsplit ! $ fsplit ! $ move ! (1 ∷ []) $ fsplit ! $ move ! (30 ∷ []) $ split ! $
+      (init ! 16 refl made-typed) $ rewrite ! 16 (λ (v : Val). ‵ (fat fullShare ty-s l₄ 0 v)) (made-start sh ys) refl $
+      assigns ! (of-opd ! (lit ! tt)) (from ! (stop !)) (init ! 14 refl (tt, record { fits = lit< tt })) $
+      move ! (29 ∷ []) $ fsplit ! $ drop ! $ fsplit ! $ drop ! $ fsplit ! $ fsplit ! $ move ! (1 ∷ []) $ fsplit ! $ move ! (32 ∷ []) $ split ! $
       keep ! (0 ∷ 3 ∷ 2 ∷ 4 ∷ 6 ∷ 7 ∷ 8 ∷ 9 ∷ 10 ∷ 11 ∷ 12 ∷ 13 ∷ 14 ∷ 15 ∷ 16 ∷ 17 ∷ 18 ∷ 19 ∷ 20 ∷ 21 ∷ 22 ∷ 23 ∷ 24 ∷ 25 ∷ 26 ∷ 27 ∷ 28 ∷ 29 ∷ 30 ∷ 31 ∷
-      []) $
-      first ! $ blocks ! $ loops ! 𝓣 Nearer Nearer-wf (At 𝓣 known l₀ l₁ lq l₂ l₃ l₄ l₅ l₆ l₇ l₈ l₉ l₁₀ l₁₁) (λ k.
-      turn-at 𝓣 known l₀ l₁ lq l₂ l₃ l₄ l₅ l₆ l₇ l₈ l₉ l₁₀ l₁₁ k (ltb (k .0) n) refl)
-      (0, (zero-le, begins sh ys)))))))))))))))))))
+      32 ∷ 33 ∷ []) $
+      first ! $ blocks ! $ loops ! 𝓣 Nearer Nearer-wf (At 𝓣 known l₀ l₁ lq l₂ l₃ l₄ l₅ l₆ l₇ l₈ l₉ l₁₀ l₁₁ l₁₂) (λ k.
+      turn-at 𝓣 known l₀ l₁ lq l₂ l₃ l₄ l₅ l₆ l₇ l₈ l₉ l₁₀ l₁₁ l₁₂ k (ltb (k .0) n && surveyOf sh ys (k .0) .ok) refl)
+      (0, (zero-le, begins sh ys))))))))))))))))))))
 
 module _ {M : Type 1} (𝓤 : URA M) (H : Heap 𝓤) (A : Atoms 𝓤) (W : Given 𝓤 H A) (mem : Memory → SProp 𝓤) (run : Routine → Fun 𝓤) where
   walks : (𝓣 : Tables 𝓤 H) → Triple 𝓤 (𝓣 .C #count) (Count 𝓤 H A mem run) → Triple 𝓤 (𝓣 .C #look) (Look 𝓤 H A mem run)
