@@ -53,14 +53,15 @@ fn held_in_range(shape: Shape, n: usize, table: [Worker; 64]) -> bool
     requires { ⌜ (n ≤ 64) × (0 < n → shapeInRange shape ≡ true) ⌝ }
     ensures { λ r. ⌜ r ≡ heldInRange shape n table ⌝ }
 {
-    let mut ok = true;
     let mut k: usize = 0;
     while k < n {
         let w = table[k];
-        ok = ok & record_in_range(shape, w);
+        if !record_in_range(shape, w) {
+            return false;
+        }
         k += 1;
     }
-    ok
+    true
 }
 
 // Works through a batch from its first byte on, with n records lent, of which the table has those of the shape's workers.
