@@ -9,7 +9,7 @@
 --     to-count .. made-typed       `records_looked_at` and `look` get what they ask; the types of the values
 --     Upto .. Nearer-wf            the variant
 --     C .. Turned                  the invariant, and what a turn leaves
---     turn-at .. next-fits         a turn, by whether there is a record left
+--     turn-at .. ended             a turn, by whether there is a record left and all before it are in range
 --     walk .. survey-table-spec    the walk around the loop; so `survey_table` meets its contract
 -- Assumes nothing.
 use mathlib.Core.Path.{_≡_, refl, sym, ap, subst, _∙_}
@@ -69,7 +69,8 @@ use Rattle.arrival.specs.declared.Request.{Request}
 use Rattle.laws.specs.Tests.{left-true, right-true}
 use Rattle.calendar.specs.rules.Ranges.{blank, shapeInRange}
 use Rattle.wubraken.specs.declared.table.Survey.{Survey}
-use Rattle.wubraken.specs.Survey.{unseen, seen, surveyOf, surveyed-bound, surveyed-shape, lookedAt, looked-at-bound, survey-start, survey-more, survey-ends}
+use Rattle.wubraken.specs.Survey.{unseen, seen, surveyOf, surveyed-bound, surveyed-shape, lookedAt, looked-at-bound}
+use Rattle.wubraken.specs.Survey.{survey-start, survey-more, survey-ends}
 use Rattle.arrival.proofs.Shape as Sh
 use Rattle.arrival.proofs.Shape.Laws as Sh′
 use Rattle.arrival.proofs.Request as Rq
@@ -368,7 +369,11 @@ module _ {M : Type 1} (𝓤 : URA M) (H : Heap 𝓤) (A : Atoms 𝓤) (W : Given
         exec ! C Λ En mir.t-6 (atRet En Post) $
         assigns ! (of-opd ! (load ! (from ! (stop !)) (look ! 20 refl))) (from ! (stop !)) (init ! 30 refl (typed-s (surveyOf sh ys (k .0))
         (val-s (surveyOf sh ys (k .0))) (k .1 .1))) $
-        returns ! (look ! 30 refl) $ forget ! 10 refl $ forget ! 12 refl $ forget ! 14 refl $ forget ! 18 refl $ forget ! 20 refl $ forget ! 22 refl $ forget ! 24 refl $ forget ! 26 refl $ forget ! 28 refl $ forget ! 30 refl $ move ! (30 ∷ 31 ∷ []) $ free1 ! $ move ! (28 ∷ 29 ∷ []) $ free1 ! $ move ! (26 ∷ 27 ∷ []) $ free1 ! $ move ! (24 ∷ 25 ∷ []) $ free1 ! $ move ! (22 ∷ 23 ∷ []) $ free1 ! $ move ! (20 ∷ 21 ∷ []) $ free1 ! $ move ! (18 ∷ 19 ∷ []) $ free1 ! $ move ! (16 ∷ 17 ∷ []) $ free1 ! $ move ! (14 ∷ 15 ∷ []) $ free1 ! $ move ! (12 ∷ 13 ∷ []) $ free1 ! $ move ! (10 ∷ 11 ∷ []) $ free1 ! $ move ! (8 ∷ 9 ∷ []) $ free1 ! $ move ! (6 ∷ 7 ∷ []) $ free1 ! $ move ! (4 ∷ 5 ∷ []) $ free1 ! $ free0 ! $
+        returns ! (look ! 30 refl) $ forget ! 10 refl $ forget ! 12 refl $ forget ! 14 refl $ forget ! 18 refl $ forget ! 20 refl $ forget ! 22 refl $
+        forget ! 24 refl $ forget ! 26 refl $ forget ! 28 refl $ forget ! 30 refl $ move ! (30 ∷ 31 ∷ []) $ free1 ! $ move ! (28 ∷ 29 ∷ []) $ free1 ! $
+        move ! (26 ∷ 27 ∷ []) $ free1 ! $ move ! (24 ∷ 25 ∷ []) $ free1 ! $ move ! (22 ∷ 23 ∷ []) $ free1 ! $ move ! (20 ∷ 21 ∷ []) $ free1 ! $
+        move ! (18 ∷ 19 ∷ []) $ free1 ! $ move ! (16 ∷ 17 ∷ []) $ free1 ! $ move ! (14 ∷ 15 ∷ []) $ free1 ! $ move ! (12 ∷ 13 ∷ []) $ free1 ! $
+        move ! (10 ∷ 11 ∷ []) $ free1 ! $ move ! (8 ∷ 9 ∷ []) $ free1 ! $ move ! (6 ∷ 7 ∷ []) $ free1 ! $ move ! (4 ∷ 5 ∷ []) $ free1 ! $ free0 ! $
         by ! (exits (surveyOf sh ys (k .0)) (ended (ltb (k .0) n) refl e) (k .1 .1))
       where
         ended : (t : Bool) → ltb (k .0) n ≡ t → (t && surveyOf sh ys (k .0) .ok) ≡ false → surveyOf sh ys (k .0) ≡ surveyOf sh ys n
