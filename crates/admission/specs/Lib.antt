@@ -1,4 +1,4 @@
 pub mod Watched
 pub mod Gate
-pub mod RecordTests
+pub mod KindByStage
 pub mod NarrowGate

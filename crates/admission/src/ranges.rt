@@ -3,10 +3,9 @@ ghost use mathlib.Core.Path.{_≡_};
 ghost use Prim.Native.Nat.{_+_, _<_, _≤_};
 ghost use Rattle.laws.specs.Counting.{every};
 ghost use Rattle.calendar.specs.rules.Ranges.{shapeInRange, pathInRange, orderInRange, distanceInRange, headInRange, nodeInRange, wordsInRange, storeInRange};
-ghost use Rattle.calendar.specs.rules.Ranges.{recordInRange};
+ghost use Rattle.calendar.specs.rules.Ranges.{callInRange, placeInRange, wordsHeldInRange, recordInRange};
 ghost use Rattle.calendar.specs.facts.RecordsKept.{linksInRange};
 ghost use Rattle.words.specs.Laid.{Laid};
-ghost use Rattle.admission.specs.RecordTests.{callInRange, placeInRange, wordsHeldInRange};
 use arrival::Shape;
 use arrival::Worker;
 use words::field;
@@ -162,7 +161,7 @@ fn words_held_in_range(shape: Shape, w: Worker) -> bool
         & (w.ticket < word::COUNTS)
 }
 
-// A record's share of refusal 3, in three parts: a record out of range is rare, and branches cost less than the sum of all tests.
+// A record's share of refusal 3, in three parts: records out of range are rare, and an exit hardly ever taken costs less than tests joined by `&`.
 pub fn record_in_range(shape: Shape, w: Worker) -> bool
     requires { ⌜ 1 ≤ shape .buckets ⌝ }
     requires { ⌜ shape .buckets + shape .nodes < 65536 ⌝ }

@@ -25,8 +25,8 @@ leastTicket t (suc n) = lower (leastTicket t n) (worker t n)
 abbrev pub freeBelow : ℕ → ℕ → Bool
 freeBelow low x = eqb x 0 || (leb 2 x && (ltb x (2 + low) || eqb low 4294967296))
 
-pub lower-bound : (low : ℕ) (w : Worker) → lower low w ≤ low
-lower-bound low w = go (inProgress w) (ltb (w .ticket) low) refl
+pub lower-at-most : (low : ℕ) (w : Worker) → lower low w ≤ low
+lower-at-most low w = go (inProgress w) (ltb (w .ticket) low) refl
   where
     go : (a b : Bool) → ltb (w .ticket) low ≡ b → cond (a && b) (w .ticket) low ≤ low
     go true true e = omega (arith, ltb-true (w .ticket) low e)
@@ -36,7 +36,7 @@ lower-bound low w = go (inProgress w) (ltb (w .ticket) low) refl
 pub least-bound : (t : List Worker) (n : ℕ) → leastTicket t n ≤ 4294967296
 unfolding leastTicket
 least-bound t zero = omega arith
-least-bound t (suc n) = omega (arith, lower-bound (leastTicket t n) (worker t n), least-bound t n)
+least-bound t (suc n) = omega (arith, lower-at-most (leastTicket t n) (worker t n), least-bound t n)
 
 -- a test against the lower of two numbers
 below-lower : (b : Bool) (y m l : ℕ) → ltb y (cond (b && ltb m l) m l) ≡ (ltb y l && not (b && leb m y))

@@ -218,7 +218,7 @@ module _ (sh : Shape) (s : List ℕ) (t : List Worker) (q : Request) where
       go (Narrow (Dequeue j) n) e f h = rw (le-leb (sh .workers) j h) (f refl)
       go (Narrow (Step j) n) e f h = rw (le-leb (sh .workers) j h) (f refl)
 
-  -- and the least ticket
+  -- and, where they are in range, the least ticket
   low-for : Lent sh s t → nearBy sh q (survey sh q t) (worker t i) ≡ true → LowFor sh t a (survey sh q t .low)
   low-for l = go q (λ all. survey-low-is sh q t (shape-tests sh (l .limits)) (le-ltb (length t) (sh .workers) (l .table)) all)
     where

@@ -1,4 +1,4 @@
--- A look over the workers' records: whether all are in range, and the least ticket in progress. Assumes nothing.
+-- A look over the workers' records: whether all are in range, and if so the least ticket in progress. Assumes nothing.
 use mathlib.Core.Path.{_≡_, refl, sym, ap, _∙_}
 use mathlib.Core.List.{List}
 use mathlib.Core.Bool.{Bool, true, false, cond, _&&_}
@@ -15,7 +15,7 @@ use Rattle.arrival.specs.declared.Request.{Request}
 use Rattle.laws.specs.Tests.{never, left-true}
 use Rattle.laws.specs.Counting.{every, every-at}
 use Rattle.calendar.specs.rules.Ranges.{shapeInRange, recordInRange, tableInRange, worker}
-use Rattle.starts.specs.LeastTicket.{lower, lower-bound, leastTicket}
+use Rattle.starts.specs.LeastTicket.{lower, lower-at-most, leastTicket}
 use Rattle.wubraken.specs.declared.table.Survey.{Survey}
 use Rattle.wubraken.specs.Requests.{looksAtAll}
 
@@ -80,14 +80,15 @@ looked-at-bound sh q n = go (looksAtAll q)
     go false = omega arith
 
 module _ (sh : Shape) (a : Survey) (w : Worker) where
-  abbrev one : Bool → Bool → Survey
-  one all this = cond all (cond this (record { ok = a .ok; low = lower (a .low) w }) (record { ok = false; low = a .low })) a
+  -- `next` by its two tests: all before are in range, and w is
+  abbrev next-by : Bool → Bool → Survey
+  next-by so-far here = cond so-far (cond here (record { ok = a .ok; low = lower (a .low) w }) (record { ok = false; low = a .low })) a
 
   next-ok : next sh a w .ok ≡ (a .ok && recordInRange sh w)
   unfolding next seen
   next-ok = go (a .ok) refl (recordInRange sh w)
     where
-      go : (b : Bool) → a .ok ≡ b → (c : Bool) → one b c .ok ≡ (b && c)
+      go : (b : Bool) → a .ok ≡ b → (c : Bool) → next-by b c .ok ≡ (b && c)
       go true e true = e
       go true e false = refl
       go false e c = e
@@ -96,7 +97,7 @@ module _ (sh : Shape) (a : Survey) (w : Worker) where
   unfolding next seen
   next-low = go (a .ok) refl (recordInRange sh w)
     where
-      go : (b : Bool) → a .ok ≡ b → (c : Bool) → one b c .ok ≡ true → one b c .low ≡ lower (a .low) w
+      go : (b : Bool) → a .ok ≡ b → (c : Bool) → next-by b c .ok ≡ true → next-by b c .low ≡ lower (a .low) w
       go true e true ok = refl
       go true e false ok = never ok
       go false e c ok = never (sym e ∙ ok)
@@ -105,8 +106,8 @@ module _ (sh : Shape) (a : Survey) (w : Worker) where
   unfolding next seen
   next-bound = go (a .ok) (recordInRange sh w)
     where
-      go : (b c : Bool) → one b c .low ≤ a .low
-      go true true = lower-bound (a .low) w
+      go : (b c : Bool) → next-by b c .low ≤ a .low
+      go true true = lower-at-most (a .low) w
       go true false = omega arith
       go false c = omega arith
 

@@ -19,7 +19,8 @@ use Rattle.laws.specs.Tests.{parts, never, both, either, or-left, or-right, ins
 use Rattle.laws.specs.Counting.{every-at, every-all}
 use Rattle.calendar.specs.rules.Layout.{current, started, lastNode, head, link, timeAt, ticketAt, pathAt, orderAt, distanceAt, epochAt, standing}
 use Rattle.calendar.specs.rules.Layout.{bucketIn}
-use Rattle.calendar.specs.rules.Ranges.{shapeInRange, headInRange, nodeInRange, storeInRange, recordInRange, tableInRange, worker, implies, between}
+use Rattle.calendar.specs.rules.Ranges.{shapeInRange, headInRange, nodeInRange, storeInRange, tableInRange, worker, implies, between}
+use Rattle.calendar.specs.rules.Ranges.{callInRange, placeInRange, wordsHeldInRange, recordInRange}
 use Rattle.calendar.specs.rules.Ranges.{wordsInRange}
 use Rattle.calendar.specs.facts.Views.{View, view}
 
@@ -208,18 +209,18 @@ pub record RecordRanges (sh : Shape) (w : Worker) : Type 0 where
 
 pub record-ranges : (sh : Shape) (w : Worker) → recordInRange sh w ≡ true → RecordRanges sh w
 record-ranges sh w e =
-    let (e, ticket) = parts _ _ e in
-    let (e, current) = parts _ _ e in
-    let (e, seen) = parts _ _ e in
-    let (e, stands) = parts _ _ e in
-    let (e, right) = parts _ _ e in
-    let (e, left) = parts _ _ e in
-    let (e, further) = parts _ _ e in
-    let (e, bucket) = parts _ _ e in
-    let (e, own) = parts _ _ e in
-    let (e, dequeues) = parts _ _ e in
-    let (e, enqueues) = parts _ _ e in
-    let (stage, kind) = parts _ _ e in
+    let (e, held) = parts _ _ e in
+    let (call, place) = parts _ _ e in
+    let (held, ticket) = parts _ _ held in
+    let (seen, current) = parts _ _ held in
+    let (place, stands) = parts _ _ place in
+    let (place, right) = parts _ _ place in
+    let (place, left) = parts _ _ place in
+    let (bucket, further) = parts _ _ place in
+    let (call, own) = parts _ _ call in
+    let (call, dequeues) = parts _ _ call in
+    let (call, enqueues) = parts _ _ call in
+    let (stage, kind) = parts _ _ call in
     record {
       stage = leb-true _ _ stage;
       kind = leb-true _ _ kind;
@@ -238,25 +239,34 @@ record-ranges sh w e =
     }
 
 pub record-tests : (sh : Shape) (w : Worker) → RecordRanges sh w → recordInRange sh w ≡ true
-record-tests sh w r =
-    (both (both (both (both (both (both (both (both (both (both (both (both (le-leb (w .stage) 13 (r .stage))
-    (le-leb (w .kind) 1 (r .kind)))
-    (implied (between 4 7 (w .stage)) (eqb (w .kind) 0) (λ e. let (p, q) = within 4 7 (w .stage) e in eq-eqb (w .kind) 0 (r .enqueues p q))))
-    (implied (between 8 13 (w .stage)) (eqb (w .kind) 1) (λ e. let (p, q) = within 8 13 (w .stage) e in eq-eqb (w .kind) 1 (r .dequeues p q))))
-    (lt-ltb (w .own) (sh .nodes) (r .own)))
-    (lt-ltb (w .bucket) (sh .buckets) (r .bucket)))
-    (implied (eqb (w .stage) 12) (not (eqb (w .bucket) (sh .buckets - 1))) (λ e. is-not (w .bucket) (sh .buckets - 1) (r .further (eqb-true (w .stage) 12 e)))))
-    (lt-ltb (w .left) (sh .buckets + sh .nodes) (r .left)))
-    (le-leb (w .right) (sh .nodes) (r .right)))
-    (implied (between 2 3 (w .stage) || between 10 11 (w .stage)) (not (eqb (w .right) (sh .nodes))) (λ e. is-not (w .right) (sh .nodes)
-    (stands (either _ _ e)))))
-    (le-leb (w .seen / 2) (sh .nodes) (r .seen)))
-    (lt-ltb (bucketIn (w .current)) (sh .buckets) (r .current)))
-    (lt-ltb (w .ticket) 4294967296 (r .ticket)))
+record-tests sh w r = both (both call place) held
   where
     stands : (between 2 3 (w .stage) ≡ true) ⊎ (between 10 11 (w .stage) ≡ true) → w .right ≢ sh .nodes
     stands (inl e) = let (p, q) = within 2 3 (w .stage) e in r .searches p q
     stands (inr e) = let (p, q) = within 10 11 (w .stage) e in r .walks p q
+
+    call : callInRange sh w ≡ true
+    call =
+        both (both (both (both (le-leb (w .stage) 13 (r .stage))
+        (le-leb (w .kind) 1 (r .kind)))
+        (implied (between 4 7 (w .stage)) (eqb (w .kind) 0) (λ e. let (p, q) = within 4 7 (w .stage) e in eq-eqb (w .kind) 0 (r .enqueues p q))))
+        (implied (between 8 13 (w .stage)) (eqb (w .kind) 1) (λ e. let (p, q) = within 8 13 (w .stage) e in eq-eqb (w .kind) 1 (r .dequeues p q))))
+        (lt-ltb (w .own) (sh .nodes) (r .own))
+
+    place : placeInRange sh w ≡ true
+    place =
+        both (both (both (both (lt-ltb (w .bucket) (sh .buckets) (r .bucket))
+        (implied (eqb (w .stage) 12) (not (eqb (w .bucket) (sh .buckets - 1))) (λ e.
+        is-not (w .bucket) (sh .buckets - 1) (r .further (eqb-true (w .stage) 12 e)))))
+        (lt-ltb (w .left) (sh .buckets + sh .nodes) (r .left)))
+        (le-leb (w .right) (sh .nodes) (r .right)))
+        (implied (between 2 3 (w .stage) || between 10 11 (w .stage)) (not (eqb (w .right) (sh .nodes))) (λ e. is-not (w .right) (sh .nodes)
+        (stands (either _ _ e))))
+
+    held : wordsHeldInRange sh w ≡ true
+    held =
+        both (both (le-leb (w .seen / 2) (sh .nodes) (r .seen)) (lt-ltb (bucketIn (w .current)) (sh .buckets) (r .current)))
+        (lt-ltb (w .ticket) 4294967296 (r .ticket))
 
 pub table-ranges : (sh : Shape) (t : List Worker) → tableInRange sh t ≡ true → (i : ℕ) → i < sh .workers → RecordRanges sh (worker t i)
 unfolding tableInRange

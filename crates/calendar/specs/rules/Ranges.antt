@@ -69,22 +69,31 @@ implies a b = not a || b
 abbrev pub between : ℕ → ℕ → ℕ → Bool
 between a b x = leb a x && leb x b
 
--- stage 0 to 13; kind 0 at 4 to 7 and 1 at 8 to 13; bucket not the last at 12; right not end at 2, 3, 10 and 11; words seen as the words they copy
-abbrev pub recordInRange : Shape → Worker → Bool
-recordInRange sh w =
+-- A record: which call it is of, where that stands, and the words that it holds.
+-- stage 0 to 13; kind 0 at 4 to 7 and 1 at 8 to 13; own a node
+abbrev pub callInRange : Shape → Worker → Bool
+callInRange sh w =
     leb (w .stage) 13
     && leb (w .kind) 1
     && implies (between 4 7 (w .stage)) (eqb (w .kind) 0)
     && implies (between 8 13 (w .stage)) (eqb (w .kind) 1)
     && ltb (w .own) (sh .nodes)
-    && ltb (w .bucket) (sh .buckets)
+
+-- bucket not the last at 12; right not end at 2, 3, 10 and 11
+abbrev pub placeInRange : Shape → Worker → Bool
+placeInRange sh w =
+    ltb (w .bucket) (sh .buckets)
     && implies (eqb (w .stage) 12) (not (eqb (w .bucket) (sh .buckets - 1)))
     && ltb (w .left) (sh .buckets + sh .nodes)
     && leb (w .right) (sh .nodes)
     && implies (between 2 3 (w .stage) || between 10 11 (w .stage)) (not (eqb (w .right) (sh .nodes)))
-    && linkInRange sh (w .seen)
-    && currentInRange sh (w .current)
-    && small (w .ticket)
+
+-- words seen as the words they copy
+abbrev pub wordsHeldInRange : Shape → Worker → Bool
+wordsHeldInRange sh w = linkInRange sh (w .seen) && currentInRange sh (w .current) && small (w .ticket)
+
+abbrev pub recordInRange : Shape → Worker → Bool
+recordInRange sh w = callInRange sh w && placeInRange sh w && wordsHeldInRange sh w
 
 -- an idle record, all fields 0
 unfoldable pub blank : Worker

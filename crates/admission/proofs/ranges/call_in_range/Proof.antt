@@ -2,7 +2,7 @@
 use mathlib.Core.Path.{ap}
 use mathlib.Core.Bool.{Bool, _&&_}
 use lib.Dec.{ltb}
-use Rattle.admission.specs.RecordTests.{kind-by-stage}
+use Rattle.admission.specs.KindByStage.{kind-by-stage}
 use Rattle.admission.proofs.ranges.call_in_range.Statement.{statement}
 use Rattle.admission.proofs.ranges.call_in_range.Tie as tie
 

@@ -3,7 +3,7 @@ use mathlib.Core.Path.{_≡_, sym, _∙_}
 use mathlib.Core.Bool.{true, false}
 use borrow.Author.Needs.{needs}
 use borrow.Author.Tests.{not-true, not-false}
-use Rattle.admission.specs.RecordTests.{callInRange, placeInRange}
+use Rattle.calendar.specs.rules.Ranges.{callInRange, placeInRange}
 use Rattle.admission.proofs.ranges.record_in_range.Statement.{statement}
 use Rattle.admission.proofs.ranges.record_in_range.Tie as tie
 

@@ -1,36 +1,11 @@
--- The tests of a record's range in three parts, in the definition's order, so that a look may end between them; and the kind that a stage asks for by one
--- comparison: below 4 either, from there on the eighth of the stage. Assumes nothing.
+-- The kind that a stage asks for, by one comparison: below 4 either, from there on an eighth of the stage. Assumes nothing.
 use mathlib.Core.Path.{_≡_, refl}
-use mathlib.Core.Bool.{Bool, true, false, not, _&&_, _||_, and-true}
-use Prim.Native.Nat.{ℕ, _≤_, _+_, _-_, _/_}
+use mathlib.Core.Bool.{Bool, true, false, _&&_, _||_, and-true}
+use Prim.Native.Nat.{ℕ, _≤_, _/_}
 use native.Mathlib.Omega.{arith}
 use lib.Dec.{eqb, leb, ltb}
 use borrow.Author.Tests.{ltb-true, ltb-false, leb-true, le-leb, lt-leb}
-use Rattle.arrival.specs.declared.Shape.{Shape}
-use Rattle.arrival.specs.declared.Worker.{Worker}
-use Rattle.calendar.specs.rules.Ranges.{implies, between, linkInRange, currentInRange, small}
-
--- which call it is
-abbrev pub callInRange : Shape → Worker → Bool
-callInRange sh w =
-    leb (w .stage) 13
-    && leb (w .kind) 1
-    && implies (between 4 7 (w .stage)) (eqb (w .kind) 0)
-    && implies (between 8 13 (w .stage)) (eqb (w .kind) 1)
-    && ltb (w .own) (sh .nodes)
-
--- where it stands
-abbrev pub placeInRange : Shape → Worker → Bool
-placeInRange sh w =
-    ltb (w .bucket) (sh .buckets)
-    && implies (eqb (w .stage) 12) (not (eqb (w .bucket) (sh .buckets - 1)))
-    && ltb (w .left) (sh .buckets + sh .nodes)
-    && leb (w .right) (sh .nodes)
-    && implies (between 2 3 (w .stage) || between 10 11 (w .stage)) (not (eqb (w .right) (sh .nodes)))
-
--- what it holds: two words that it saw, and its ticket
-abbrev pub wordsHeldInRange : Shape → Worker → Bool
-wordsHeldInRange sh w = linkInRange sh (w .seen) && currentInRange sh (w .current) && small (w .ticket)
+use Rattle.calendar.specs.rules.Ranges.{implies, between}
 
 module _ (k kind : ℕ) where
   of-stage : k ≤ 13 → (ltb k 4 || eqb kind (k / 8)) ≡ (implies (between 4 7 k) (eqb kind 0) && implies (between 8 13 k) (eqb kind 1))
