@@ -23,18 +23,14 @@ use Rattle.wubraken.specs.Requests.{looksAtAll}
 unfoldable pub unseen : Survey
 unseen = record { ok = true; low = 4294967296 }
 
--- one record more
+-- one record more, if none before it was out of range
 unfoldable pub seen : Shape → Survey → Worker → Survey
-seen sh a w = cond (recordInRange sh w) (record { ok = a .ok; low = lower (a .low) w }) (record { ok = false; low = a .low })
-
--- but none behind one that is out of range
-unfoldable pub next : Shape → Survey → Worker → Survey
-next sh a w = cond (a .ok) (seen sh a w) a
+seen sh a w = cond (a .ok && recordInRange sh w) (record { ok = true; low = lower (a .low) w }) (record { ok = false; low = a .low })
 
 -- the first n records
 unfoldable pub surveyOf : Shape → List Worker → ℕ → Survey
 surveyOf sh t zero = unseen
-surveyOf sh t (suc n) = next sh (surveyOf sh t n) (worker t n)
+surveyOf sh t (suc n) = seen sh (surveyOf sh t n) (worker t n)
 
 -- how many of n records are the workers': all if there are fewer; none in a shape outside its limits
 abbrev pub surveyed : Shape → ℕ → ℕ
@@ -80,54 +76,58 @@ looked-at-bound sh q n = go (looksAtAll q)
     go false = omega arith
 
 module _ (sh : Shape) (a : Survey) (w : Worker) where
-  -- `next` by its two tests: all before are in range, and w is
-  abbrev next-by : Bool → Bool → Survey
-  next-by so-far here = cond so-far (cond here (record { ok = a .ok; low = lower (a .low) w }) (record { ok = false; low = a .low })) a
+  -- `seen` by its test
+  abbrev seen-by : Bool → Survey
+  seen-by b = cond b (record { ok = true; low = lower (a .low) w }) (record { ok = false; low = a .low })
 
-  next-ok : next sh a w .ok ≡ (a .ok && recordInRange sh w)
-  unfolding next seen
-  next-ok = go (a .ok) refl (recordInRange sh w)
+  seen-ok : seen sh a w .ok ≡ (a .ok && recordInRange sh w)
+  unfolding seen
+  seen-ok = go (a .ok && recordInRange sh w)
     where
-      go : (b : Bool) → a .ok ≡ b → (c : Bool) → next-by b c .ok ≡ (b && c)
-      go true e true = e
-      go true e false = refl
-      go false e c = e
+      go : (b : Bool) → seen-by b .ok ≡ b
+      go true = refl
+      go false = refl
 
-  next-low : next sh a w .ok ≡ true → next sh a w .low ≡ lower (a .low) w
-  unfolding next seen
-  next-low = go (a .ok) refl (recordInRange sh w)
+  seen-low : seen sh a w .ok ≡ true → seen sh a w .low ≡ lower (a .low) w
+  unfolding seen
+  seen-low = go (a .ok && recordInRange sh w)
     where
-      go : (b : Bool) → a .ok ≡ b → (c : Bool) → next-by b c .ok ≡ true → next-by b c .low ≡ lower (a .low) w
-      go true e true ok = refl
-      go true e false ok = never ok
-      go false e c ok = never (sym e ∙ ok)
+      go : (b : Bool) → seen-by b .ok ≡ true → seen-by b .low ≡ lower (a .low) w
+      go true ok = refl
+      go false ok = never ok
 
-  next-bound : next sh a w .low ≤ a .low
-  unfolding next seen
-  next-bound = go (a .ok) (recordInRange sh w)
+  seen-bound : seen sh a w .low ≤ a .low
+  unfolding seen
+  seen-bound = go (a .ok && recordInRange sh w)
     where
-      go : (b c : Bool) → next-by b c .low ≤ a .low
-      go true true = lower-at-most (a .low) w
-      go true false = omega arith
-      go false c = omega arith
+      go : (b : Bool) → seen-by b .low ≤ a .low
+      go true = lower-at-most (a .low) w
+      go false = omega arith
+
+  -- behind a record out of range it stays as it is
+  seen-out : a .ok ≡ false → a ≡ seen sh a w
+  unfolding seen
+  seen-out out =
+      ap (λ (b : Bool). record { ok = b; low = a .low }) out
+      ∙ sym (ap (λ (b : Bool). seen-by (b && recordInRange sh w)) out)
 
 module _ (sh : Shape) (t : List Worker) where
   pub survey-ok : (n : ℕ) → surveyOf sh t n .ok ≡ every n (λ i. recordInRange sh (worker t i))
   unfolding surveyOf unseen every
   survey-ok zero = refl
-  survey-ok (suc n) = next-ok sh (surveyOf sh t n) (worker t n) ∙ ap (λ (b : Bool). b && recordInRange sh (worker t n)) (survey-ok n)
+  survey-ok (suc n) = seen-ok sh (surveyOf sh t n) (worker t n) ∙ ap (λ (b : Bool). b && recordInRange sh (worker t n)) (survey-ok n)
 
   pub survey-low : (n : ℕ) → surveyOf sh t n .ok ≡ true → surveyOf sh t n .low ≡ leastTicket t n
   unfolding surveyOf unseen leastTicket
   survey-low zero ok = refl
   survey-low (suc n) ok =
-      let before = left-true (surveyOf sh t n .ok) (recordInRange sh (worker t n)) (sym (next-ok sh (surveyOf sh t n) (worker t n)) ∙ ok) in
-      next-low sh (surveyOf sh t n) (worker t n) ok ∙ ap (λ (l : ℕ). lower l (worker t n)) (survey-low n before)
+      let before = left-true (surveyOf sh t n .ok) (recordInRange sh (worker t n)) (sym (seen-ok sh (surveyOf sh t n) (worker t n)) ∙ ok) in
+      seen-low sh (surveyOf sh t n) (worker t n) ok ∙ ap (λ (l : ℕ). lower l (worker t n)) (survey-low n before)
 
   survey-bound : (n : ℕ) → surveyOf sh t n .low ≤ 4294967296
   unfolding surveyOf unseen
   survey-bound zero = omega arith
-  survey-bound (suc n) = omega (arith, next-bound sh (surveyOf sh t n) (worker t n), survey-bound n)
+  survey-bound (suc n) = omega (arith, seen-bound sh (surveyOf sh t n) (worker t n), survey-bound n)
 
 -- What the look tells of the record w of the request's worker.
 pub record Surveyed (sh : Shape) (q : Request) (a : Survey) (w : Worker) : Type 0 where
@@ -165,14 +165,13 @@ pub survey-start : (sh : Shape) (t : List Worker) → unseen ≡ surveyOf sh t 0
 unfolding surveyOf
 survey-start sh t = refl
 
-pub survey-more : (sh : Shape) (t : List Worker) (k : ℕ) → surveyOf sh t k .ok ≡ true → seen sh (surveyOf sh t k) (worker t k) ≡ surveyOf sh t (k + 1)
-unfolding surveyOf next
-survey-more sh t k ok = rw add-one (sym (ap (λ (b : Bool). cond b (seen sh (surveyOf sh t k) (worker t k)) (surveyOf sh t k)) ok))
+pub survey-more : (sh : Shape) (t : List Worker) (k : ℕ) → seen sh (surveyOf sh t k) (worker t k) ≡ surveyOf sh t (k + 1)
+unfolding surveyOf
+survey-more sh t k = rw add-one
 
 pub survey-ends : (sh : Shape) (t : List Worker) (k d : ℕ) → surveyOf sh t k .ok ≡ false → surveyOf sh t k ≡ surveyOf sh t (k + d)
-unfolding surveyOf next
+unfolding surveyOf
 survey-ends sh t k zero out = rw add-zero
 survey-ends sh t k (suc d) out =
     let so-far = survey-ends sh t k d out in
-    let still = sym (ap (λ (a : Survey). a .ok) so-far) ∙ out in
-    rw add-suc (so-far ∙ sym (ap (λ (b : Bool). cond b (seen sh (surveyOf sh t (k + d)) (worker t (k + d))) (surveyOf sh t (k + d))) still))
+    rw add-suc (so-far ∙ seen-out sh (surveyOf sh t (k + d)) (worker t (k + d)) (sym (ap (λ (a : Survey). a .ok) so-far) ∙ out))

@@ -27,15 +27,15 @@ pub fn look(shape: Shape, found: Survey, w: Worker) -> Survey
     requires { ⌜ shapeInRange shape ≡ true ⌝ }
     ensures { λ r. ⌜ r ≡ seen shape found w ⌝ }
 {
-    if !record_in_range(shape, w) {
+    if found.ok & record_in_range(shape, w) {
         return Survey {
-            ok: false,
-            low: found.low,
+            ok: true,
+            low: lower_ticket(found.low, w),
         };
     }
     Survey {
-        ok: found.ok,
-        low: lower_ticket(found.low, w),
+        ok: false,
+        low: found.low,
     }
 }
 

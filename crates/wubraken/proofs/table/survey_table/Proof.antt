@@ -66,7 +66,7 @@ use denote.Exit.{yes}
 use Rattle.arrival.specs.declared.Shape.{Shape}
 use Rattle.arrival.specs.declared.Worker.{Worker}
 use Rattle.arrival.specs.declared.Request.{Request}
-use Rattle.laws.specs.Tests.{left-true, right-true}
+use Rattle.laws.specs.Tests.{left-true}
 use Rattle.calendar.specs.rules.Ranges.{blank, shapeInRange}
 use Rattle.wubraken.specs.declared.table.Survey.{Survey}
 use Rattle.wubraken.specs.Survey.{unseen, seen, surveyOf, surveyed-bound, surveyed-shape, lookedAt, looked-at-bound}
@@ -334,13 +334,13 @@ module _ {M : Type 1} (𝓤 : URA M) (H : Heap 𝓤) (A : Atoms 𝓤) (W : Given
         (look-of 𝓤 H A mem run sh (surveyOf sh ys (k .0)) elem r) $ heard ! (r ≡ seen sh (surveyOf sh ys (k .0)) elem) (λ e′. split ! $ drop ! $
         peeks ! S.the-row (Is S.the-row) (shows 𝓤 H A S.the-row) r (v ∷ []) (λ is. land ! (from ! (stop !)) (store ! 21 refl (typed-s r v is)) $
         rewrite ! 21 (λ (u : Val). ‵ (fat fullShare ty-s l₄ 0 u)) (ap only (LL.tells S.the-type S′.the-laws r (v ∷ []) is)
-        ∙ ap val-s (e′ ∙ survey-more sh ys (k .0) ok)) refl $
+        ∙ ap val-s (e′ ∙ survey-more sh ys (k .0))) refl $
         assigns-last ! (bin ! (load ! (from ! (stop !)) (look ! 19 refl)) (lit ! tt) (record { fits = next-fits })) (from ! (stop !)) (store ! 19 refl
         (tt, record { fits = next-fits })) $
         drop ! $ forget ! 4 refl $ forget ! 6 refl $ forget ! 8 refl $ forget ! 10 refl $ forget ! 12 refl $ forget ! 16 refl $
         again ! Nearer At k (
           k .0 + 1,
-          (add-one-le less, subst Fits (e′ ∙ survey-more sh ys (k .0) ok) (subst (Is S.the-row r) (LL.tells S.the-type S′.the-laws r (v ∷ []) is) is)),
+          (add-one-le less, subst Fits (e′ ∙ survey-more sh ys (k .0)) (subst (Is S.the-row r) (LL.tells S.the-type S′.the-laws r (v ∷ []) is) is)),
         ) (add-one-dec n (k .0) less)))))))
       where
         elem : Worker
@@ -348,9 +348,6 @@ module _ {M : Type 1} (𝓤 : URA M) (H : Heap 𝓤) (A : Atoms 𝓤) (W : Given
 
         less : k .0 < n
         less = ltb-true (k .0) n (left-true (ltb (k .0) n) (surveyOf sh ys (k .0) .ok) e)
-
-        ok : surveyOf sh ys (k .0) .ok ≡ true
-        ok = right-true (ltb (k .0) n) (surveyOf sh ys (k .0) .ok) e
 
         inside : k .0 < length ys
         inside = omega (arith, less, within)
