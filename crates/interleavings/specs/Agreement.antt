@@ -20,7 +20,7 @@ use Rattle.arrival.specs.declared.Worker.{Worker}
 use Rattle.arrival.specs.declared.Response.{Response}
 use Rattle.arrival.specs.declared.Response.the-variants.{Opened, Begun, On, Stored, Took, Empty, Refused}
 use Rattle.arrival.specs.Queue as queue
-use Rattle.laws.specs.Tests.{upd-same, upd-other, upd-cases}
+use Rattle.laws.specs.Tests.{by-size, upd-same, upd-other, upd-cases}
 use Rattle.calendar.specs.rules.Layout.{itemAt}
 use Rattle.calendar.specs.rules.Ranges.{worker}
 use Rattle.calendar.specs.rules.Outcome.{Outcome}
@@ -68,33 +68,43 @@ Agrees sh wd v T g L = record {
   said : (c s : ℕ) → g .hist .end c ≡ ended s → Same sh wd (g .said c) (L .response c) (L .marked c);
   calls : (j : ℕ) → j < sh .workers → (T j) .stage ≢ 0 → L .callOf j ≡ (T j) .ticket;
   marks : (j : ℕ) → j < sh .workers → (T j) .stage ≢ 0 → MarkOf v (T j) (L .marked ((T j) .ticket));
-  status : (d : ℕ) (x : Item) → L .marked d ≡ some x
-      → ((j : ℕ) × (j < sh .workers) × ((T j) .stage ≢ 0) × ((T j) .ticket ≡ d)) ⊎ ((s : ℕ) × (g .hist .end d ≡ ended s));
-  fresh : (c : ℕ) → v .started < c → L .marked c ≡ none;
+  status : (c : ℕ) → 1 ≤ c → c ≤ v .started
+      → ((j : ℕ) × (j < sh .workers) × ((T j) .stage ≢ 0) × ((T j) .ticket ≡ c)) ⊎ ((s : ℕ) × (g .hist .end c ≡ ended s));
+  fresh : (c : ℕ) → (c ≡ 0) ⊎ (v .started < c) → L .marked c ≡ none;
 }
 
 module _ (sh : Shape) (wd : 1 ≤ sh .width) (v : View) (T : ℕ → Worker) (g : Ghost (keys sh wd)) (L : Ledger) (A : Agrees sh wd v T g L) (i : ℕ)
     (l : i < sh .workers) where
   -- ── a start: worker i was idle, no call has the new ticket, other calls' items stay ──
-  pub agrees-start : (v′ : View) (w : Worker) (call : queue.Call) (d : Option Item) → itemAsked call ≡ d → (T i) .stage ≡ 0 → w .ticket ≡ v .started + 1
-      → v′ .started ≡ v .started + 1
+  pub agrees-start : (v′ : View) (w : Worker) (call : queue.Call) (d : Option Item) → itemAsked call ≡ d → (T i) .stage ≡ 0 → w .stage ≢ 0
+      → w .ticket ≡ v .started + 1 → v′ .started ≡ v .started + 1
       → (w .kind ≡ 1 → 1 ≤ w .stage → w .stage ≤ 3 → ⊥)
       → ((j : ℕ) → j < sh .workers → (T j) .stage ≢ 0 → ((T j) .ticket ≤ v .started) × ((T j) .kind ≡ 1 → 1 ≤ (T j) .stage → (T j) .stage ≤ 3
       → itemIn v′ ((T j) .own) ≡ itemIn v ((T j) .own)))
       → Agrees sh wd v′ (with-record T i w) (logs g (v .started + 1) d) (begins i call L)
-  agrees-start v′ w call d e idle new up not-holding others = record {
+  agrees-start v′ w call d e idle begins new up not-holding others = record {
     started = up ∙ ap (λ n. n + 1) (A .started);
     what = λ c. asked c;
     finish = A .finish;
     said = A .said;
     calls = λ j. calls j;
     marks = upd-cases (λ j u. j < sh .workers → u .stage ≢ 0 → MarkOf v′ u (L .marked (u .ticket))) T i w
-        (λ h b. record { holding = λ z p q. absurd (not-holding z p q); clear = λ z. A .fresh (w .ticket) (omega arith) })
+        (λ h b. record { holding = λ z p q. absurd (not-holding z p q); clear = λ z. A .fresh (w .ticket) (inr (omega arith)) })
         (λ j u h b. let m = A .marks j h b in record { holding = λ z p q. m .holding z p q ∙ ap some (sym (others j h b .1 z p q)); clear = m .clear });
-    status = λ c x q. moved c (A .status c x q);
-    fresh = λ c h. A .fresh c (omega arith);
+    status = λ c lo hi. by-size (v .started) c (λ h. begun c (omega arith)) (λ h. moved c (A .status c lo h));
+    fresh = λ c h. A .fresh c (new-or-0 c h);
   }
     where
+      new-or-0 : (c : ℕ) → (c ≡ 0) ⊎ (v′ .started < c) → (c ≡ 0) ⊎ (v .started < c)
+      new-or-0 c (inl z) = inl z
+      new-or-0 c (inr h) = inr (omega arith)
+
+      begun : (c : ℕ) → c ≡ v .started + 1
+          → ((j : ℕ) × (j < sh .workers) × ((with-record T i w j) .stage ≢ 0) × ((with-record T i w j) .ticket ≡ c)) ⊎ ((s : ℕ) × (g .hist .end c ≡ ended s))
+      begun c q =
+          let same : with-record T i w i ≡ w = upd-same i i w (T i) refl in
+          inl (i, l, subst (λ (u : Worker). u .stage ≢ 0) (sym same) begins, ap (λ (u : Worker). u .ticket) same ∙ new ∙ sym q)
+
       asked : (c : ℕ) → cond (eqb (v .started + 1) c) d (g .what c) ≡ itemAsked (cond (eqb (L .started + 1) c) call (L .asked c))
       asked c = rw (← A .started) (go (eqb (v .started + 1) c))
         where
@@ -118,7 +128,7 @@ module _ (sh : Shape) (wd : 1 ≤ sh .width) (v : View) (T : ℕ → Worker) (g 
           same j b = upd-other i j w (T j) (λ q. b (ap (λ n. (T n) .stage) (sym q) ∙ idle))
 
   -- ── a turn of worker i, whose call has the ticket c ──
-  module _ (busy : (T i) .stage ≢ 0) (small : (T i) .ticket ≤ v .started)
+  module _ (busy : (T i) .stage ≢ 0) (positive : 1 ≤ (T i) .ticket) (small : (T i) .ticket ≤ v .started)
       (apart : (j : ℕ) → j < sh .workers → j ≢ i → (T j) .stage ≢ 0 → (T j) .ticket ≢ (T i) .ticket) (runs : g .hist .end ((T i) .ticket) ≡ running)
       (s : List ℕ) (v-is : v ≡ view sh s) (o : Outcome) (E : Effect sh s (T i) o) (g′ : Ghost (keys sh wd))
       (same-start : updates (o .writes) (view sh s) .started ≡ view sh s .started) where
@@ -154,8 +164,8 @@ module _ (sh : Shape) (wd : 1 ≤ sh .width) (v : View) (T : ℕ → Worker) (g 
       marks = upd-cases (λ j u. j < sh .workers → u .stage ≢ 0 → MarkOf v′ u (L′ .marked (u .ticket))) T i w′ (λ h b. mine b)
           (λ j u h b. let m = A .marks j h b in let q = other ((T j) .ticket) (apart j h u b) in
           record { holding = λ z x y. q ∙ m .holding z x y ∙ ap some (sym (items ((T j) .own))); clear = λ z. q ∙ m .clear z });
-      status = λ d x e. status d x e (eqb ((T i) .ticket) d) refl;
-      fresh = λ c h. other c (λ q. omega (arith, start)) ∙ A .fresh c (omega (arith, start));
+      status = λ c lo hi. status c lo (omega (arith, start)) (eqb ((T i) .ticket) c) refl;
+      fresh = λ c h. fresh c h;
     }
       where
         still-there : (d : ℕ) → d ≢ (T i) .ticket
@@ -176,11 +186,15 @@ module _ (sh : Shape) (wd : 1 ≤ sh .width) (v : View) (T : ℕ → Worker) (g 
         own d q (inl b) = inl (i, l, subst (λ (y : Worker). y .stage ≢ 0) (sym here-now) b, ap (λ (y : Worker). y .ticket) here-now ∙ E .ticket ∙ q)
         own d q (inr (t, e)) = inr (t, subst (λ n. g′ .hist .end n ≡ ended t) q e)
 
-        status : (d : ℕ) (x : Item) → L′ .marked d ≡ some x → (b : Bool) → eqb ((T i) .ticket) d ≡ b
-            → ((j : ℕ) × (j < sh .workers) × ((with-record T i (o .worker) j) .stage ≢ 0) × ((with-record T i (o .worker) j) .ticket ≡ d))
-            ⊎ ((t : ℕ) × (g′ .hist .end d ≡ ended t))
-        status d x e true q = own d (eqb-true ((T i) .ticket) d q) goes
-        status d x e false q = let u : d ≢ (T i) .ticket = λ z. eqb-false ((T i) .ticket) d q (sym z) in still-there d u (A .status d x (sym (other d u) ∙ e))
+        status : (c : ℕ) → 1 ≤ c → c ≤ v .started → (b : Bool) → eqb ((T i) .ticket) c ≡ b
+            → ((j : ℕ) × (j < sh .workers) × ((with-record T i (o .worker) j) .stage ≢ 0) × ((with-record T i (o .worker) j) .ticket ≡ c))
+            ⊎ ((t : ℕ) × (g′ .hist .end c ≡ ended t))
+        status c lo hi true q = own c (eqb-true ((T i) .ticket) c q) goes
+        status c lo hi false q = still-there c (λ z. eqb-false ((T i) .ticket) c q (sym z)) (A .status c lo hi)
+
+        fresh : (c : ℕ) → (c ≡ 0) ⊎ (updates (o .writes) (view sh s) .started < c) → L′ .marked c ≡ none
+        fresh c (inl z) = other c (λ q. omega arith) ∙ A .fresh c (inl z)
+        fresh c (inr h) = other c (λ q. omega (arith, start)) ∙ A .fresh c (inr (omega (arith, start)))
 
     -- a record of the same role has the same mark
     pub same-mark : SameRole (T i) (o .worker) → MarkOf (updates (o .writes) (view sh s)) (o .worker) (L .marked (o .worker .ticket))
@@ -265,13 +279,13 @@ seen sh m i L e h = rw (eq-eqb (worker (m .table) i .stage) 11 e, h)
 -- A TURN KEEPS THE AGREEMENT
 pub agrees-step : (sh : Shape) (wd : 1 ≤ sh .width) (m : Memory) (g : Ghost (keys sh wd)) (L : Ledger) → let T = worker (m .table) in
     let v = view sh (m .store) in
-    Agrees sh wd v T g L → (i : ℕ) → i < sh .workers → (T i) .stage ≢ 0 → (T i) .ticket ≤ v .started
+    Agrees sh wd v T g L → (i : ℕ) → i < sh .workers → (T i) .stage ≢ 0 → 1 ≤ (T i) .ticket → (T i) .ticket ≤ v .started
     → ((j : ℕ) → j < sh .workers → j ≢ i → (T j) .stage ≢ 0 → (T j) .ticket ≢ (T i) .ticket) → g .hist .end ((T i) .ticket) ≡ running
     → (T i) .kind ≤ 1 → (4 ≤ (T i) .stage → (T i) .stage ≤ 7 → (T i) .kind ≡ 0) → (8 ≤ (T i) .stage → (T i) .kind ≡ 1)
     → (o : Outcome) → Effect sh (m .store) (T i) o → (g′ : Ghost (keys sh wd)) → updates (o .writes) v .started ≡ v .started
     → Tells sh wd g g′ (updates (o .writes) v .started) ((T i) .ticket) (itemIn (updates (o .writes) v) ((T i) .own)) (o .response)
     → Agrees sh wd (updates (o .writes) v) (with-record T i (o .worker)) g′ (hears i (o .response) (sees sh m i L))
-agrees-step sh wd m g L A i l busy small apart runs kind puts takes o E g′ z tells = role (E .role)
+agrees-step sh wd m g L A i l busy positive small apart runs kind puts takes o E g′ z tells = role (E .role)
   where
     T : ℕ → Worker
     T = worker (m .table)
@@ -287,16 +301,16 @@ agrees-step sh wd m g L A i l busy small apart runs kind puts takes o E g′ z t
     by-response same Opened e a t = absurd a
     by-response same (Begun k) e a t = absurd a
     by-response same On e a t =
-        agrees-on sh wd v T g L A i l busy small apart runs (m .store) refl o E g′ z L refl refl refl refl refl e t (λ c u. refl)
-        (same-mark sh wd v T g L A i l busy small apart runs (m .store) refl o E g′ z same)
+        agrees-on sh wd v T g L A i l busy positive small apart runs (m .store) refl o E g′ z L refl refl refl refl refl e t (λ c u. refl)
+        (same-mark sh wd v T g L A i l busy positive small apart runs (m .store) refl o E g′ z same)
     by-response same (Stored k) e (a, b) (q, d, closes) =
-        agrees-end sh wd v T g L A i l busy small apart runs (m .store) refl o E g′ z _ (Stored k) 1 0 closes
+        agrees-end sh wd v T g L A i l busy positive small apart runs (m .store) refl o E g′ z _ (Stored k) 1 0 closes
         (ap Stored (q ∙ sym d), A .marks i l busy .clear (inl (puts (omega arith) b))) same
     by-response same (Took time path order distance energy) e (n, a, b) (q, closes) =
-        agrees-end sh wd v T g L A i l busy small apart runs (m .store) refl o E g′ z _ (Took time path order distance energy) 0 1 closes
+        agrees-end sh wd v T g L A i l busy positive small apart runs (m .store) refl o E g′ z _ (Took time path order distance energy) 0 1 closes
         (q, A .marks i l busy .holding (omega arith) a b ∙ ap some (sym (E .items (T i .own)))) same
     by-response same Empty e a closes =
-        agrees-end sh wd v T g L A i l busy small apart runs (m .store) refl o E g′ z _ Empty 0 0 closes
+        agrees-end sh wd v T g L A i l busy positive small apart runs (m .store) refl o E g′ z _ Empty 0 0 closes
         (refl, A .marks i l busy .clear (inr (omega arith))) same
     by-response same (Refused k) e a t = absurd a
 
@@ -310,7 +324,7 @@ agrees-step sh wd m g L A i l busy small apart runs kind puts takes o E g′ z t
     by-mark K (Begun k) e a t = absurd a
     by-mark K On e a t =
         let x : Item = itemAt sh (m .store) (T i .right) in
-        agrees-on sh wd v T g L A i l busy small apart runs (m .store) refl o E g′ z (marks i x L) refl refl refl refl refl e t
+        agrees-on sh wd v T g L A i l busy positive small apart runs (m .store) refl o E g′ z (marks i x L) refl refl refl refl refl e t
         (λ c u. upd-other (L .callOf i) c (some x) (L .marked c) (λ q. u (sym q ∙ A .calls i l busy)))
         (record {
           holding = λ y p q. upd-same (L .callOf i) (o .worker .ticket) (some x) (L .marked (o .worker .ticket)) (A .calls i l busy ∙ sym (E .ticket))

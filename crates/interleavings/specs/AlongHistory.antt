@@ -100,7 +100,7 @@ module _ (sh : Shape) (wd : 1 ≤ sh .width) where
           said = λ c s h. absurd (running-ended s h);
           calls = λ j h b. absurd (b (idle j h));
           marks = λ j h b. absurd (b (idle j h));
-          status = λ d x h. absurd (let y : _≡_ {A = ℕ} 0 1 = cc in omega arith);
+          status = λ c lo hi. absurd (omega (arith, open-started sh (m .store)));
           fresh = λ c h. refl;
         };
       })
@@ -133,7 +133,7 @@ module _ (sh : Shape) (wd : 1 ≤ sh .width) where
       (enqueue-inside sh s x a (T i) isNode) (reached-enqueue sh m (F .chains) i a K A) (J .ord)
       (agrees-start sh wd v T (F .ghost) L (F .agrees) i l (updates (outcome sh m (Enqueue i a) .writes) v) w (queue.enqueue (itemOf a (L .started + 1)))
       (some (itemOf a c)) (ap (λ n. some (itemOf a (n + 1))) (sym (F .agrees .started)))
-      (A .idle) refl refl (λ z p q. omega arith)
+      (A .idle) (λ z. omega arith) refl refl (λ z p q. omega arith)
       (λ j h b. (
         K .inv .lists .live (T j .ticket) (j, h, b, refl),
         λ z p q. key-same sh v (F .chains) (Live (sh .workers) T) (K .inv .lists) x (itemOf a c) free (T j .own)
@@ -155,7 +155,7 @@ module _ (sh : Shape) (wd : 1 ≤ sh .width) where
       let J = joint-dequeue sh wd v (F .chains) T (F .ghost) (record { pool = K .inv; ord = F .ord }) i l (A .idle) w refl refl refl in
       performed m i (outcome sh m (Dequeue i)) (F .chains) (logs (F .ghost) c none) (begins i queue.dequeue L) (F .chains) K l
       (dequeue-inside sh s (T i)) (reached-dequeue sh m (F .chains) i K A) (J .ord)
-      (agrees-start sh wd v T (F .ghost) L (F .agrees) i l (updates (outcome sh m (Dequeue i) .writes) v) w queue.dequeue none refl (A .idle) refl refl
+      (agrees-start sh wd v T (F .ghost) L (F .agrees) i l (updates (outcome sh m (Dequeue i) .writes) v) w queue.dequeue none refl (A .idle) (λ z. omega arith) refl refl
       (λ z p q. omega arith)
       (λ j h b. (K .inv .lists .live (T j .ticket) (j, h, b, refl), λ z p q. refl)))
 
@@ -175,7 +175,7 @@ module _ (sh : Shape) (wd : 1 ≤ sh .width) where
       (K .store .current) c in
       performed m i o (chains-after sh s T i l (A .busy) (F .chains) (K .inv) c) g′ (hears i (o .response) (sees sh m i L)) (F .chains) K l
       (change-inside sh s (T i) r c) (reached-step sh m (F .chains) i K A c) (J .ord)
-      (agrees-step sh wd m (F .ghost) L (F .agrees) i l (A .busy) (K .inv .lists .live (T i .ticket) (i, l, A .busy, refl))
+      (agrees-step sh wd m (F .ghost) L (F .agrees) i l (A .busy) (K .inv .positive i l (A .busy)) (K .inv .lists .live (T i .ticket) (i, l, A .busy, refl))
       (λ j h u b. K .inv .apart j i h l u b (A .busy)) (F .ord .parts i l .runs (A .busy))
       (r .kind) (r .enqueues) (λ h. r .dequeues h (r .stage)) o (effect sh s (T i) (r .enqueues) c) g′ z tells)
 

@@ -1,7 +1,6 @@
 -- From the joint invariant to the linearization: the order's calls without its scans.
---     one-entry, asked-put, end-known     of entries, calls and ends
---     tickets                             the calls of an order
---     linearized                          they are a linearization
+--     tickets        the calls of an order
+--     linearized     they are a linearization
 -- Assumes nothing.
 use mathlib.Core.Path.{_≡_, refl, sym, _∙_, ap, subst}
 use mathlib.Core.Bool.{Bool, true, false}
@@ -19,7 +18,7 @@ use Rattle.laws.specs.Lists.{Once}
 use Rattle.calendar.specs.rules.Ranges.{worker}
 use Rattle.calendar.specs.rules.Operations.{Memory}
 use Rattle.calendar.specs.rules.Ledger.{Ledger}
-use Rattle.calendar.specs.rules.Linearizability.{Finished, EndedBefore, RespectsTime, markTicket, Agree, Linearization}
+use Rattle.calendar.specs.rules.Linearizability.{Finished, EndedBefore, RespectsTime, markTicket, Agree, MarkedAhead, Linearization}
 use Rattle.calendar.specs.facts.Views.{View, view}
 use Rattle.order.specs.Entries.{Keys, Element, Entry, enqueue, dequeue, empty, scan, Order, _≺_, ticket}
 use Rattle.order.specs.RealTime.{End, running, ended, NotBefore, ticket-of, end-of, Timely}
@@ -29,27 +28,12 @@ use Rattle.interleavings.specs.Joint.{Ghost, Logged}
 use Rattle.interleavings.specs.Agreement.{itemAsked, endedAt, Same, Agrees}
 use Rattle.interleavings.specs.Sequential.{asks, answers, plain}
 use Rattle.interleavings.specs.AlongHistory.{Followed}
+use Rattle.interleavings.specs.CallEntries.{one-entry, asked-put, asked-take, end-known, entry-marked, empty-ended}
 
--- two entries of one ticket are one
-pub one-entry : {K : Keys} (L : Order K) (e f : Entry K) → Distinct L → Mem e L → Mem f L → Call e → Call f → ticket-of e ≡ ticket-of f → e ≡ f
-one-entry (g ∷ L) e f D (here p) (here q) a b t = p ∙ sym q
-one-entry (g ∷ L) e f D (here p) (there q) a b t = absurd (D .0 f q (subst Call p a) b (ap ticket-of (sym p) ∙ t))
-one-entry (g ∷ L) e f D (there p) (here q) a b t = absurd (D .0 e p (subst Call q b) a (ap ticket-of (sym q) ∙ sym t))
-one-entry (g ∷ L) e f D (there p) (there q) a b t = one-entry L e f (D .1) p q a b t
-
--- a call that puts x
-pub asked-put : (c : queue.Call) (x : Item) → itemAsked c ≡ some x → c ≡ queue.enqueue x
-asked-put (queue.enqueue y) x e = let z : y ≡ x = cc in ap queue.enqueue z
-asked-put queue.dequeue x e = absurd (Option·none-ne-some _ e)
-
-asked-take : (c : queue.Call) → itemAsked c ≡ none → c ≡ queue.dequeue
-asked-take (queue.enqueue y) e = absurd (Option·none-ne-some _ (sym e))
-asked-take queue.dequeue e = refl
-
--- a finished call's end
-pub end-known : (d : End) (s : ℕ) → endedAt d ≡ some s → d ≡ ended s
-end-known running s e = absurd (let z : _≡_ {A = ℕ} 0 1 = cc in omega arith)
-end-known (ended t) s e = let z : t ≡ s = cc in ap ended z
+-- a call without an end runs
+not-ended : (d : End) → endedAt d ≡ none → d ≡ running
+not-ended running e = refl
+not-ended (ended s) e = absurd (Option·none-ne-some _ (sym e))
 
 module _ (sh : Shape) (wd : 1 ≤ sh .width) where
   abbrev pub tickets : Order (keys sh wd) → List ℕ
@@ -150,6 +134,24 @@ module _ (sh : Shape) (wd : 1 ≤ sh .width) where
       )
       agree (scan w ∷ L) h = agree L (λ e m. h e (there m))
 
+  -- an unfinished take has marked what its entry says
+  module _ (m : Memory) (M : Ledger) (F : Followed sh wd m M) where
+    ahead : (L : Order (keys sh wd)) → ((e : Entry (keys sh wd)) → Mem e L → Mem e (F .ghost .order)) → MarkedAhead M (tickets L) (answers sh wd L)
+    ahead [] h = tt
+    ahead (enqueue x ∷ L) h = (
+      λ a r. absurd (Option·none-ne-some _ (sym (F .agrees .what (ticket x) ∙ ap itemAsked a) ∙ F .ord .whole .entries (enqueue x) (h (enqueue x) (here refl)))),
+      ahead L (λ e k. h e (there k)),
+    )
+    ahead (dequeue z n ∷ L) h = (
+      λ a r. (z .it, entry-marked sh wd m M F n (z .it) (h (dequeue z n) (here refl)), refl),
+      ahead L (λ e k. h e (there k)),
+    )
+    ahead (empty n ∷ L) h = (
+      λ a r. absurd (empty-ended sh wd m M F n (h (empty n) (here refl)) (not-ended (F .ghost .hist .end n) (sym (F .agrees .finish n) ∙ r))),
+      ahead L (λ e k. h e (there k)),
+    )
+    ahead (scan w ∷ L) h = ahead L (λ e k. h e (there k))
+
   -- THE LINEARIZATION
   pub linearized : (m : Memory) (M : Ledger) → Followed sh wd m M → Linearization M
   linearized m M F =
@@ -166,10 +168,8 @@ module _ (sh : Shape) (wd : 1 ≤ sh .width) where
         finished = λ c (s, q). let (k, b, t) = O .finished c s (end-known (g .hist .end c) s (sym (A .finish c) ∙ q)) in
             subst (λ n. Mem n (tickets (g .order))) t (tickets-in (g .order) (g .said c) b k);
         real-time = real-time v T g M A (g .order) (O .orderly .timely);
-        agrees =
-            subst (λ rs. Agree M (tickets (g .order)) rs) (sym (plain sh wd [] (g .order) apart (O .orderly .legal))
-            ∙ ap (queue.replies []) (sym (asked-are v T g M A (g .order) (O .entries))))
-            (agree v T g M A (g .order) (O .distinct) (O .finished) (g .order) (λ e k. k));
+        agrees = subst (λ rs. Agree M (tickets (g .order)) rs) replied (agree v T g M A (g .order) (O .distinct) (O .finished) (g .order) (λ e k. k));
+        marked-ahead = subst (λ rs. MarkedAhead M (tickets (g .order)) rs) replied (ahead m M F (g .order) (λ e k. k));
       }
     where
       log : (x : Element (keys sh wd)) → Mem (enqueue x) (F .ghost .order) → F .ghost .what (ticket x) ≡ some (x .it)
@@ -188,3 +188,9 @@ module _ (sh : Shape) (wd : 1 ≤ sh .width) where
           go (yes e) t f = inl (one y z i j e)
           go (no n) true f = inr (inl f)
           go (no n) false f = inr (inr (lower-total (y .it) (z .it) f n))
+
+      replied : answers sh wd (F .ghost .order) ≡ queue.replies [] (map (M .asked) (tickets (F .ghost .order)))
+      replied =
+          sym (plain sh wd [] (F .ghost .order) apart (F .ord .whole .orderly .legal))
+          ∙ ap (queue.replies [])
+          (sym (asked-are (view sh (m .store)) (worker (m .table)) (F .ghost) M (F .agrees) (F .ghost .order) (F .ord .whole .entries)))

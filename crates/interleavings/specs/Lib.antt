@@ -11,6 +11,7 @@ pub mod Effects
 pub mod Agreement
 pub mod AlongHistory
 pub mod Sequential
+pub mod CallEntries
 pub mod Extraction
 pub mod TakenOnce
 pub mod Demand3

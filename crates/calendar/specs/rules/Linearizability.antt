@@ -13,10 +13,11 @@ use Rattle.arrival.specs.declared.Action.{Action}
 use Rattle.arrival.specs.declared.Action.the-variants.{Enqueue}
 use Rattle.arrival.specs.declared.Response.the-variants.{Opened, Begun}
 use Rattle.arrival.specs.Keys.{bucketOf}
-use Rattle.arrival.specs.Queue.{enqueue, Reply, replies, taken}
+use Rattle.arrival.specs.Queue.{enqueue, dequeue, Reply, dequeued, replies, taken}
 use Rattle.laws.specs.Lists.{Once}
-use Rattle.calendar.specs.rules.Layout.{itemAt}
+use Rattle.calendar.specs.rules.Layout.{link, itemAt, isMarked}
 use Rattle.calendar.specs.rules.Ranges.{worker, storeInRange, tableInRange}
+use Rattle.calendar.specs.rules.Reclaim.{inProgress}
 use Rattle.calendar.specs.rules.Operations.{Memory, open-pool, act, run}
 use Rattle.calendar.specs.rules.Ledger.{Ledger, new, succeeds-11, ledger}
 use Rattle.calendar.specs.rules.Snapshot.{bucketList, unmarkedOf, unmarkedTo, holds, hasLinked, hasMarked, workersWith}
@@ -49,6 +50,14 @@ Agree L [] (r ∷ rs) = ⊥
 Agree L (c ∷ cs) [] = ⊥
 Agree L (c ∷ cs) (r ∷ rs) = (Finished L c → r ≡ poolReply L c) × Agree L cs rs
 
+-- a take that has not finished has marked the very item that the queue gives it
+abbrev pub MarkedAhead : Ledger → List ℕ → List Reply → Type 0
+MarkedAhead L [] [] = Unit {0}
+MarkedAhead L [] (r ∷ rs) = ⊥
+MarkedAhead L (c ∷ cs) [] = ⊥
+MarkedAhead L (c ∷ cs) (r ∷ rs) =
+    (L .asked c ≡ dequeue → L .ended c ≡ none → (x : Item) × (L .marked c ≡ some x) × (r ≡ dequeued (some x))) × MarkedAhead L cs rs
+
 pub record Linearization (L : Ledger) : Type 0 where
   pub order : List ℕ
   -- each is a start that was not refused, and stands once
@@ -59,6 +68,13 @@ pub record Linearization (L : Ledger) : Type 0 where
   pub real-time : RespectsTime L order
   -- the sequential queue, fed these calls in this order, answers as the pool did
   pub agrees : Agree L order (replies [] (map (L .asked) order))
+  -- and gives each take that stands there unfinished what it has marked
+  pub marked-ahead : MarkedAhead L order (replies [] (map (L .asked) order))
+
+-- ── calls ──
+-- call c is in progress at some worker
+abbrev pub InProgress : Shape → Memory → Ledger → ℕ → Type 0
+InProgress sh m L c = (i : ℕ) × (i < sh .workers) × (L .callOf i ≡ c) × (inProgress (worker (m .table) i) ≡ true)
 
 -- ── items and nodes ──
 -- the take d is in progress at some worker and holds x
@@ -72,6 +88,9 @@ AnsweredBy L d x = Finished L d × (L .response d ≡ taken x)
 -- What holds of the memory and the ledger after a history.
 pub record Correct (sh : Shape) (m : Memory) (L : Ledger) : Type 0 where
   pub linearization : Linearization L
+  -- a call that started is in progress or has ended, and not both
+  pub in-progress-or-ended : (c : ℕ) → 1 ≤ c → c ≤ L .started → InProgress sh m L c ⊎ Finished L c
+  pub in-progress-not-ended : (c : ℕ) → InProgress sh m L c → L .ended c ≡ none
   -- every field lies in its range
   pub in-range : (storeInRange sh (m .store) ≡ true) × (tableInRange sh (m .table) ≡ true)
   -- each bucket has a list
@@ -84,8 +103,12 @@ pub record Correct (sh : Shape) (m : Memory) (L : Ledger) : Type 0 where
   pub marks-new : (i : ℕ) → i < sh .workers → succeeds-11 sh (m .store) (worker (m .table) i) ≡ true → L .marked (L .callOf i) ≡ none
   pub marked-once : (c d : ℕ) (x y : Item) → L .marked c ≡ some x → L .marked d ≡ some y → x .ticket ≡ y .ticket → c ≡ d
   pub marked-put : (d : ℕ) (x : Item) → L .marked d ≡ some x → L .asked (x .ticket) ≡ enqueue x
-  -- whoever marked an arrival holds it or has answered it
+  -- whoever marked an arrival holds it or has answered it; whoever holds one has marked it
   pub marked-kept : (d : ℕ) (x : Item) → L .marked d ≡ some x → HeldBy sh m L d x ⊎ AnsweredBy L d x
+  pub held-marked : (d : ℕ) (x : Item) → HeldBy sh m L d x → L .marked d ≡ some x
+  -- an unmarked node of a bucket's list holds an arrival that was put, and whose bucket it is
+  pub listed-put : (b n : ℕ) → b < sh .buckets → List·Memᴰ n (lists b) → isMarked (link sh (m .store) n) ≡ false
+      → (L .asked (itemAt sh (m .store) n .ticket) ≡ enqueue (itemAt sh (m .store) n)) × (bucketOf sh (itemAt sh (m .store) n .time) ≡ b)
   -- an arrival whose put has ended is unmarked in its bucket's list exactly once, until a take has marked it
   pub not-lost : (c : ℕ) (x : Item) → L .asked c ≡ enqueue x → Finished L c
       → ((unmarkedOf sh (m .store) x (lists (bucketOf sh (x .time))) ≡ 1) × ((d : ℕ) → L .marked d ≢ some x))
