@@ -2,4 +2,5 @@ pub mod Keys
 pub mod Energy
 pub mod Responses
 pub mod Queue
+pub mod QueueLaws
 pub mod QueueRun

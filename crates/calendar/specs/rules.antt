@@ -17,3 +17,4 @@ pub mod Ledger
 pub mod Snapshot
 pub mod Linearizability
 pub mod HostHistory
+pub mod TakenList

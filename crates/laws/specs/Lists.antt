@@ -6,6 +6,7 @@
 --     mem-behind                        what is in a list and is not its first element is in the rest
 --     Once                              each number differs from those behind it
 --     sift, sift-in, in-sift            a list without what a test picks, and what is in it
+--     sift-less                         it is shorter
 --     without, without-in, in-without   a list without a number, and what is in it
 --     without-less                      it is shorter
 --     below, below-in, length-below     the numbers below n
@@ -107,6 +108,24 @@ in-sift t x (y ∷ ys) i h = go (t y) refl (List·Memᴰ·cases-cons i) (λ j. i
     go false e (inl p) rec = List·Memᴰ·head p
     go false e (inr p) rec = List·Memᴰ·tail (rec p)
 
+sift-shorter : {A : Type 0} (t : A → Bool) (xs : List A) → length (sift t xs) ≤ length xs
+sift-shorter t [] = omega arith
+sift-shorter t (y ∷ ys) = go (t y) (sift-shorter t ys)
+  where
+    go : (b : Bool) → length (sift t ys) ≤ length ys → length (cond b (sift t ys) (y ∷ sift t ys)) ≤ suc (length ys)
+    go true h = omega arith
+    go false h = omega arith
+
+pub sift-less : {A : Type 0} (t : A → Bool) (x : A) (xs : List A) → List·Memᴰ x xs → t x ≡ true → length (sift t xs) < length xs
+sift-less t x [] i h = absurd (List·Memᴰ·not-nil i)
+sift-less t x (y ∷ ys) i h = go (t y) refl (List·Memᴰ·cases-cons i) (λ j. sift-less t x ys j h)
+  where
+    go : (b : Bool) → t y ≡ b → (x ≡ y) ⊎ List·Memᴰ x ys → (List·Memᴰ x ys → length (sift t ys) < length ys)
+        → length (cond b (sift t ys) (y ∷ sift t ys)) < suc (length ys)
+    go true e p rec = omega (arith, sift-shorter t ys)
+    go false e (inl p) rec = never (sym e ∙ ap t (sym p) ∙ h)
+    go false e (inr p) rec = omega (arith, rec p)
+
 -- without a number
 abbrev pub without : ℕ → List ℕ → List ℕ
 without c xs = sift (eqb c) xs
@@ -117,23 +136,8 @@ without-in c x xs i = let (j, e) = sift-in (eqb c) x xs i in (j, eqb-false c x e
 pub in-without : (c x : ℕ) (xs : List ℕ) → List·Memᴰ x xs → c ≢ x → List·Memᴰ x (without c xs)
 in-without c x xs i h = in-sift (eqb c) x xs i (ne-eqb c x h)
 
-without-shorter : (c : ℕ) (xs : List ℕ) → length (without c xs) ≤ length xs
-without-shorter c [] = omega arith
-without-shorter c (y ∷ ys) = go (eqb c y) (without-shorter c ys)
-  where
-    go : (t : Bool) → length (without c ys) ≤ length ys → length (cond t (without c ys) (y ∷ without c ys)) ≤ suc (length ys)
-    go true h = omega arith
-    go false h = omega arith
-
 pub without-less : (c : ℕ) (xs : List ℕ) → List·Memᴰ c xs → length (without c xs) < length xs
-without-less c [] i = absurd (List·Memᴰ·not-nil i)
-without-less c (y ∷ ys) i = go (eqb c y) refl (List·Memᴰ·cases-cons i) (without-less c ys)
-  where
-    go : (t : Bool) → eqb c y ≡ t → (c ≡ y) ⊎ List·Memᴰ c ys → (List·Memᴰ c ys → length (without c ys) < length ys)
-        → length (cond t (without c ys) (y ∷ without c ys)) < suc (length ys)
-    go true e p rec = omega (arith, without-shorter c ys)
-    go false e (inl p) rec = absurd (eqb-false c y e p)
-    go false e (inr p) rec = omega (arith, rec p)
+without-less c xs i = sift-less (eqb c) c xs i (eq-eqb c c refl)
 
 unfoldable pub below : ℕ → List ℕ
 below zero = []

@@ -116,8 +116,12 @@ pub record Correct (sh : Shape) (m : Memory) (L : Ledger) : Type 0 where
   -- stored + puts at 6 and 7 = arrivals answered + takes at 1 to 3 + unmarked nodes in the lists
   pub balance : L .stored + workersWith sh (m .table) hasLinked ≡ L .took + workersWith sh (m .table) hasMarked + unmarkedTo sh (m .store) lists (sh .buckets)
 
--- DEMAND 3: after any opening that is not refused, any history of starts and turns, refused ones included.
-unfoldable pub Demand3 : Type 0
-Demand3 =
+-- P holds after any opening that is not refused and any history of starts and turns, refused ones included
+abbrev pub Always : (Shape → Memory → Ledger → Type 0) → Type 0
+Always P =
     (sh : Shape) (m : Memory) → open-pool sh m .response ≡ Opened → (h : List Action)
-    → Correct sh (run sh (open-pool sh m .memory) h) (ledger sh (open-pool sh m .memory) h new)
+    → P sh (run sh (open-pool sh m .memory) h) (ledger sh (open-pool sh m .memory) h new)
+
+-- DEMAND 3
+unfoldable pub Demand3 : Type 0
+Demand3 = Always Correct
