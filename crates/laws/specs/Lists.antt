@@ -1,10 +1,14 @@
 -- Lists: values by their numbers, parts, and numbers that stand in a list once. The laws of `take`, `drop`, `set`, `getD` and `_++_` that the kit has
 -- (lib.ListN, lib.Seq) are not here.
 --     wordsFrom                         g i, g (i + 1), ..: words-at is the one at k, length-words how many, words-suc one more
+--     words-in, in-words                what is in them
 --     take-words                        a part of a list is the words that it has there
 --     drop-take                         a front without its own front
 --     mem-behind                        what is in a list and is not its first element is in the rest
 --     Once                              each number differs from those behind it
+--     once-front, once-behind           so in the front of a list, and in the rest;
+--     once-apart                        and those of the front from those of the rest
+--     mem-split                         what is before an element, and what is behind it
 --     sift, sift-in, in-sift            a list without what a test picks, and what is in it
 --     sift-less                         it is shorter
 --     without, without-in, in-without   a list without a number, and what is in it
@@ -54,6 +58,23 @@ words-suc g i (suc n) =
     let e : suc i + n ≡ i + suc n = omega arith in
     ap (λ (u : List ℕ). g i ∷ u) (words-suc g (suc i) n ∙ ap (λ (k : ℕ). wordsFrom g (suc i) n ++ (g k ∷ [])) e)
 
+pub words-in : (g : ℕ → ℕ) (i n x : ℕ) → List·Memᴰ x (wordsFrom g i n) → (k : ℕ) × (k < n) × (x ≡ g (i + k))
+unfolding wordsFrom
+words-in g i zero x j = absurd (List·Memᴰ·not-nil j)
+words-in g i (suc n) x j = go (List·Memᴰ·cases-cons j) (words-in g (suc i) n x)
+  where
+    go : (x ≡ g i) ⊎ List·Memᴰ x (wordsFrom g (suc i) n) → (List·Memᴰ x (wordsFrom g (suc i) n) → (k : ℕ) × (k < n) × (x ≡ g (suc i + k)))
+        → (k : ℕ) × (k < suc n) × (x ≡ g (i + k))
+    go (inl e) rec = let z : i ≡ i + 0 = omega arith in (0, omega arith, e ∙ ap g z)
+    go (inr p) rec = let (k, l, e) = rec p in let z : suc i + k ≡ i + suc k = omega arith in (suc k, omega arith, e ∙ ap g z)
+
+pub in-words : (g : ℕ → ℕ) (i n k : ℕ) → k < n → List·Memᴰ (g (i + k)) (wordsFrom g i n)
+unfolding wordsFrom
+in-words g i zero k h = absurd (omega arith)
+in-words g i (suc n) zero h = let z : i + 0 ≡ i = omega arith in List·Memᴰ·head (ap g z)
+in-words g i (suc n) (suc k) h =
+    let z : i + suc k ≡ suc i + k = omega arith in List·Memᴰ·tail (Memᴰ·cast (ap g z) (in-words g (suc i) n k (omega arith)))
+
 pub take-words : (t : List ℕ) (i n : ℕ) → i + n ≤ length t → take n (drop i t) ≡ wordsFrom (λ k. getD t k 0) i n
 unfolding wordsFrom
 take-words t i zero h = refl
@@ -78,6 +99,32 @@ mem-behind {c} {d} {l} apart i = pick (List·Memᴰ·cases-cons i)
 abbrev pub Once : List ℕ → Type 0
 Once [] = Unit {0}
 Once (c ∷ cs) = ((d : ℕ) → List·Memᴰ d cs → c ≢ d) × Once cs
+
+pub once-front : (xs ys : List ℕ) → Once (xs ++ ys) → Once xs
+once-front [] ys one = tt
+once-front (c ∷ xs) ys one = (λ d i. one .0 d (Memᴰ·append-left ys i), once-front xs ys (one .1))
+
+pub once-behind : (xs ys : List ℕ) → Once (xs ++ ys) → Once ys
+once-behind [] ys one = one
+once-behind (c ∷ xs) ys one = once-behind xs ys (one .1)
+
+pub once-apart : (xs ys : List ℕ) (c d : ℕ) → Once (xs ++ ys) → List·Memᴰ c xs → List·Memᴰ d ys → c ≢ d
+once-apart [] ys c d one i j = absurd (List·Memᴰ·not-nil i)
+once-apart (x ∷ xs) ys c d one i j = go (List·Memᴰ·cases-cons i) (λ k. once-apart xs ys c d (one .1) k j)
+  where
+    go : (c ≡ x) ⊎ List·Memᴰ c xs → (List·Memᴰ c xs → c ≢ d) → c ≢ d
+    go (inl e) rec = λ q. one .0 d (Memᴰ·append-right xs j) (sym e ∙ q)
+    go (inr k) rec = rec k
+
+-- where an element stands, a list falls into what is before it and what is behind it
+pub mem-split : {A : Type 0} (x : A) (l : List A) → List·Memᴰ x l → (front : List A) × (rest : List A) × (l ≡ front ++ (x ∷ rest))
+mem-split x [] i = absurd (List·Memᴰ·not-nil i)
+mem-split {A} x (y ∷ l) i = go (List·Memᴰ·cases-cons i) (mem-split x l)
+  where
+    go : (x ≡ y) ⊎ List·Memᴰ x l → (List·Memᴰ x l → (front : List A) × (rest : List A) × (l ≡ front ++ (x ∷ rest)))
+        → (front : List A) × (rest : List A) × (y ∷ l ≡ front ++ (x ∷ rest))
+    go (inl e) rec = ([], l, ap (λ (z : A). z ∷ l) (sym e))
+    go (inr j) rec = let (front, rest, e) = rec j in (y ∷ front, rest, ap (λ (r : List A). y ∷ r) e)
 
 -- ── a list without what a test picks ──
 abbrev pub sift : {A : Type 0} → (A → Bool) → List A → List A

@@ -1,6 +1,6 @@
 -- The walk from a bucket's head meets its chain and comes to the end; what a chain holds unmarked. Assumes nothing.
 use mathlib.Core.Path.{_≡_, refl, sym, ap, _∙_, subst}
-use mathlib.Core.Bool.{Bool, true, false, not, _&&_}
+use mathlib.Core.Bool.{Bool, true, false, cond, not, _&&_}
 use mathlib.Core.Logic.{_≢_}
 use mathlib.Core.Option.{some}
 use mathlib.Core.List.{List, [], _∷_, List·Memᴰ·head, List·Memᴰ·tail}
@@ -11,7 +11,7 @@ use lib.ListN.{length}
 use borrow.Author.Tests.{eqb-true, eqb-false, eq-eqb, ne-eqb}
 use Rattle.arrival.specs.declared.Shape.{Shape}
 use Rattle.arrival.specs.declared.Item.{Item}
-use Rattle.laws.specs.Tests.{parts}
+use Rattle.laws.specs.Tests.{never, parts}
 use Rattle.laws.specs.Lists.{Once, once-below}
 use Rattle.calendar.specs.rules.Layout.{link, itemAt, isMarked}
 use Rattle.calendar.specs.rules.Snapshot.{onto, nodesFrom, bucketList, sameItem, unmarkedOf}
@@ -93,3 +93,31 @@ module _ (sh : Shape) (s : List ℕ) where
       rw (p, unmarked-none x ns (λ m i y. h m (List·Memᴰ·tail i) (λ z. d .0 m i (sym e ∙ sym z))))
   unmarked-once x k (n ∷ ns) d (List·Memᴰ·tail i) c q h =
       rw (holds-not x n (λ y. h n (List·Memᴰ·head refl) (d .0 k i)), unmarked-once x k ns (d .1) i c q (λ m j. h m (List·Memᴰ·tail j)))
+
+  -- some unmarked node of a list holds x where their count is not 0
+  pub unmarked-there : (x : Item) (ns : List ℕ) → unmarkedOf sh s x ns ≢ 0 → (n : ℕ) × In n ns × (isMarked (link sh s n) ≡ false) × (itemAt sh s n ≡ x)
+  unfolding unmarkedOf
+  unmarked-there x [] h = absurd (h refl)
+  unmarked-there x (n ∷ ns) h = go (isMarked (link sh s n)) refl (sameItem (itemAt sh s n) x) refl h (unmarked-there x ns)
+    where
+      further : (k : ℕ) × In k ns × (isMarked (link sh s k) ≡ false) × (itemAt sh s k ≡ x)
+          → (k : ℕ) × In k (n ∷ ns) × (isMarked (link sh s k) ≡ false) × (itemAt sh s k ≡ x)
+      further (k, i, c, e) = (k, List·Memᴰ·tail i, c, e)
+
+      go : (a : Bool) → isMarked (link sh s n) ≡ a → (b : Bool) → sameItem (itemAt sh s n) x ≡ b → cond (not a && b) 1 0 + unmarkedOf sh s x ns ≢ 0
+          → (unmarkedOf sh s x ns ≢ 0 → (k : ℕ) × In k ns × (isMarked (link sh s k) ≡ false) × (itemAt sh s k ≡ x))
+          → (k : ℕ) × In k (n ∷ ns) × (isMarked (link sh s k) ≡ false) × (itemAt sh s k ≡ x)
+      go true e b f u rec = further (rec (λ q. u (omega arith)))
+      go false e false f u rec = further (rec (λ q. u (omega arith)))
+      go false e true f u rec = (n, List·Memᴰ·head refl, e, same-item (itemAt sh s n) x f)
+
+  pub there-unmarked : (x : Item) (n : ℕ) (ns : List ℕ) → In n ns → isMarked (link sh s n) ≡ false → itemAt sh s n ≡ x → unmarkedOf sh s x ns ≢ 0
+  unfolding unmarkedOf
+  there-unmarked x n (k ∷ ns) (List·Memᴰ·head e) c q z =
+      let p : (not (isMarked (link sh s n)) && sameItem (itemAt sh s n) x) ≡ true = holds-is x n (omega (arith, eqb-false (link sh s n % 2) 1 c)) q in
+      counted _ (subst (λ y. (not (isMarked (link sh s y)) && sameItem (itemAt sh s y) x) ≡ true) e p) z
+    where
+      counted : (b : Bool) → b ≡ true → cond b 1 0 + unmarkedOf sh s x ns ≡ 0 → ⊥
+      counted true f z = omega arith
+      counted false f z = never f
+  there-unmarked x n (k ∷ ns) (List·Memᴰ·tail i) c q z = there-unmarked x n ns i c q (omega arith)

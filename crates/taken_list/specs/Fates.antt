@@ -1,0 +1,98 @@
+-- Promise 5: what a finished take answered was put, and what was put is answered once, held once, or in the lists.
+--     in-lists, not-in-lists     an arrival is in the lists, or not, by the count of its nodes
+--     once-each                  the promise
+-- Assumes nothing.
+use mathlib.Core.Path.{_≡_, refl, sym, ap, _∙_, subst}
+use mathlib.Core.Logic.{_≢_, _⊎_, inl, inr}
+use mathlib.Core.Bool.{true, false}
+use mathlib.Core.Option.{Option, none, some, Option·none-ne-some, Option·some-injective}
+use mathlib.Core.List.{List, List·Memᴰ as Mem}
+use Prim.Native.Nat.{ℕ, _≤_, _<_}
+use native.Mathlib.Omega.{arith}
+use lib.Dec.{eqb}
+use Rattle.arrival.specs.declared.Shape.{Shape}
+use Rattle.arrival.specs.declared.Item.{Item}
+use Rattle.arrival.specs.declared.Response.the-variants.{Empty}
+use Rattle.arrival.specs.Keys.{bucketOf}
+use Rattle.arrival.specs.Queue.{Call, enqueue, dequeue, Reply, lowest, dequeued, reply}
+use Rattle.arrival.specs.QueueLaws.{lowest-in}
+use Rattle.laws.specs.Tests.{parts, within, is-not}
+use Rattle.calendar.specs.rules.Ranges.{worker}
+use Rattle.calendar.specs.rules.Operations.{Memory}
+use Rattle.calendar.specs.rules.Ledger.{Ledger}
+use Rattle.calendar.specs.rules.Snapshot.{unmarkedOf}
+use Rattle.calendar.specs.rules.Linearizability.{Finished, markTicket, poolReply, HeldBy, AnsweredBy, Correct}
+use Rattle.calendar.specs.rules.TakenList.{Answers, InLists, Fate, OnceEach}
+use Rattle.calendar.specs.facts.LedgerLaws.{Lawful}
+use Rattle.lists.specs.Walks.{unmarked-there, there-unmarked}
+use Rattle.taken_list.specs.OneTake.{marked-is, Met, met}
+
+module _ (sh : Shape) (m : Memory) (L : Ledger) (C : Correct sh m L) (G : Lawful sh L) where
+  -- ── in the lists ──
+  pub in-lists : (x : Item) → L .asked (x .ticket) ≡ enqueue x → unmarkedOf sh (m .store) x (C .lists (bucketOf sh (x .time))) ≢ 0 → InLists sh m x
+  in-lists x a u =
+      let b = bucketOf sh (x .time) in
+      let l = G .put (x .ticket) x a .3 in
+      let (n, i, clean, e) = unmarked-there sh (m .store) x (C .lists b) u in
+      (b, n, C .lists b, l, C .listed b l, i, clean, e)
+
+  -- where it is in the lists: in that of its bucket, and it was put
+  pub lists-put : (x : Item) → InLists sh m x → (L .asked (x .ticket) ≡ enqueue x) × (unmarkedOf sh (m .store) x (C .lists (bucketOf sh (x .time))) ≢ 0)
+  lists-put x (b, n, ns, l, e, i, clean, q) =
+      let same : ns ≡ C .lists b = Option·some-injective _ _ (sym e ∙ C .listed b l) in
+      let j : Mem n (C .lists b) = subst (λ (k : List ℕ). Mem n k) same i in
+      let (a, home) = C .listed-put b n l j clean in (
+        subst (λ (y : Item). L .asked (y .ticket) ≡ enqueue y) q a,
+        there-unmarked sh (m .store) x n (C .lists (bucketOf sh (x .time)))
+            (subst (λ c. Mem n (C .lists c)) (sym home ∙ ap (λ (y : Item). bucketOf sh (y .time)) q) j) clean q,
+      )
+
+  -- ── a finished take ──
+  answer : (d : ℕ) → L .asked d ≡ dequeue → Finished L d → (L .response d ≡ Empty) ⊎ ((x : Item) × Answers L d x × (L .asked (x .ticket) ≡ enqueue x))
+  answer d a f = go (met sh m L C G d f)
+    where
+      go : Met sh m L C G d → (L .response d ≡ Empty) ⊎ ((x : Item) × Answers L d x × (L .asked (x .ticket) ≡ enqueue x))
+      go M = by-lowest (lowest (M .items)) refl (sym (ap (reply (M .items)) a) ∙ M .replied)
+        where
+          by-lowest : (o : Option Item) → lowest (M .items) ≡ o → dequeued (lowest (M .items)) ≡ poolReply L d
+              → (L .response d ≡ Empty) ⊎ ((x : Item) × Answers L d x × (L .asked (x .ticket) ≡ enqueue x))
+          by-lowest none e r = inl (ap (λ (u : Reply). u .response) (sym r ∙ ap dequeued e))
+          by-lowest (some x) e r =
+              let put = M .were-put x (lowest-in (M .items) x e) in
+              let said : poolReply L d ≡ dequeued (some x) = sym r ∙ ap dequeued e in
+              inr (x, ((f, ap (λ (u : Reply). u .response) said), marked-is sh m L C G d x put (ap (λ (u : Reply). u .ticket) said)), put)
+
+  -- ── a finished put ──
+  -- who holds an arrival has not ended
+  holds-on : (d : ℕ) (x : Item) → HeldBy sh m L d x → Finished L d → ⊥
+  holds-on d x (i, l, c, e, q) (s, f) =
+      let (kind, stage) = parts (eqb (worker (m .table) i .kind) 1) _ e in
+      let (lo, hi) = within 1 3 (worker (m .table) i .stage) stage in
+      Option·none-ne-some _ (sym (C .in-progress-not-ended d (i, l, c, is-not (worker (m .table) i .stage) 0 (λ z. omega arith))) ∙ f)
+
+  fate-of : (x : Item) → L .asked (x .ticket) ≡ enqueue x → Finished L (x .ticket) → Fate sh m L x
+  fate-of x a f = go (C .not-lost (x .ticket) x a f)
+    where
+      only : (d e : ℕ) → L .marked d ≡ some x → L .marked e ≡ some x → e ≡ d
+      only d e k j = C .marked-once e d x x j k refl
+
+      kept : unmarkedOf sh (m .store) x (C .lists (bucketOf sh (x .time))) ≡ 0 → (d : ℕ) → L .marked d ≡ some x → HeldBy sh m L d x ⊎ AnsweredBy L d x
+          → Fate sh m L x
+      kept z d k (inl h) = inr (inl (
+        (d, h, λ e g. only d e k (C .held-marked e x g)),
+        λ e g. holds-on d x h (subst (λ n. Finished L n) (only d e k (g .1)) (g .0 .0)),
+        λ i. lists-put x i .1 z,
+      ))
+      kept z d k (inr h) = inl (
+        (d, (h, k), λ e g. only d e k (g .1)),
+        λ e g. holds-on e x g (subst (λ n. Finished L n) (sym (only d e k (C .held-marked e x g))) (h .0)),
+        λ i. lists-put x i .1 z,
+      )
+
+      go : ((unmarkedOf sh (m .store) x (C .lists (bucketOf sh (x .time))) ≡ 1) × ((d : ℕ) → L .marked d ≢ some x))
+          ⊎ ((unmarkedOf sh (m .store) x (C .lists (bucketOf sh (x .time))) ≡ 0) × ((d : ℕ) × (L .marked d ≡ some x))) → Fate sh m L x
+      go (inl (one, nobody)) = inr (inr (in-lists x a (λ z. omega arith), λ e g. nobody e (g .1), λ e g. nobody e (C .held-marked e x g)))
+      go (inr (z, (d, k))) = kept z d k (C .marked-kept d x k)
+
+  pub once-each : OnceEach sh m L
+  once-each = record { answered-put = answer; answered-once = λ c d x y g h t. C .marked-once c d x y (g .1) (h .1) t; fate = fate-of }

@@ -1,0 +1,5 @@
+pub mod Along
+pub mod OneTake
+pub mod Takes
+pub mod Fates
+pub mod InTurn
