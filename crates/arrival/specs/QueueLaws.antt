@@ -1,7 +1,8 @@
 -- The sequential queue by its laws: what is lowest, what is left when it is gone, and what takes alone give.
 --     lowest-none, lowest-in, lowest-least     none is lowest of none; the lowest is one of them, and no key is lower
 --     remove-in, in-remove, remove-less        what is left without a ticket; it is less
---     drained, drained-none, drained-some      what takes give, one after the other: nothing, or the lowest and what the others give
+--     drained                                  what takes give, one after the other:
+--     drained-zero, drained-none, drained-some   nothing, or the lowest and what the others give
 --     drained-in, Told, in-drained             it is what was there, where a ticket tells an item from others
 --     drained-lower                            what comes first is lower
 -- Assumes nothing.
@@ -92,6 +93,10 @@ firstAnd others S (some x) = x ∷ others (remove (x .ticket) S)
 unfoldable pub drained : ℕ → Items → List Item
 drained zero S = []
 drained (suc n) S = firstAnd (drained n) S (lowest S)
+
+pub drained-zero : (S : Items) → drained 0 S ≡ []
+unfolding drained
+drained-zero S = refl
 
 pub drained-none : (n : ℕ) (S : Items) → lowest S ≡ none → drained n S ≡ []
 unfolding drained

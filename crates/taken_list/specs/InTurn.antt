@@ -1,4 +1,5 @@
 -- Calls that do not overlap stand in every order as they started. So promise 1.
+--     countFrom       i, i + 1, ..
 --     in-turn         what stands in an order where calls above n do not overlap
 --     agree-on        replies agree along calls as they started, finished or not
 --     by-starts       promise 1
@@ -15,8 +16,8 @@ use Rattle.laws.specs.Tests.{by-size}
 use Rattle.laws.specs.Lists.{wordsFrom, words-in, in-words, mem-behind, Once}
 use Rattle.calendar.specs.rules.Operations.{Memory}
 use Rattle.calendar.specs.rules.Ledger.{Ledger}
-use Rattle.calendar.specs.rules.Linearizability.{Finished, EndedBefore, RespectsTime, Agree, Correct}
-use Rattle.calendar.specs.rules.TakenList.{OneAtATime}
+use Rattle.calendar.specs.rules.Linearizability.{Finished, EndedBefore, RespectsTime, Agree, Linearization, Correct}
+use Rattle.calendar.specs.rules.TakenList.{NoOverlap, starts, OneAtATime}
 use Rattle.taken_list.specs.Along.{Fits, fits}
 
 abbrev pub countFrom : ℕ → ℕ → List ℕ
@@ -54,34 +55,29 @@ module _ (L : Ledger) where
   agree-on S i (suc k) (suc n) l f out =
       (f .0 .0, agree-on (after S (L .asked i)) (suc i) k n (omega arith) (f .1) (λ c h. out c (omega arith)))
 
-pub by-starts : (sh : Shape) (m : Memory) (L : Ledger) → Correct sh m L → OneAtATime sh m L
-by-starts sh m L C apart = agree-on L [] 1 k (L .started) short along out
-  where
-    o : List ℕ
-    o = C .linearization .order
+module _ (L : Ledger) (X : Linearization L) where
+  abbrev o : List ℕ
+  o = X .order
 
-    k : ℕ
-    k = length (C .linearization .order)
+  module _ (apart : NoOverlap L) where
+    counted : o ≡ countFrom 1 (length o)
+    counted = in-turn L o 0 (X .real-time) (X .once) (λ c i. X .calls c i) (λ c l f. X .finished c f) (λ c l h. apart c l h)
 
-    counted : C .linearization .order ≡ countFrom 1 (length (C .linearization .order))
-    counted =
-        in-turn L (C .linearization .order) 0 (C .linearization .real-time) (C .linearization .once)
-        (λ c i. C .linearization .calls c i) (λ c l f. C .linearization .finished c f) (λ c l h. apart c l h)
-
-    along : Fits L [] (countFrom 1 (length (C .linearization .order)))
-    along =
-        subst (λ (p : List ℕ). Fits L [] p) counted (fits L [] (C .linearization .order) (C .linearization .agrees) (C .linearization .marked-ahead))
-
-    short : length (C .linearization .order) ≤ L .started
-    short = by-size (L .started) (length (C .linearization .order)) (λ h. absurd (over h)) (λ h. h)
+    short : length o ≤ L .started
+    short = by-size (L .started) (length o) (λ h. absurd (over h)) (λ h. h)
       where
-        over : L .started < length (C .linearization .order) → ⊥
+        over : L .started < length (X .order) → ⊥
         over h =
-            let i = in-words (λ c. c) 1 (length (C .linearization .order)) (L .started) h in
-            omega (arith, C .linearization .calls (1 + L .started) (subst (λ (p : List ℕ). Mem (1 + L .started) p) (sym counted) i) .1)
+            let i = in-words (λ c. c) 1 (length o) (L .started) h in
+            omega (arith, X .calls (1 + L .started) (subst (λ (p : List ℕ). Mem (1 + L .started) p) (sym counted) i) .1)
 
-    out : (c : ℕ) → 1 + length (C .linearization .order) ≤ c → Finished L c → ⊥
-    out c h f =
-        let (j, l, e) = words-in (λ c. c) 1 (length (C .linearization .order)) c
-        (subst (λ (p : List ℕ). Mem c p) counted (C .linearization .finished c f)) in
-        omega arith
+    no-more : (c : ℕ) → 1 + length o ≤ c → Finished L c → ⊥
+    no-more c h f =
+        let (j, l, e) = words-in (λ c. c) 1 (length o) c (subst (λ (p : List ℕ). Mem c p) counted (X .finished c f)) in omega arith
+
+    -- the replies to the calls as they started
+    by-order : Agree L (starts L) (replies [] (map (L .asked) (starts L)))
+    by-order = agree-on L [] 1 (length o) (L .started) short (subst (λ (p : List ℕ). Fits L [] p) counted (fits L [] o (X .agrees) (X .marked-ahead))) no-more
+
+pub by-starts : (sh : Shape) (m : Memory) (L : Ledger) → Correct sh m L → OneAtATime sh m L
+by-starts sh m L C apart = by-order L (C .linearization) apart

@@ -4,7 +4,8 @@
 --     madeBy, oneByOne, counts           the starts and turns that a request makes; those of a list, one by one; how many each request makes
 --     lastOfEach                         of responses one by one, the last for each request
 --     single, actionOf                   no request has turns behind it; its start or turn
---     HostCorrect, HostDemand3           the promise, and that it holds after any opening
+--     HostCorrect                        the promise
+--     HostAlways, HostDemand3            something holds whatever a host asks for; the promise does
 -- Assumes nothing.
 use mathlib.Core.Path.{_≡_}
 use mathlib.Core.List.{List, [], _∷_, _++_, map}
@@ -20,7 +21,7 @@ use Rattle.arrival.specs.declared.Response.{Response}
 use Rattle.arrival.specs.declared.Response.the-variants.{Opened}
 use Rattle.calendar.specs.rules.Operations.{Memory, Result, open-pool, act, run, responses}
 use Rattle.calendar.specs.rules.NarrowCalls.{narrowCall, narrowMade}
-use Rattle.calendar.specs.rules.Ledger.{new, ledger}
+use Rattle.calendar.specs.rules.Ledger.{Ledger, new, ledger}
 use Rattle.calendar.specs.rules.Linearizability.{Correct}
 
 -- ── requests ──
@@ -75,6 +76,12 @@ pub record HostCorrect (sh : Shape) (m : Memory) (qs : List Request) : Type 0 wh
   pub item-by-item : single qs ≡ true → (hostRun sh m qs ≡ run sh m (map actionOf qs)) × (hostAnswers sh m qs ≡ responses sh m (map actionOf qs))
   -- and all of demand 3 holds of what the host did
   pub correct : Correct sh (hostRun sh m qs) (ledger sh m (oneByOne sh m qs) new)
+
+-- P holds after any opening that is not refused and any list of requests, narrow ones and runs among them, read one by one
+abbrev pub HostAlways : (Shape → Memory → Ledger → Type 0) → Type 0
+HostAlways P =
+    (sh : Shape) (m : Memory) → open-pool sh m .response ≡ Opened → (qs : List Request) → let p = open-pool sh m .memory in
+    P sh (hostRun sh p qs) (ledger sh p (oneByOne sh p qs) new)
 
 -- DEMAND 3 FOR A HOST: after any opening that is not refused, any list of requests.
 unfoldable pub HostDemand3 : Type 0

@@ -6,7 +6,7 @@
 --     TwoTakes, Swapped                              4: two takes
 --     Fate, OnceEach                                 5: once each
 --     Quiet, TakesInTurn, Ascending, nth             6: drained
---     Drained, Drains
+--     Drained, DrainedIf, Drains, HostDrains
 -- Where 2 and 3 say what holds once a take has ended, the history may be the one that stops with its last turn: so it holds when the take ends.
 -- Assumes nothing.
 use mathlib.Core.Path.{_≡_}
@@ -18,6 +18,7 @@ use Prim.Native.Nat.{ℕ, zero, suc, _+_, _≤_, _<_}
 use Rattle.arrival.specs.declared.Shape.{Shape}
 use Rattle.arrival.specs.declared.Item.{Item}
 use Rattle.arrival.specs.declared.Action.{Action}
+use Rattle.arrival.specs.declared.Request.{Request}
 use Rattle.arrival.specs.declared.Response.the-variants.{Opened, Empty}
 use Rattle.arrival.specs.Keys.{lower}
 use Rattle.arrival.specs.Queue.{enqueue, dequeue, dequeued, replies}
@@ -29,6 +30,7 @@ use Rattle.calendar.specs.rules.Operations.{Memory, open-pool, run}
 use Rattle.calendar.specs.rules.Ledger.{Ledger, new, ledger}
 use Rattle.calendar.specs.rules.Snapshot.{bucketList}
 use Rattle.calendar.specs.rules.Linearizability.{Finished, EndedBefore, poolReply, Agree, HeldBy, AnsweredBy}
+use Rattle.calendar.specs.rules.HostHistory.{hostRun, oneByOne}
 
 -- ── what became of an arrival ──
 -- take d has answered x, which is what it marked
@@ -131,11 +133,22 @@ pub record Drained (sh : Shape) (m : Memory) (n : ℕ) (L : Ledger) : Type 0 whe
   pub listed-left : (x : Item) → InLists sh m x → List·Memᴰ x left
   pub answers : (k : ℕ) → Finished L (n + suc k) → poolReply L (n + suc k) ≡ dequeued (nth left k)
 
--- after any opening that is not refused and any history h, any g that goes on from there
+-- a place, the ledger there, and the ledger later
+abbrev pub DrainedIf : Shape → Memory → Ledger → Ledger → Type 0
+DrainedIf sh place before later = Quiet sh place → TakesInTurn (before .started) later → Drained sh place (before .started) later
+
+-- after any opening that is not refused and any history h, whatever g goes on from there
 abbrev pub Drains : Type 0
 Drains =
     (sh : Shape) (m : Memory) → open-pool sh m .response ≡ Opened → (h g : List Action) → let p = open-pool sh m .memory in
     let place = run sh p h in
     let before = ledger sh p h new in
-    let later = ledger sh place g before in
-    Quiet sh place → TakesInTurn (before .started) later → Drained sh place (before .started) later
+    DrainedIf sh place before (ledger sh place g before)
+
+-- the same for a host's requests
+abbrev pub HostDrains : Type 0
+HostDrains =
+    (sh : Shape) (m : Memory) → open-pool sh m .response ≡ Opened → (qs rs : List Request) → let p = open-pool sh m .memory in
+    let place = hostRun sh p qs in
+    let before = ledger sh p (oneByOne sh p qs) new in
+    DrainedIf sh place before (ledger sh place (oneByOne sh place rs) before)
