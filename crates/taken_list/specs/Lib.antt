@@ -6,3 +6,4 @@ pub mod InTurn
 pub mod TakesAlone
 pub mod Draining
 pub mod Promises
+pub mod Needed
