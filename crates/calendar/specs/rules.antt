@@ -17,4 +17,3 @@ pub mod Ledger
 pub mod Snapshot
 pub mod Linearizability
 pub mod HostHistory
-pub mod TakenList

@@ -11,7 +11,6 @@ use Prim.Native.Nat.{ℕ, _≤_}
 use native.Mathlib.Omega.{arith}
 use native.Mathlib.Decide.{ℕ-discrete}
 use Rattle.arrival.specs.declared.Shape.{Shape}
-use Rattle.arrival.specs.declared.Item.{Item}
 use Rattle.arrival.specs.Keys.{lower, lower-total}
 use Rattle.arrival.specs.Queue as queue
 use Rattle.laws.specs.Lists.{Once}
@@ -20,7 +19,7 @@ use Rattle.calendar.specs.rules.Operations.{Memory}
 use Rattle.calendar.specs.rules.Ledger.{Ledger}
 use Rattle.calendar.specs.rules.Linearizability.{Finished, EndedBefore, RespectsTime, markTicket, Agree, MarkedAhead, Linearization}
 use Rattle.calendar.specs.facts.Views.{View, view}
-use Rattle.order.specs.Entries.{Keys, Element, Entry, enqueue, dequeue, empty, scan, Order, _≺_, ticket}
+use Rattle.order.specs.Entries.{Element, Entry, enqueue, dequeue, empty, scan, Order, _≺_, ticket}
 use Rattle.order.specs.RealTime.{End, running, ended, NotBefore, ticket-of, end-of, Timely}
 use Rattle.order.specs.Calls.{Call, Distinct}
 use Rattle.interleavings.specs.ItemKeys.{keys}

@@ -8,16 +8,15 @@
 --     not-lost        a put that ended: unmarked in its list once, or marked
 --     listed-put      what a list holds unmarked was put
 -- Assumes nothing.
-use mathlib.Core.Path.{_≡_, refl, sym, ap, _∙_, subst}
-use mathlib.Core.Bool.{Bool, true, false}
+use mathlib.Core.Path.{_≡_, sym, ap, _∙_, subst}
+use mathlib.Core.Bool.{true, false}
 use mathlib.Core.Logic.{_≢_, _⊎_, inl, inr}
 use mathlib.Core.Option.{none, some, Option·none-ne-some, Option·some-injective}
 use mathlib.Core.List.{[], List·Memᴰ as Mem}
 use Prim.Native.Nat.{ℕ, _≤_, _<_}
-use native.Mathlib.Nat.{pos-of-ne-zero}
 use native.Mathlib.Omega.{arith}
-use lib.Dec.{eqb, leb}
-use borrow.Author.Tests.{eqb-true, eq-eqb, leb-true, leb-false, le-leb}
+use lib.Dec.{eqb}
+use borrow.Author.Tests.{eqb-true, eq-eqb, le-leb}
 use Rattle.arrival.specs.declared.Shape.{Shape}
 use Rattle.arrival.specs.declared.Item.{Item}
 use Rattle.arrival.specs.declared.Worker.{Worker}
@@ -32,7 +31,7 @@ use Rattle.calendar.specs.rules.Snapshot.{unmarkedOf, hasMarked}
 use Rattle.calendar.specs.rules.Linearizability.{Finished, HeldBy, AnsweredBy}
 use Rattle.calendar.specs.facts.Views.{View, view, itemIn}
 use Rattle.order.specs.Entries.{Element, Entry, enqueue, dequeue, empty, scan, ticket, run}
-use Rattle.order.specs.RealTime.{End, running, ended, ticket-of}
+use Rattle.order.specs.RealTime.{ended, ticket-of}
 use Rattle.order.specs.Calls.{Call}
 use Rattle.order.specs.EntriesAfterMark.{taken-gone, taken-enqueued}
 use Rattle.order.specs.ElementFate.{taken-once, enqueued-or-taken}
@@ -40,7 +39,7 @@ use Rattle.lists.specs.LinkInvariant.{chain-distinct}
 use Rattle.lists.specs.Walks.{unmarked-none, unmarked-once}
 use Rattle.interleavings.specs.ItemKeys.{keys}
 use Rattle.interleavings.specs.Nodes.{one-node}
-use Rattle.interleavings.specs.Agreement.{itemAsked, endedAt, Same}
+use Rattle.interleavings.specs.Agreement.{itemAsked, endedAt}
 use Rattle.interleavings.specs.AlongHistory.{Followed}
 use Rattle.interleavings.specs.CallEntries.{asked-put, end-known, marked-status, holder, answered, marked-entry, entry-marked}
 

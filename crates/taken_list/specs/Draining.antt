@@ -2,7 +2,6 @@
 -- L is the ledger at the place, M the ledger later. Assumes nothing.
 use mathlib.Core.Path.{_≡_, refl, sym, ap, _∙_, subst}
 use mathlib.Core.Logic.{_≢_, _⊎_, inl, inr}
-use mathlib.Core.Bool.{true, false}
 use mathlib.Core.Option.{some}
 use mathlib.Core.List.{List, [], _++_, List·Memᴰ as Mem, List·Memᴰ·not-nil, List·Memᴰ·append-cases, Memᴰ·append-left, Memᴰ·append-right}
 use Prim.Native.Nat.{ℕ, suc, _+_, _≤_, _<_}
@@ -21,7 +20,7 @@ use Rattle.calendar.specs.rules.Operations.{Memory}
 use Rattle.calendar.specs.rules.Ledger.{Ledger}
 use Rattle.calendar.specs.rules.Snapshot.{unmarkedOf}
 use Rattle.calendar.specs.rules.Linearizability.{Finished, RespectsTime, markTicket, poolReply, InProgress, HeldBy, AnsweredBy, Correct}
-use Rattle.calendar.specs.rules.TakenList.{InLists, Quiet, TakesInTurn, nth, Drained}
+use Rattle.taken_list.specs.Promises.{InLists, Quiet, TakesInTurn, nth, Drained}
 use Rattle.calendar.specs.facts.LedgerLaws.{Lawful, Kept}
 use Rattle.taken_list.specs.Along.{remaining, Fits, fits, fits-front, fits-behind, Put, Marked, remaining-put, in-or-marked, marked-gone}
 use Rattle.taken_list.specs.OneTake.{time-behind, one-put, marked-is, met, marks-takes}

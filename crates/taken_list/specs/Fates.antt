@@ -4,25 +4,24 @@
 -- Assumes nothing.
 use mathlib.Core.Path.{_≡_, refl, sym, ap, _∙_, subst}
 use mathlib.Core.Logic.{_≢_, _⊎_, inl, inr}
-use mathlib.Core.Bool.{true, false}
 use mathlib.Core.Option.{Option, none, some, Option·none-ne-some, Option·some-injective}
 use mathlib.Core.List.{List, List·Memᴰ as Mem}
-use Prim.Native.Nat.{ℕ, _≤_, _<_}
+use Prim.Native.Nat.{ℕ}
 use native.Mathlib.Omega.{arith}
 use lib.Dec.{eqb}
 use Rattle.arrival.specs.declared.Shape.{Shape}
 use Rattle.arrival.specs.declared.Item.{Item}
 use Rattle.arrival.specs.declared.Response.the-variants.{Empty}
 use Rattle.arrival.specs.Keys.{bucketOf}
-use Rattle.arrival.specs.Queue.{Call, enqueue, dequeue, Reply, lowest, dequeued, reply}
+use Rattle.arrival.specs.Queue.{enqueue, dequeue, Reply, lowest, dequeued, reply}
 use Rattle.arrival.specs.QueueLaws.{lowest-in}
 use Rattle.laws.specs.Tests.{parts, within, is-not}
 use Rattle.calendar.specs.rules.Ranges.{worker}
 use Rattle.calendar.specs.rules.Operations.{Memory}
 use Rattle.calendar.specs.rules.Ledger.{Ledger}
 use Rattle.calendar.specs.rules.Snapshot.{unmarkedOf}
-use Rattle.calendar.specs.rules.Linearizability.{Finished, markTicket, poolReply, HeldBy, AnsweredBy, Correct}
-use Rattle.calendar.specs.rules.TakenList.{Answers, InLists, Fate, OnceEach}
+use Rattle.calendar.specs.rules.Linearizability.{Finished, poolReply, HeldBy, AnsweredBy, Correct}
+use Rattle.taken_list.specs.Promises.{Answers, InLists, Fate, OnceEach}
 use Rattle.calendar.specs.facts.LedgerLaws.{Lawful}
 use Rattle.lists.specs.Walks.{unmarked-there, there-unmarked}
 use Rattle.taken_list.specs.OneTake.{marked-is, Met, met}

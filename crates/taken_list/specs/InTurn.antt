@@ -4,8 +4,8 @@
 --     agree-on        replies agree along calls as they started, finished or not
 --     by-starts       promise 1
 -- Assumes nothing.
-use mathlib.Core.Path.{_≡_, refl, sym, ap, _∙_, subst}
-use mathlib.Core.Logic.{_≢_, _⊎_, inl, inr}
+use mathlib.Core.Path.{_≡_, refl, sym, subst}
+use mathlib.Core.Logic.{_⊎_, inl, inr}
 use mathlib.Core.List.{List, [], _∷_, map, List·Memᴰ as Mem, List·Memᴰ·head as here, List·Memᴰ·tail as there, List·Memᴰ·cases-cons}
 use Prim.Native.Nat.{ℕ, zero, suc, _+_, _≤_, _<_}
 use native.Mathlib.Omega.{arith}
@@ -17,7 +17,7 @@ use Rattle.laws.specs.Lists.{wordsFrom, words-in, in-words, mem-behind, Once}
 use Rattle.calendar.specs.rules.Operations.{Memory}
 use Rattle.calendar.specs.rules.Ledger.{Ledger}
 use Rattle.calendar.specs.rules.Linearizability.{Finished, EndedBefore, RespectsTime, Agree, Linearization, Correct}
-use Rattle.calendar.specs.rules.TakenList.{NoOverlap, starts, OneAtATime}
+use Rattle.taken_list.specs.Promises.{NoOverlap, starts, OneAtATime}
 use Rattle.taken_list.specs.Along.{Fits, fits}
 
 abbrev pub countFrom : ℕ → ℕ → List ℕ

@@ -1,3 +1,4 @@
+pub mod Promises
 pub mod Along
 pub mod OneTake
 pub mod Takes
@@ -5,5 +6,5 @@ pub mod Fates
 pub mod InTurn
 pub mod TakesAlone
 pub mod Draining
-pub mod Promises
+pub mod PromisesKept
 pub mod Needed

@@ -8,16 +8,15 @@
 -- Assumes nothing.
 use mathlib.Core.Path.{_≡_, refl, sym, ap, _∙_, subst}
 use mathlib.Core.Bool.{Bool, true, false, cond}
-use mathlib.Core.Logic.{_≢_, _⊎_, inl, inr}
-use mathlib.Core.List.{List, [], _∷_, _++_, map, List·Memᴰ, List·Memᴰ·head, List·Memᴰ·tail, List·Memᴰ·not-nil}
+use mathlib.Core.Logic.{_≢_, inl, inr}
+use mathlib.Core.List.{List, [], _∷_, _++_, map, List·Memᴰ, List·Memᴰ·head, List·Memᴰ·not-nil}
 use mathlib.Core.Option.{Option, none, some, Option·none-ne-some, Option·some-injective}
 use Prim.Native.Nat.{ℕ, zero, suc, _<_}
 use native.Mathlib.Omega.{arith}
 use lib.Dec.{eqb}
 use Rattle.arrival.specs.declared.Item.{Item}
 use Rattle.arrival.specs.declared.Action.{Action}
-use Rattle.arrival.specs.declared.Response.{Response}
-use Rattle.arrival.specs.declared.Response.the-variants.{Took, Empty}
+use Rattle.arrival.specs.declared.Response.the-variants.{Empty}
 use Rattle.arrival.specs.Keys.{lower, bucketOf}
 use Rattle.arrival.specs.Energy.{energyOf}
 use Rattle.arrival.specs.Queue.{enqueue, dequeue, Reply, dequeued, replies, taken}
@@ -34,11 +33,11 @@ use Rattle.calendar.specs.rules.EnqueueSteps.{step-4, step-5, step-6, step-7}
 use Rattle.calendar.specs.rules.DequeueSteps.{walk, step-8, step-9, step-10, step-11, step-12, step-13}
 use Rattle.calendar.specs.rules.Steps.{no-step, step}
 use Rattle.calendar.specs.rules.Refusals.{openRefusal, enqueueRefusal, dequeueRefusal, stepRefusal}
-use Rattle.calendar.specs.rules.Operations.{Memory, open-pool, act, run}
+use Rattle.calendar.specs.rules.Operations.{open-pool, act, run}
 use Rattle.calendar.specs.rules.Ledger.{Ledger, new, at, ledger}
 use Rattle.calendar.specs.rules.Snapshot.{nodesFrom, bucketList}
 use Rattle.calendar.specs.rules.Linearizability.{Finished, EndedBefore, markTicket, poolReply, Agree, Correct, Demand3}
-use Rattle.calendar.specs.rules.TakenList.{Answers, GoneToAnother, InLists, starts, Fate, Quiet, TakesInTurn, Ascending, nth, Drained}
+use Rattle.taken_list.specs.Promises.{Answers, GoneToAnother, InLists, starts, Fate, Quiet, TakesInTurn, Ascending, nth, Drained}
 use Rattle.calendar.specs.facts.Starred.{arrival, turns, put, take, lent}
 use Rattle.calendar.specs.facts.WorkedHistory.{one-bucket, history, start}
 use Rattle.interleavings.specs.Demand3.{demand-3}

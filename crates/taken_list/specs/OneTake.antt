@@ -10,7 +10,7 @@ use mathlib.Core.Logic.{_≢_, _⊎_, inl, inr}
 use mathlib.Core.Option.{Option, none, some}
 use mathlib.Core.List.{List, [], _∷_, _++_, List·Memᴰ as Mem, List·Memᴰ·head as here, List·Memᴰ·not-nil, List·Memᴰ·cases-cons, List·Memᴰ·append-cases}
 use mathlib.Core.List.{Memᴰ·append-right}
-use Prim.Native.Nat.{ℕ, _≤_, _<_}
+use Prim.Native.Nat.{ℕ}
 use native.Mathlib.Omega.{arith}
 use Rattle.arrival.specs.declared.Shape.{Shape}
 use Rattle.arrival.specs.declared.Item.{Item}
@@ -20,8 +20,8 @@ use Rattle.arrival.specs.QueueLaws.{lowest-in}
 use Rattle.laws.specs.Lists.{Once, once-apart, mem-split}
 use Rattle.calendar.specs.rules.Operations.{Memory}
 use Rattle.calendar.specs.rules.Ledger.{Ledger}
-use Rattle.calendar.specs.rules.Linearizability.{Finished, EndedBefore, RespectsTime, markTicket, poolReply, Linearization, Correct}
-use Rattle.calendar.specs.rules.TakenList.{PutBefore}
+use Rattle.calendar.specs.rules.Linearizability.{Finished, EndedBefore, RespectsTime, markTicket, poolReply, Correct}
+use Rattle.taken_list.specs.Promises.{PutBefore}
 use Rattle.calendar.specs.facts.LedgerLaws.{Lawful}
 use Rattle.taken_list.specs.Along.{remaining, Fits, fits, fits-front, fits-behind, Marked, remaining-put, in-or-marked}
 

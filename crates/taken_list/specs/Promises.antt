@@ -1,95 +1,154 @@
--- THE SIX PROMISES, each from demand 3: after any opening that is not refused and any history, and so whatever a host asks for.
---     one-at-a-time           1: used by one at a time
---     nothing-passed-over     2: nothing earlier is passed over
---     empty-means-empty       3: empty means empty
---     two-takes, swapped      4: two takes, and which of them may be swapped
---     once-each               5: once each
---     drains, host-drains     6: drained
--- 1 to 5 for a host that mixes whole and narrow calls are `host-always` of these (interleavings/HostDemand3). Assumes nothing.
-use mathlib.Core.Path.{_≡_, refl, sym, subst}
-use mathlib.Core.List.{List, [], _∷_}
-use Prim.Native.Nat.{_≤_}
+-- What a reader of the taken list, and a host, may rely on: six promises. They speak of a history's memory and ledger, and name no order of calls.
+--     Answers, PutBefore, GoneToAnother, InLists     what became of an arrival, as an onlooker can say it
+--     NoOverlap, starts, OneAtATime                  1: used by one at a time
+--     NothingPassedOver                              2: nothing earlier is passed over
+--     EmptyMeansEmpty                                3: empty means empty
+--     TwoTakes, Swapped                              4: two takes
+--     Fate, OnceEach                                 5: once each
+--     Quiet, TakesInTurn, Ascending, nth             6: drained
+--     Drained, DrainedIf, Drains, HostDrains
+-- Where 2 and 3 say what holds once a take has ended, the history may be the one that stops with its last turn: so it holds when the take ends.
+-- Assumes nothing.
+use mathlib.Core.Path.{_≡_}
+use mathlib.Core.Logic.{_≢_, _⊎_}
+use mathlib.Core.Bool.{true, false}
+use mathlib.Core.List.{List, [], _∷_, map, List·Memᴰ}
+use mathlib.Core.Option.{Option, none, some}
+use Prim.Native.Nat.{ℕ, zero, suc, _+_, _≤_, _<_}
 use Rattle.arrival.specs.declared.Shape.{Shape}
+use Rattle.arrival.specs.declared.Item.{Item}
 use Rattle.arrival.specs.declared.Action.{Action}
-use Rattle.arrival.specs.declared.Response.the-variants.{Opened}
-use Rattle.calendar.specs.rules.Operations.{Memory, open-pool, act, run}
-use Rattle.calendar.specs.rules.Ledger.{Ledger, new, reads, ledger}
-use Rattle.calendar.specs.rules.Linearizability.{Correct, Always, Demand3}
-use Rattle.calendar.specs.rules.HostHistory.{oneByOne}
-use Rattle.calendar.specs.rules.TakenList.{OneAtATime, NothingPassedOver, EmptyMeansEmpty, TwoTakes, Swapped, OnceEach, DrainedIf, Drains, HostDrains}
-use Rattle.calendar.specs.facts.Accepted.{open-accepted}
-use Rattle.calendar.specs.facts.HostRun.{host-memory}
-use Rattle.calendar.specs.facts.LedgerLaws.{Lawful, lawful, lawful-new, Kept, kept-refl, kept-trans, kept-act, Left, left-run}
-use Rattle.lists.specs.NodeReuse.{opened, always-in-range}
-use Rattle.interleavings.specs.Demand3.{demand-3}
-use Rattle.taken_list.specs.InTurn.{by-starts}
-use Rattle.taken_list.specs.Takes.{passed-over, found-empty, two-apart, swapped-overlap}
-use Rattle.taken_list.specs.Fates as fates
-use Rattle.taken_list.specs.Draining.{drained-from}
+use Rattle.arrival.specs.declared.Request.{Request}
+use Rattle.arrival.specs.declared.Response.the-variants.{Opened, Empty}
+use Rattle.arrival.specs.Keys.{lower}
+use Rattle.arrival.specs.Queue.{enqueue, dequeue, dequeued, replies}
+use Rattle.laws.specs.Lists.{wordsFrom}
+use Rattle.calendar.specs.rules.Layout.{link, itemAt, isMarked}
+use Rattle.calendar.specs.rules.Ranges.{worker}
+use Rattle.calendar.specs.rules.Reclaim.{inProgress}
+use Rattle.calendar.specs.rules.Operations.{Memory, open-pool, run}
+use Rattle.calendar.specs.rules.Ledger.{Ledger, new, ledger}
+use Rattle.calendar.specs.rules.Snapshot.{bucketList}
+use Rattle.calendar.specs.rules.Linearizability.{Finished, EndedBefore, poolReply, Agree, HeldBy, AnsweredBy}
+use Rattle.calendar.specs.rules.HostHistory.{hostRun, oneByOne}
 
--- ── what demand 3 gives at every place ──
-correct : Always Correct
-unfolding Demand3
-correct = demand-3
+-- ── what became of an arrival ──
+-- take d has answered x, which is what it marked
+abbrev pub Answers : Ledger → ℕ → Item → Type 0
+Answers L d x = AnsweredBy L d x × (L .marked d ≡ some x)
 
-always-lawful : Always (λ sh m L. Lawful sh L)
-always-lawful sh m e h =
-    let wd : 1 ≤ sh .width = open-accepted sh (m .store) (m .table) (opened sh m e .0) .limits .some-width in
-    lawful sh wd (open-pool sh m .memory) h new (lawful-new sh)
+-- x was put, and its put had ended before call d started
+abbrev pub PutBefore : Ledger → Item → ℕ → Type 0
+PutBefore L x d = (L .asked (x .ticket) ≡ enqueue x) × EndedBefore L (x .ticket) d
 
--- so whatever follows from both holds always
-by-demand-3 : (P : Shape → Memory → Ledger → Type 0) → ((sh : Shape) (m : Memory) (L : Ledger) → Correct sh m L → Lawful sh L → P sh m L) → Always P
-by-demand-3 P follows sh m e h =
-    follows sh (run sh (open-pool sh m .memory) h) (ledger sh (open-pool sh m .memory) h new) (correct sh m e h) (always-lawful sh m e h)
+-- x is marked: another take than d holds it or has answered it
+abbrev pub GoneToAnother : Shape → Memory → Ledger → ℕ → Item → Type 0
+GoneToAnother sh m L d x = (e : ℕ) × (e ≢ d) × (L .marked e ≡ some x) × (HeldBy sh m L e x ⊎ AnsweredBy L e x)
 
--- ── 1 to 5 ──
-pub one-at-a-time : Always OneAtATime
-one-at-a-time = by-demand-3 OneAtATime (λ sh m L C G. by-starts sh m L C)
+-- x is in the lists: an unmarked node of a bucket's list holds it
+abbrev pub InLists : Shape → Memory → Item → Type 0
+InLists sh m x =
+    (b : ℕ)
+    × (n : ℕ)
+    × (ns : List ℕ)
+    × (b < sh .buckets)
+    × (bucketList sh (m .store) b ≡ some ns)
+    × List·Memᴰ n ns
+    × (isMarked (link sh (m .store) n) ≡ false)
+    × (itemAt sh (m .store) n ≡ x)
 
-pub nothing-passed-over : Always NothingPassedOver
-nothing-passed-over = by-demand-3 NothingPassedOver passed-over
+-- ── 1: used by one at a time ──
+-- every start comes after the end of the call before it
+abbrev pub NoOverlap : Ledger → Type 0
+NoOverlap L = (c : ℕ) → 1 ≤ c → c < L .started → EndedBefore L c (c + 1)
 
-pub empty-means-empty : Always EmptyMeansEmpty
-empty-means-empty = by-demand-3 EmptyMeansEmpty found-empty
+-- the calls as they started: 1, 2, ..
+abbrev pub starts : Ledger → List ℕ
+starts L = wordsFrom (λ c. c) 1 (L .started)
 
-pub two-takes : Always TwoTakes
-two-takes = by-demand-3 TwoTakes two-apart
+-- the plain queue, fed the calls as they started, answers each finished call as the pool did
+abbrev pub OneAtATime : Shape → Memory → Ledger → Type 0
+OneAtATime sh m L = NoOverlap L → Agree L (starts L) (replies [] (map (L .asked) (starts L)))
 
-pub swapped : Always Swapped
-swapped = by-demand-3 Swapped swapped-overlap
+-- ── 2: nothing earlier is passed over ──
+abbrev pub NothingPassedOver : Shape → Memory → Ledger → Type 0
+NothingPassedOver sh m L = (d : ℕ) (x y : Item) → PutBefore L x d → Answers L d y → lower x y ≡ true → GoneToAnother sh m L d x
 
-pub once-each : Always OnceEach
-once-each = by-demand-3 OnceEach fates.once-each
+-- ── 3: empty means empty ──
+abbrev pub EmptyMeansEmpty : Shape → Memory → Ledger → Type 0
+EmptyMeansEmpty sh m L = (d : ℕ) (x : Item) → PutBefore L x d → Finished L d → L .response d ≡ Empty → GoneToAnother sh m L d x
 
--- ── 6 ──
-module _ (sh : Shape) (m : Memory) (e : open-pool sh m .response ≡ Opened) where
-  abbrev p : Memory
-  p = open-pool sh m .memory
+-- ── 4: two takes ──
+-- c ended before d started, and y was in the pool before both
+abbrev pub TwoTakes : Shape → Memory → Ledger → Type 0
+TwoTakes sh m L = (c d : ℕ) (x y : Item) → EndedBefore L c d → Answers L c x → Answers L d y → EndedBefore L (y .ticket) c → lower x y ≡ true
 
-  -- what holds always holds of what a history left
-  of-left : (P : Shape → Memory → Ledger → Type 0) → Always P → (n : Memory) (L : Ledger) → Left sh p n L → P sh n L
-  of-left P always n L (h, q, r) = subst (λ (M : Ledger). P sh n M) r (subst (λ (k : Memory). P sh k (ledger sh p h new)) q (always sh m e h))
+-- so where c answers the later of two, d had started when c ended: the takes overlap, or d was the first
+abbrev pub Swapped : Shape → Memory → Ledger → Type 0
+Swapped sh m L =
+    (c d s : ℕ) (x y : Item) → L .ended c ≡ some s → Answers L c x → Answers L d y → EndedBefore L (y .ticket) c → lower y x ≡ true → d ≤ s
 
-  -- what is written of finished calls stays
-  kept : (g : List Action) (n : Memory) (L : Ledger) → Left sh p n L → Kept L (ledger sh n g L)
-  unfolding ledger run
-  kept [] n L X = kept-refl L
-  kept (a ∷ g) n L X =
-      kept-trans L (reads sh n a L) (ledger sh (act sh n a .memory) g (reads sh n a L))
-      (kept-act sh n L a (of-left Correct correct n L X .in-progress-not-ended))
-      (kept g (act sh n a .memory) (reads sh n a L) (left-run sh p n L (a ∷ []) X))
+-- ── 5: once each ──
+-- one take has answered x, or one holds it, or it is in the lists; and nothing else
+abbrev pub Fate : Shape → Memory → Ledger → Item → Type 0
+Fate sh m L x =
+    (((d : ℕ) × Answers L d x × ((e : ℕ) → Answers L e x → e ≡ d)) × ((e : ℕ) → HeldBy sh m L e x → ⊥) × (InLists sh m x → ⊥))
+    ⊎ ((((d : ℕ) × HeldBy sh m L d x × ((e : ℕ) → HeldBy sh m L e x → e ≡ d)) × ((e : ℕ) → Answers L e x → ⊥) × (InLists sh m x → ⊥))
+    ⊎ (InLists sh m x × ((e : ℕ) → Answers L e x → ⊥) × ((e : ℕ) → HeldBy sh m L e x → ⊥)))
 
-  drained-after : (g : List Action) (n : Memory) (L : Ledger) → Left sh p n L → DrainedIf sh n L (ledger sh n g L)
-  drained-after g n L X quiet turns =
-      let Y = left-run sh p n L g X in
-      let M = ledger sh n g L in
-      drained-from sh n L (of-left Correct correct n L X) (of-left (λ sh m L. Lawful sh L) always-lawful n L X) quiet (run sh n g) M
-      (of-left Correct correct (run sh n g) M Y) (of-left (λ sh m L. Lawful sh L) always-lawful (run sh n g) M Y) (kept g n L X) turns
+pub record OnceEach (sh : Shape) (m : Memory) (L : Ledger) : Type 0 where
+  -- what a finished take answered is an arrival that was put, with all its fields, or empty
+  pub answered-put : (d : ℕ) → L .asked d ≡ dequeue → Finished L d
+      → (L .response d ≡ Empty) ⊎ ((x : Item) × Answers L d x × (L .asked (x .ticket) ≡ enqueue x))
+  -- no two answers come from one put
+  pub answered-once : (c d : ℕ) (x y : Item) → Answers L c x → Answers L d y → x .ticket ≡ y .ticket → c ≡ d
+  -- what was put is not lost once its put has ended
+  pub fate : (x : Item) → L .asked (x .ticket) ≡ enqueue x → Finished L (x .ticket) → Fate sh m L x
 
-pub drains : Drains
-drains sh m e h g = drained-after sh m e g _ _ (h, refl, refl)
+-- ── 6: drained ──
+-- no call is in progress
+abbrev pub Quiet : Shape → Memory → Type 0
+Quiet sh m = (i : ℕ) → i < sh .workers → inProgress (worker (m .table) i) ≡ false
 
-pub host-drains : HostDrains
-host-drains sh m e qs rs =
-    let p = open-pool sh m .memory in
-    drained-after sh m e (oneByOne sh _ rs) _ _ (oneByOne sh p qs, sym (host-memory sh p qs (always-in-range sh m e)), refl)
+-- the calls after the n-th are takes, each started after the end of the one before it
+abbrev pub TakesInTurn : ℕ → Ledger → Type 0
+TakesInTurn n L = (c : ℕ) → n < c → c ≤ L .started → (L .asked c ≡ dequeue) × (c < L .started → EndedBefore L c (c + 1))
+
+-- each key is lower than all behind it
+abbrev pub Ascending : List Item → Type 0
+Ascending [] = Unit {0}
+Ascending (x ∷ xs) = ((y : Item) → List·Memᴰ y xs → lower x y ≡ true) × Ascending xs
+
+-- the k-th from 0, or none
+abbrev pub nth : List Item → ℕ → Option Item
+nth [] k = none
+nth (x ∷ xs) zero = some x
+nth (x ∷ xs) (suc k) = nth xs k
+
+-- what was in the lists of m, after n starts, comes out in the order of keys, each once, and then empty
+pub record Drained (sh : Shape) (m : Memory) (n : ℕ) (L : Ledger) : Type 0 where
+  pub left : List Item
+  pub ascending : Ascending left
+  pub left-listed : (x : Item) → List·Memᴰ x left → InLists sh m x
+  pub listed-left : (x : Item) → InLists sh m x → List·Memᴰ x left
+  pub answers : (k : ℕ) → Finished L (n + suc k) → poolReply L (n + suc k) ≡ dequeued (nth left k)
+
+-- a place, the ledger there, and the ledger later
+abbrev pub DrainedIf : Shape → Memory → Ledger → Ledger → Type 0
+DrainedIf sh place before later = Quiet sh place → TakesInTurn (before .started) later → Drained sh place (before .started) later
+
+-- after any opening that is not refused and any history h, whatever g goes on from there
+abbrev pub Drains : Type 0
+Drains =
+    (sh : Shape) (m : Memory) → open-pool sh m .response ≡ Opened → (h g : List Action) → let p = open-pool sh m .memory in
+    let place = run sh p h in
+    let before = ledger sh p h new in
+    DrainedIf sh place before (ledger sh place g before)
+
+-- the same for a host's requests
+abbrev pub HostDrains : Type 0
+HostDrains =
+    (sh : Shape) (m : Memory) → open-pool sh m .response ≡ Opened → (qs rs : List Request) → let p = open-pool sh m .memory in
+    let place = hostRun sh p qs in
+    let before = ledger sh p (oneByOne sh p qs) new in
+    DrainedIf sh place before (ledger sh place (oneByOne sh place rs) before)

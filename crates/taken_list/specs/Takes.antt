@@ -3,10 +3,10 @@
 -- Assumes nothing.
 use mathlib.Core.Path.{_≡_, refl, sym, _∙_, subst}
 use mathlib.Core.Logic.{_≢_, _⊎_, inl, inr}
-use mathlib.Core.Bool.{true, false}
+use mathlib.Core.Bool.{true}
 use mathlib.Core.Option.{some}
 use mathlib.Core.List.{List·Memᴰ as Mem}
-use Prim.Native.Nat.{ℕ, _≤_, _<_}
+use Prim.Native.Nat.{ℕ}
 use native.Mathlib.Omega.{arith}
 use Rattle.arrival.specs.declared.Shape.{Shape}
 use Rattle.arrival.specs.declared.Item.{Item}
@@ -16,7 +16,7 @@ use Rattle.laws.specs.Tests.{never, by-size}
 use Rattle.calendar.specs.rules.Operations.{Memory}
 use Rattle.calendar.specs.rules.Ledger.{Ledger}
 use Rattle.calendar.specs.rules.Linearizability.{EndedBefore, Correct}
-use Rattle.calendar.specs.rules.TakenList.{GoneToAnother, NothingPassedOver, EmptyMeansEmpty, TwoTakes, Swapped}
+use Rattle.taken_list.specs.Promises.{GoneToAnother, NothingPassedOver, EmptyMeansEmpty, TwoTakes, Swapped}
 use Rattle.calendar.specs.facts.LedgerLaws.{Lawful}
 use Rattle.taken_list.specs.OneTake.{Met, met, met-taken, met-empty}
 

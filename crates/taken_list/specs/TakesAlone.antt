@@ -17,7 +17,7 @@ use Rattle.laws.specs.Tests.{by-size}
 use Rattle.laws.specs.Lists.{wordsFrom}
 use Rattle.calendar.specs.rules.Ledger.{Ledger}
 use Rattle.calendar.specs.rules.Linearizability.{Finished, RespectsTime, poolReply}
-use Rattle.calendar.specs.rules.TakenList.{Ascending, nth}
+use Rattle.taken_list.specs.Promises.{Ascending, nth}
 use Rattle.taken_list.specs.Along.{Fits}
 use Rattle.taken_list.specs.InTurn.{countFrom}
 

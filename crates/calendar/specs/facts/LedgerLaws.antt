@@ -5,14 +5,11 @@
 --     Left, left-run                a memory and a ledger that a history left; what goes on from them
 -- Assumes nothing.
 use mathlib.Core.Path.{_≡_, refl, sym, ap, _∙_, subst}
-use mathlib.Core.Bool.{Bool, true, false, cond}
 use mathlib.Core.Logic.{_≢_}
 use mathlib.Core.Option.{Option, none, some, Option·none-ne-some, Option·some-injective}
 use mathlib.Core.List.{List, [], _∷_, _++_}
 use Prim.Native.Nat.{ℕ, _+_, _≤_, _<_}
 use native.Mathlib.Omega.{arith}
-use lib.Dec.{eqb}
-use borrow.Author.Tests.{eqb-true}
 use Rattle.arrival.specs.declared.Shape.{Shape}
 use Rattle.arrival.specs.declared.Item.{Item}
 use Rattle.arrival.specs.declared.Action.{Action}
@@ -25,9 +22,9 @@ use Rattle.laws.specs.Tests.{is-not, by-test, upd-other, upd-cases}
 use Rattle.calendar.specs.rules.Layout.{itemAt}
 use Rattle.calendar.specs.rules.Ranges.{worker}
 use Rattle.calendar.specs.rules.Starts.{itemOf}
-use Rattle.calendar.specs.rules.Operations.{Memory, perform, open-pool, actor, refusal, outcome, act, run}
+use Rattle.calendar.specs.rules.Operations.{Memory, refusal, outcome, act, run}
 use Rattle.calendar.specs.rules.Ledger.{Ledger, new, begins, ends, marks, hears, succeeds-11, sees, notes, reads, ledger}
-use Rattle.calendar.specs.rules.Linearizability.{InProgress, Always}
+use Rattle.calendar.specs.rules.Linearizability.{InProgress}
 use Rattle.calendar.specs.facts.Accepted.{enqueue-accepted, step-accepted}
 use Rattle.calendar.specs.facts.Acting.{by-act}
 

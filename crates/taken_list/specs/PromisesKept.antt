@@ -1,0 +1,95 @@
+-- THE SIX PROMISES, each from demand 3: after any opening that is not refused and any history, and so whatever a host asks for.
+--     one-at-a-time           1: used by one at a time
+--     nothing-passed-over     2: nothing earlier is passed over
+--     empty-means-empty       3: empty means empty
+--     two-takes, swapped      4: two takes, and which of them may be swapped
+--     once-each               5: once each
+--     drains, host-drains     6: drained
+-- 1 to 5 for a host that mixes whole and narrow calls are `host-always` of these (interleavings/HostDemand3). Assumes nothing.
+use mathlib.Core.Path.{_≡_, refl, sym, subst}
+use mathlib.Core.List.{List, [], _∷_}
+use Prim.Native.Nat.{_≤_}
+use Rattle.arrival.specs.declared.Shape.{Shape}
+use Rattle.arrival.specs.declared.Action.{Action}
+use Rattle.arrival.specs.declared.Response.the-variants.{Opened}
+use Rattle.calendar.specs.rules.Operations.{Memory, open-pool, act, run}
+use Rattle.calendar.specs.rules.Ledger.{Ledger, new, reads, ledger}
+use Rattle.calendar.specs.rules.Linearizability.{Correct, Always, Demand3}
+use Rattle.calendar.specs.rules.HostHistory.{oneByOne}
+use Rattle.taken_list.specs.Promises.{OneAtATime, NothingPassedOver, EmptyMeansEmpty, TwoTakes, Swapped, OnceEach, DrainedIf, Drains, HostDrains}
+use Rattle.calendar.specs.facts.Accepted.{open-accepted}
+use Rattle.calendar.specs.facts.HostRun.{host-memory}
+use Rattle.calendar.specs.facts.LedgerLaws.{Lawful, lawful, lawful-new, Kept, kept-refl, kept-trans, kept-act, Left, left-run}
+use Rattle.lists.specs.NodeReuse.{opened, always-in-range}
+use Rattle.interleavings.specs.Demand3.{demand-3}
+use Rattle.taken_list.specs.InTurn.{by-starts}
+use Rattle.taken_list.specs.Takes.{passed-over, found-empty, two-apart, swapped-overlap}
+use Rattle.taken_list.specs.Fates as fates
+use Rattle.taken_list.specs.Draining.{drained-from}
+
+-- ── what demand 3 gives at every place ──
+correct : Always Correct
+unfolding Demand3
+correct = demand-3
+
+always-lawful : Always (λ sh m L. Lawful sh L)
+always-lawful sh m e h =
+    let wd : 1 ≤ sh .width = open-accepted sh (m .store) (m .table) (opened sh m e .0) .limits .some-width in
+    lawful sh wd (open-pool sh m .memory) h new (lawful-new sh)
+
+-- so whatever follows from both holds always
+by-demand-3 : (P : Shape → Memory → Ledger → Type 0) → ((sh : Shape) (m : Memory) (L : Ledger) → Correct sh m L → Lawful sh L → P sh m L) → Always P
+by-demand-3 P follows sh m e h =
+    follows sh (run sh (open-pool sh m .memory) h) (ledger sh (open-pool sh m .memory) h new) (correct sh m e h) (always-lawful sh m e h)
+
+-- ── 1 to 5 ──
+pub one-at-a-time : Always OneAtATime
+one-at-a-time = by-demand-3 OneAtATime (λ sh m L C G. by-starts sh m L C)
+
+pub nothing-passed-over : Always NothingPassedOver
+nothing-passed-over = by-demand-3 NothingPassedOver passed-over
+
+pub empty-means-empty : Always EmptyMeansEmpty
+empty-means-empty = by-demand-3 EmptyMeansEmpty found-empty
+
+pub two-takes : Always TwoTakes
+two-takes = by-demand-3 TwoTakes two-apart
+
+pub swapped : Always Swapped
+swapped = by-demand-3 Swapped swapped-overlap
+
+pub once-each : Always OnceEach
+once-each = by-demand-3 OnceEach fates.once-each
+
+-- ── 6 ──
+module _ (sh : Shape) (m : Memory) (e : open-pool sh m .response ≡ Opened) where
+  abbrev p : Memory
+  p = open-pool sh m .memory
+
+  -- what holds always holds of what a history left
+  of-left : (P : Shape → Memory → Ledger → Type 0) → Always P → (n : Memory) (L : Ledger) → Left sh p n L → P sh n L
+  of-left P always n L (h, q, r) = subst (λ (M : Ledger). P sh n M) r (subst (λ (k : Memory). P sh k (ledger sh p h new)) q (always sh m e h))
+
+  -- what is written of finished calls stays
+  kept : (g : List Action) (n : Memory) (L : Ledger) → Left sh p n L → Kept L (ledger sh n g L)
+  unfolding ledger run
+  kept [] n L X = kept-refl L
+  kept (a ∷ g) n L X =
+      kept-trans L (reads sh n a L) (ledger sh (act sh n a .memory) g (reads sh n a L))
+      (kept-act sh n L a (of-left Correct correct n L X .in-progress-not-ended))
+      (kept g (act sh n a .memory) (reads sh n a L) (left-run sh p n L (a ∷ []) X))
+
+  drained-after : (g : List Action) (n : Memory) (L : Ledger) → Left sh p n L → DrainedIf sh n L (ledger sh n g L)
+  drained-after g n L X quiet turns =
+      let Y = left-run sh p n L g X in
+      let M = ledger sh n g L in
+      drained-from sh n L (of-left Correct correct n L X) (of-left (λ sh m L. Lawful sh L) always-lawful n L X) quiet (run sh n g) M
+      (of-left Correct correct (run sh n g) M Y) (of-left (λ sh m L. Lawful sh L) always-lawful (run sh n g) M Y) (kept g n L X) turns
+
+pub drains : Drains
+drains sh m e h g = drained-after sh m e g _ _ (h, refl, refl)
+
+pub host-drains : HostDrains
+host-drains sh m e qs rs =
+    let p = open-pool sh m .memory in
+    drained-after sh m e (oneByOne sh _ rs) _ _ (oneByOne sh p qs, sym (host-memory sh p qs (always-in-range sh m e)), refl)
