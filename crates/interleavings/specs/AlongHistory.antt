@@ -155,8 +155,8 @@ module _ (sh : Shape) (wd : 1 ≤ sh .width) where
       let J = joint-dequeue sh wd v (F .chains) T (F .ghost) (record { pool = K .inv; ord = F .ord }) i l (A .idle) w refl refl refl in
       performed m i (outcome sh m (Dequeue i)) (F .chains) (logs (F .ghost) c none) (begins i queue.dequeue L) (F .chains) K l
       (dequeue-inside sh s (T i)) (reached-dequeue sh m (F .chains) i K A) (J .ord)
-      (agrees-start sh wd v T (F .ghost) L (F .agrees) i l (updates (outcome sh m (Dequeue i) .writes) v) w queue.dequeue none refl (A .idle) (λ z. omega arith) refl refl
-      (λ z p q. omega arith)
+      (agrees-start sh wd v T (F .ghost) L (F .agrees) i l (updates (outcome sh m (Dequeue i) .writes) v) w queue.dequeue none refl (A .idle)
+      (λ z. omega arith) refl refl (λ z p q. omega arith)
       (λ j h b. (K .inv .lists .live (T j .ticket) (j, h, b, refl), λ z p q. refl)))
 
   -- ── a turn ──

@@ -192,7 +192,8 @@ module _ (sh : Shape) (wd : 1 ≤ sh .width) (m : Memory) (L : Ledger) (F : Foll
               take : (worker (m .table) j) .stage ≤ 3 → ⊥
               take hi =
                   let x = itemIn v (T j .own) in
+                  let own = P .marked-own (pos-of-ne-zero b) hi z in
                   let q : dequeue (elem x) (T j .ticket)
-                  ≡ empty d = one-entry order (dequeue (elem x) (T j .ticket)) (empty d) (F .ord .whole .distinct) (P .marked-own (pos-of-ne-zero b) hi z) k tt tt t in
+                  ≡ empty d = one-entry order (dequeue (elem x) (T j .ticket)) (empty d) (F .ord .whole .distinct) own k tt tt t in
                   let y : _≡_ {A = ℕ} 0 1 = cc in
                   omega arith

@@ -138,7 +138,8 @@ module _ (sh : Shape) (wd : 1 ≤ sh .width) where
     ahead : (L : Order (keys sh wd)) → ((e : Entry (keys sh wd)) → Mem e L → Mem e (F .ghost .order)) → MarkedAhead M (tickets L) (answers sh wd L)
     ahead [] h = tt
     ahead (enqueue x ∷ L) h = (
-      λ a r. absurd (Option·none-ne-some _ (sym (F .agrees .what (ticket x) ∙ ap itemAsked a) ∙ F .ord .whole .entries (enqueue x) (h (enqueue x) (here refl)))),
+      λ a r. let put = F .ord .whole .entries (enqueue x) (h (enqueue x) (here refl)) in
+          absurd (Option·none-ne-some _ (sym (F .agrees .what (ticket x) ∙ ap itemAsked a) ∙ put)),
       ahead L (λ e k. h e (there k)),
     )
     ahead (dequeue z n ∷ L) h = (

@@ -4,12 +4,11 @@
 --     plain                    the queue, fed the calls, gives the replies
 -- Assumes nothing.
 use mathlib.Core.Path.{_≡_, refl, sym, _∙_, ap, subst}
-use mathlib.Core.Bool.{Bool, true, false, cond}
+use mathlib.Core.Bool.{true, cond}
 use mathlib.Core.Logic.{_⊎_, inl, inr}
 use mathlib.Core.Option.{Option, none, some}
 use mathlib.Core.List.{List, [], _∷_, List·Memᴰ as Mem, List·Memᴰ·head as here, List·Memᴰ·tail as there}
-use Prim.Native.Nat.{ℕ, _≤_}
-use native.Mathlib.Omega.{arith}
+use Prim.Native.Nat.{_≤_}
 use lib.Dec.{eqb}
 use borrow.Author.Tests.{eq-eqb, ne-eqb}
 use Rattle.arrival.specs.declared.Shape.{Shape}
@@ -17,8 +16,10 @@ use Rattle.arrival.specs.declared.Item.{Item}
 use Rattle.arrival.specs.declared.Response.the-variants.{Stored, Empty}
 use Rattle.arrival.specs.Keys.{lower}
 use Rattle.arrival.specs.Queue as queue
-use Rattle.arrival.specs.Queue.{Call, Reply, lowerOf, lowest, remove, taken, replies}
-use Rattle.order.specs.Entries.{Element, enqueue, dequeue, empty, scan, Q, Order, _≺_, ticket, irrefl, trans, same?, at-most-below, keep, without, without-mem}
+use Rattle.arrival.specs.Queue.{Call, Reply, lowest, remove, taken, replies}
+use Rattle.arrival.specs.QueueLaws.{lowest-none, lowest-in, lowest-least}
+use Rattle.laws.specs.Tests.{never}
+use Rattle.order.specs.Entries.{Element, enqueue, dequeue, empty, scan, Q, Order, _≺_, ticket, same?, keep, without, without-mem}
 use Rattle.order.specs.Entries.{Below, Legal}
 use Rattle.interleavings.specs.ItemKeys.{keys}
 
@@ -42,40 +43,13 @@ module _ (sh : Shape) (wd : 1 ≤ sh .width) where
   items [] = []
   items (p ∷ S) = p .it ∷ items S
 
-  -- ── the lowest ──
-  abbrev Lowest : Q (keys sh wd) → Option Item → Type 0
-  Lowest S none = (q : Element (keys sh wd)) → ¬ Mem q S
-  Lowest S (some x) = (p : Element (keys sh wd)) × (p .it ≡ x) × Mem p S × ¬ Below S p
+  items-in : (S : Q (keys sh wd)) (x : Item) → Mem x (items S) → (p : Element (keys sh wd)) × Mem p S × (p .it ≡ x)
+  items-in (p ∷ S) x (here e) = (p, here refl, sym e)
+  items-in (p ∷ S) x (there i) = let (q, j, e) = items-in S x i in (q, there j, e)
 
-  lowest-step : (p : Element (keys sh wd)) (S : Q (keys sh wd)) (o : Option Item) → Lowest S o → Lowest (p ∷ S) (some (lowerOf (p .it) o))
-  lowest-step p S none h = (p, refl, here refl, alone)
-    where
-      alone : ¬ Below (p ∷ S) p
-      alone (q, here e, l) = irrefl q p e l
-      alone (q, there m, l) = h q m
-  lowest-step p S (some x) (y, e, k, n) = go (lower x (p .it)) refl
-    where
-      go : (t : Bool) → lower x (p .it) ≡ t → Lowest (p ∷ S) (some (cond t x (p .it)))
-      go true l = (y, e, there k, low)
-        where
-          below : y ≺ p
-          below = subst (λ z. lower z (p .it) ≡ true) (sym e) l
-
-          low : ¬ Below (p ∷ S) y
-          low (q, here f, g) = irrefl q q refl (trans q y q g (subst (λ t. y ≺ t) (sym f) below))
-          low (q, there j, g) = n (q, j, g)
-      go false l = (p, refl, here refl, low)
-        where
-          not-below : ¬ (y ≺ p)
-          not-below h = let z : true ≡ false = sym (subst (λ z. lower z (p .it) ≡ true) e h) ∙ l in let u : _≡_ {A = ℕ} 0 1 = cc in omega arith
-
-          low : ¬ Below (p ∷ S) p
-          low (q, here f, g) = irrefl q p f g
-          low (q, there j, g) = not-below (at-most-below q y p (λ f. n (q, j, f)) g)
-
-  lowest-ok : (S : Q (keys sh wd)) → Lowest S (lowest (items S))
-  lowest-ok [] = λ q m. elim m [ ]
-  lowest-ok (p ∷ S) = lowest-step p S (lowest (items S)) (lowest-ok S)
+  in-items : (S : Q (keys sh wd)) (p : Element (keys sh wd)) → Mem p S → Mem (p .it) (items S)
+  in-items (q ∷ S) p (here e) = here (ap (λ (u : Element (keys sh wd)). u .it) e)
+  in-items (q ∷ S) p (there i) = there (in-items S p i)
 
   -- two of the queue are one, or one is lower; and with one ticket they are one
   abbrev pub Apart : (Element (keys sh wd) → Type 0) → Type 0
@@ -83,23 +57,24 @@ module _ (sh : Shape) (wd : 1 ≤ sh .width) where
 
   lowest-is : (S : Q (keys sh wd)) (z : Element (keys sh wd)) → ((y : Element (keys sh wd)) → Mem y S → (y ≡ z) ⊎ ((y ≺ z) ⊎ (z ≺ y))) → Mem z S → ¬ Below S z
       → lowest (items S) ≡ some (z .it)
-  lowest-is S z t m n = go (lowest (items S)) (lowest-ok S)
+  lowest-is S z t m n = go (lowest (items S)) refl
     where
-      go : (o : Option Item) → Lowest S o → o ≡ some (z .it)
-      go none h = absurd (h z m)
-      go (some x) (y, e, k, l) = pick (t y k)
+      go : (o : Option Item) → lowest (items S) ≡ o → o ≡ some (z .it)
+      go none e = absurd (lowest-none (items S) (z .it) e (in-items S z m))
+      go (some x) e = let (y, k, q) = items-in S x (lowest-in (items S) x e) in pick y k q (t y k)
         where
-          pick : (y ≡ z) ⊎ ((y ≺ z) ⊎ (z ≺ y)) → some x ≡ some (z .it)
-          pick (inl f) = ap some (sym e ∙ ap (λ (u : Element (keys sh wd)). u .it) f)
-          pick (inr (inl g)) = absurd (n (y, k, g))
-          pick (inr (inr g)) = absurd (l (z, m, g))
+          pick : (y : Element (keys sh wd)) → Mem y S → y .it ≡ x → (y ≡ z) ⊎ ((y ≺ z) ⊎ (z ≺ y)) → some x ≡ some (z .it)
+          pick y k q (inl f) = ap some (sym q ∙ ap (λ (u : Element (keys sh wd)). u .it) f)
+          pick y k q (inr (inl g)) = absurd (n (y, k, g))
+          pick y k q (inr (inr g)) =
+              never (sym (lowest-least (items S) x (z .it) e (in-items S z m)) ∙ subst (λ (u : Item). lower (z .it) u ≡ true) q g)
 
-  lowest-none : (S : Q (keys sh wd)) → ((q : Element (keys sh wd)) → ¬ Mem q S) → lowest (items S) ≡ none
-  lowest-none S n = go (lowest (items S)) (lowest-ok S)
+  nothing-lowest : (S : Q (keys sh wd)) → ((q : Element (keys sh wd)) → ¬ Mem q S) → lowest (items S) ≡ none
+  nothing-lowest S n = go (lowest (items S)) refl
     where
-      go : (o : Option Item) → Lowest S o → o ≡ none
-      go none h = refl
-      go (some x) (y, e, k, l) = absurd (n y k)
+      go : (o : Option Item) → lowest (items S) ≡ o → o ≡ none
+      go none e = refl
+      go (some x) e = let (y, k, q) = items-in S x (lowest-in (items S) x e) in absurd (n y k)
 
   removed : (S : Q (keys sh wd)) (z : Element (keys sh wd)) → ((y : Element (keys sh wd)) → Mem y S → ticket y ≡ ticket z → y ≡ z)
       → remove (ticket z) (items S) ≡ items (without S z)
@@ -129,7 +104,7 @@ module _ (sh : Shape) (wd : 1 ≤ sh .width) where
       old y (inl j) = inl (without-mem S z j .0)
       old y (inr j) = inr (there j)
   plain S (empty c ∷ L) t l =
-      let e : lowest (items S) ≡ none = lowest-none S (l .0) in
+      let e : lowest (items S) ≡ none = nothing-lowest S (l .0) in
       rw e (ap (record { response = Empty; ticket = 0 } ∷_) (plain S L (λ y z a b. t y z (old y a) (old z b)) (l .1)))
     where
       old : (y : Element (keys sh wd)) → Mem y S ⊎ Mem (enqueue y) L → Mem y S ⊎ Mem (enqueue y) (empty c ∷ L)

@@ -67,7 +67,8 @@ module _ (sh : Shape) (wd : 1 ≤ sh .width) (m : Memory) (L : Ledger) (F : Foll
 
   pub marked-put : (d : ℕ) (x : Item) → L .marked d ≡ some x → L .asked (x .ticket) ≡ queue.enqueue x
   marked-put d x e =
-      asked-put (L .asked (x .ticket)) x (sym (F .agrees .what (x .ticket)) ∙ F .ord .whole .entries (enqueue (elem x)) (put-entry d x (marked-entry sh wd m L F d x e)))
+      let put = put-entry d x (marked-entry sh wd m L F d x e) in
+      asked-put (L .asked (x .ticket)) x (sym (F .agrees .what (x .ticket)) ∙ F .ord .whole .entries (enqueue (elem x)) put)
 
   pub marked-once : (c d : ℕ) (x y : Item) → L .marked c ≡ some x → L .marked d ≡ some y → x .ticket ≡ y .ticket → c ≡ d
   marked-once c d x y e f t =

@@ -153,7 +153,8 @@ module _ (L : Ledger) where
         → Without t (remaining S o)
     marked-gone S [] t f one new l (e, i, q, k) = absurd (List·Memᴰ·not-nil i)
     marked-gone S (c ∷ o) t f one new l (e, i, q, k) =
-        go (List·Memᴰ·cases-cons i) (λ j. marked-gone (after S (L .asked c)) o t (f .1) (one .1) (λ x p. new-behind x (after-in S (L .asked c) x p)) l (e, j, q, k))
+        go (List·Memᴰ·cases-cons i)
+        (λ j. marked-gone (after S (L .asked c)) o t (f .1) (one .1) (λ x p. new-behind x (after-in S (L .asked c) x p)) l (e, j, q, k))
       where
         new-behind : (x : Item) → Mem x S ⊎ (L .asked c ≡ enqueue x) → Mem (x .ticket) o → ⊥
         new-behind x (inl p) j = new x p (there j)

@@ -24,7 +24,7 @@ use Rattle.taken_list.specs.Promises.{InLists, Quiet, TakesInTurn, nth, 
 use Rattle.calendar.specs.facts.LedgerLaws.{Lawful, Kept}
 use Rattle.taken_list.specs.Along.{remaining, Fits, fits, fits-front, fits-behind, Put, Marked, remaining-put, in-or-marked, marked-gone}
 use Rattle.taken_list.specs.OneTake.{time-behind, one-put, marked-is, met, marks-takes}
-use Rattle.taken_list.specs.Fates.{in-lists, lists-put}
+use Rattle.taken_list.specs.Fates.{in-lists, lists-put, holder-busy}
 use Rattle.taken_list.specs.InTurn.{countFrom, in-turn}
 use Rattle.taken_list.specs.TakesAlone.{divided, ascending-drained, drained-answers}
 
@@ -45,10 +45,7 @@ module _ (sh : Shape) (m : Memory) (L : Ledger) (C : Correct sh m L) (G : Lawful
   marked-ended d x k = go (C .marked-kept d x k)
     where
       go : HeldBy sh m L d x ⊎ AnsweredBy L d x → Finished L d
-      go (inl (i, l, c, e, q)) =
-          let (kind, stage) = parts (eqb (worker (m .table) i .kind) 1) _ e in
-          let (lo, hi) = within 1 3 (worker (m .table) i .stage) stage in
-          absurd (nobody d (i, l, c, is-not (worker (m .table) i .stage) 0 (λ z. omega arith)))
+      go (inl h) = absurd (nobody d (holder-busy sh m L C G d x h))
       go (inr h) = h .0
 
   module _ (n : Memory) (M : Ledger) (D : Correct sh n M) (H : Lawful sh M) (K : Kept L M) (turns : TakesInTurn (L .started) M) where
@@ -162,7 +159,8 @@ module _ (sh : Shape) (m : Memory) (L : Ledger) (C : Correct sh m L) (G : Lawful
       answered k f =
           let e : suc (L .started) + k ≡ L .started + suc k = omega arith in
           let i : Mem (L .started + suc k) rest = in-rest (L .started + suc k) (omega arith) f in
-          let (j, l, q) = words-in (λ c. c) (suc (L .started)) (length rest) (L .started + suc k) (subst (λ (o : List ℕ). Mem (L .started + suc k) o) counted i) in
+          let (j, l, q) = words-in (λ c. c) (suc (L .started)) (length rest) (L .started + suc k)
+          (subst (λ (o : List ℕ). Mem (L .started + suc k) o) counted i) in
           subst (λ c. poolReply M c ≡ dequeued (nth (drained (length items) items) k)) e
           (drained-answers M (length items) items (suc (L .started)) (length rest) k (omega arith) behind takes (omega arith)
           (subst (λ c. Finished M c) (sym e) f))

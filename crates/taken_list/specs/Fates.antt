@@ -1,6 +1,7 @@
 -- Promise 5: what a finished take answered was put, and what was put is answered once, held once, or in the lists.
---     in-lists, not-in-lists     an arrival is in the lists, or not, by the count of its nodes
---     once-each                  the promise
+--     in-lists, lists-put     an arrival is in the lists where its nodes count, and only what was put is
+--     holder-busy             who holds an arrival is in progress
+--     once-each               the promise
 -- Assumes nothing.
 use mathlib.Core.Path.{_≡_, refl, sym, ap, _∙_, subst}
 use mathlib.Core.Logic.{_≢_, _⊎_, inl, inr}
@@ -20,7 +21,7 @@ use Rattle.calendar.specs.rules.Ranges.{worker}
 use Rattle.calendar.specs.rules.Operations.{Memory}
 use Rattle.calendar.specs.rules.Ledger.{Ledger}
 use Rattle.calendar.specs.rules.Snapshot.{unmarkedOf}
-use Rattle.calendar.specs.rules.Linearizability.{Finished, poolReply, HeldBy, AnsweredBy, Correct}
+use Rattle.calendar.specs.rules.Linearizability.{Finished, poolReply, InProgress, HeldBy, AnsweredBy, Correct}
 use Rattle.taken_list.specs.Promises.{Answers, InLists, Fate, OnceEach}
 use Rattle.calendar.specs.facts.LedgerLaws.{Lawful}
 use Rattle.lists.specs.Walks.{unmarked-there, there-unmarked}
@@ -62,12 +63,15 @@ module _ (sh : Shape) (m : Memory) (L : Ledger) (C : Correct sh m L) (G : Lawful
               inr (x, ((f, ap (λ (u : Reply). u .response) said), marked-is sh m L C G d x put (ap (λ (u : Reply). u .ticket) said)), put)
 
   -- ── a finished put ──
-  -- who holds an arrival has not ended
-  holds-on : (d : ℕ) (x : Item) → HeldBy sh m L d x → Finished L d → ⊥
-  holds-on d x (i, l, c, e, q) (s, f) =
+  -- who holds an arrival is in progress
+  pub holder-busy : (d : ℕ) (x : Item) → HeldBy sh m L d x → InProgress sh m L d
+  holder-busy d x (i, l, c, e, q) =
       let (kind, stage) = parts (eqb (worker (m .table) i .kind) 1) _ e in
       let (lo, hi) = within 1 3 (worker (m .table) i .stage) stage in
-      Option·none-ne-some _ (sym (C .in-progress-not-ended d (i, l, c, is-not (worker (m .table) i .stage) 0 (λ z. omega arith))) ∙ f)
+      (i, l, c, is-not (worker (m .table) i .stage) 0 (λ z. omega arith))
+
+  holds-on : (d : ℕ) (x : Item) → HeldBy sh m L d x → Finished L d → ⊥
+  holds-on d x h (s, f) = Option·none-ne-some _ (sym (C .in-progress-not-ended d (holder-busy d x h)) ∙ f)
 
   fate-of : (x : Item) → L .asked (x .ticket) ≡ enqueue x → Finished L (x .ticket) → Fate sh m L x
   fate-of x a f = go (C .not-lost (x .ticket) x a f)

@@ -36,7 +36,9 @@ module _ (L : Ledger) where
     where
       -- the call after n has ended before any other started, so none stands in front of it
       later : suc n < x → ⊥
-      later h = let (s, e, l) = apart (suc n) (omega arith) (omega (arith, range x (here refl) .1)) in go (s, e, l) (List·Memᴰ·cases-cons (fin (suc n) (omega arith) (s, e)))
+      later h =
+          let (s, e, l) = apart (suc n) (omega arith) (omega (arith, range x (here refl) .1)) in
+          go (s, e, l) (List·Memᴰ·cases-cons (fin (suc n) (omega arith) (s, e)))
         where
           go : EndedBefore L (suc n) (suc n + 1) → (suc n ≡ x) ⊎ Mem (suc n) o → ⊥
           go q (inl e) = omega arith

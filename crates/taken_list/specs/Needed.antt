@@ -218,7 +218,10 @@ unfolding seen item beginning goingOn one-bucket history start arrival turns put
     isFree firstFreeOf firstFree wordsFrom openStore openTable enqueueStart dequeueStart found settle step-1 step-2 step-3 step-4 step-5 step-6 step-7
     walk step-8 step-9 step-10 step-11 step-12 step-13 no-step step openRefusal enqueueRefusal dequeueRefusal stepRefusal open-pool act run ledger
     nodesFrom lower bucketOf energyOf
-quiet-needed = (λ c lo hi. let z : c ≡ 2 = omega arith in (rw z refl, λ h. absurd (omega arith)), λ D. go (D .left) (D .left-listed) (D .answers 0 (2, going-on-run .0)))
+quiet-needed = (
+  λ c lo hi. let z : c ≡ 2 = omega arith in (rw z refl, λ h. absurd (omega arith)),
+  λ D. go (D .left) (D .left-listed) (D .answers 0 (2, going-on-run .0)),
+)
   where
     go : (left : List Item) → ((x : Item) → List·Memᴰ x left → InLists one-bucket (run one-bucket start beginning) x)
         → poolReply (afterwards beginning goingOn) 2 ≡ dequeued (nth left 0) → ⊥

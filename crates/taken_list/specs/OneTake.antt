@@ -85,7 +85,8 @@ module _ (sh : Shape) (m : Memory) (L : Ledger) (C : Correct sh m L) (G : Lawful
           marked : (x : Item) → L .asked (x .ticket) ≡ enqueue x → Mem x (remaining L [] front) ⊎ Marked L front (x .ticket)
               → Mem x (remaining L [] front) ⊎ ((c : ℕ) × (c ≢ d) × (L .marked c ≡ some x) × (EndedBefore L d c → ⊥))
           marked x a (inl i) = inl i
-          marked x a (inr (c, i, q, t)) = inr (c, once-apart front (d ∷ rest) c d O i (here refl), marked-is c x a t, time-apart L front (d ∷ rest) c d T i (here refl))
+          marked x a (inr (c, i, q, t)) =
+              inr (c, once-apart front (d ∷ rest) c d O i (here refl), marked-is c x a t, time-apart L front (d ∷ rest) c d T i (here refl))
 
           -- a put that had ended before d started stands in front of it
           place : (x : Item) → L .asked (x .ticket) ≡ enqueue x → EndedBefore L (x .ticket) d → Mem (x .ticket) front ⊎ Mem (x .ticket) (d ∷ rest)

@@ -1,12 +1,13 @@
 -- All orders of a ledger's calls that may be a linearization, listed by a search: an order is built from the front, and a call
--- comes next only if no call that is left had ended before it started, and the sequential queue answers as the pool did. The
--- order of every linearization is in the list; where the list is empty, there is none.
+-- comes next only if no call that is left had ended before it started, the sequential queue answers as the pool did, and gives
+-- an unfinished take what it has marked. The order of every linearization is in the list; where the list is empty, there is none.
 --     isFinished, endedBefore, sameReply     tests on calls
+--     marksThat                              an unfinished call has marked what it is given
 --     mayEnd, mayBeNext                      what is left may be left out; a call may come next
 --     ordersOf, admitted                     the orders found; of a ledger
 --     linearization-admitted                 the order of every linearization is among them
 -- Assumes nothing.
-use mathlib.Core.Path.{_≡_, refl}
+use mathlib.Core.Path.{_≡_, refl, sym, subst}
 use mathlib.Core.List.{List, [], _∷_, _++_, map, List·Memᴰ, List·Memᴰ·head, List·Memᴰ·tail, List·Memᴰ·not-nil, Memᴰ·map, Memᴰ·append-right}
 use mathlib.Core.Bool.{Bool, true, false, cond, not, _&&_, _||_}
 use mathlib.Core.Option.{Option, none, some}
@@ -15,13 +16,14 @@ use native.Mathlib.Omega.{arith}
 use lib.Dec.{eqb, ltb}
 use lib.ListN.{length}
 use borrow.Author.Tests.{eq-eqb, ltb-true}
+use Rattle.arrival.specs.declared.Item.{Item}
 use Rattle.arrival.specs.declared.Response.{Response}
 use Rattle.arrival.specs.declared.Response.the-variants.{Opened, Begun, On, Stored, Took, Empty, Refused}
-use Rattle.arrival.specs.Queue.{Reply, Items, reply, after, replies}
+use Rattle.arrival.specs.Queue.{Call, enqueue, dequeue, Reply, Items, dequeued, reply, after, replies}
 use Rattle.laws.specs.Lists.{mem-behind, Once, without, without-in, in-without, without-less, upTo, up-to-in, length-up-to}
 use Rattle.laws.specs.Lists.{sameNumbers, same-numbers, all, all-true, gathered, gathered-in}
 use Rattle.calendar.specs.rules.Ledger.{Ledger}
-use Rattle.calendar.specs.rules.Linearizability.{Finished, EndedBefore, RespectsTime, poolReply, Agree, Linearization}
+use Rattle.calendar.specs.rules.Linearizability.{Finished, EndedBefore, RespectsTime, poolReply, Agree, MarkedAhead, Linearization}
 
 -- ── tests ──
 abbrev pub isFinished : Option ℕ → Bool
@@ -50,6 +52,11 @@ Same r q = r ≡ q
 abbrev pub sameReply : Reply → Reply → Bool
 sameReply r q = eqb (r .ticket) (q .ticket) && sameNumbers (numbers (r .response)) (numbers (q .response))
 
+abbrev pub marksThat : Call → Option Item → Reply → Bool
+marksThat (enqueue x) k r = true
+marksThat dequeue none r = false
+marksThat dequeue (some x) r = sameReply r (dequeued (some x))
+
 -- ── the search ──
 -- what is left need not be there: none of it has finished
 abbrev pub mayEnd : Ledger → List ℕ → Bool
@@ -58,7 +65,9 @@ mayEnd L rest = all (λ c. not (isFinished (L .ended c))) rest
 -- c comes next, the queue holding S
 abbrev pub mayBeNext : Ledger → Items → List ℕ → ℕ → Bool
 mayBeNext L S rest c =
-    all (λ y. not (endedBefore (L .ended y) c)) (without c rest) && (not (isFinished (L .ended c)) || sameReply (reply S (L .asked c)) (poolReply L c))
+    all (λ y. not (endedBefore (L .ended y) c)) (without c rest)
+    && (not (isFinished (L .ended c)) || sameReply (reply S (L .asked c)) (poolReply L c))
+    && (isFinished (L .ended c) || marksThat (L .asked c) (L .marked c) (reply S (L .asked c)))
 
 abbrev ended : Bool → List (List ℕ)
 ended t = cond t ([] ∷ []) []
@@ -104,6 +113,16 @@ module _ (L : Ledger) where
       go none e = refl
       go (some s) e = same-reply r (poolReply L c) (h (s, e))
 
+  ahead : (c : ℕ) (r : Reply) → (L .asked c ≡ dequeue → L .ended c ≡ none → (x : Item) × (L .marked c ≡ some x) × Same r (dequeued (some x)))
+      → (isFinished (L .ended c) || marksThat (L .asked c) (L .marked c) r) ≡ true
+  ahead c r h = go (L .ended c) refl (L .asked c) refl
+    where
+      go : (o : Option ℕ) → L .ended c ≡ o → (a : Call) → L .asked c ≡ a → (isFinished o || marksThat a (L .marked c) r) ≡ true
+      go (some s) e a q = refl
+      go none e (enqueue x) q = refl
+      go none e dequeue q =
+          let (x, k, f) = h q e in subst (λ (o : Option Item). marksThat dequeue o r ≡ true) (sym k) (same-reply r (dequeued (some x)) f)
+
   -- nothing that is left has finished
   stops : (rest : List ℕ) → ((c : ℕ) → List·Memᴰ c rest → Finished L c → List·Memᴰ c []) → mayEnd L rest ≡ true
   stops rest fin = all-true (λ c. not (isFinished (L .ended c))) rest (λ c i. not-finished c (λ f. List·Memᴰ·not-nil (fin c i f)))
@@ -111,30 +130,34 @@ module _ (L : Ledger) where
   -- what stands first may come next
   comes-next : (S : Items) (rest : List ℕ) (c : ℕ) (o : List ℕ) → ((d : ℕ) → List·Memᴰ d rest → Finished L d → List·Memᴰ d (c ∷ o)) → RespectsTime L (c ∷ o)
       → (Finished L c → Same (reply S (L .asked c)) (poolReply L c))
+      → (L .asked c ≡ dequeue → L .ended c ≡ none → (x : Item) × (L .marked c ≡ some x) × Same (reply S (L .asked c)) (dequeued (some x)))
       → mayBeNext L S rest c ≡ true
-  comes-next S rest c o fin time agree =
-      rw (all-true (λ y. not (endedBefore (L .ended y) c)) (without c rest) (λ y i. let (j, apart) = without-in c y rest i in
-      not-ended y c (λ (s, e, l). time .0 y (mem-behind apart (fin y j (s, e))) (s, e, l))))
-      (answered c (reply S (L .asked c)) agree)
+  comes-next S rest c o fin time agree marked =
+      rw (
+        all-true (λ y. not (endedBefore (L .ended y) c)) (without c rest) (λ y i. let (j, apart) = without-in c y rest i in
+            not-ended y c (λ (s, e, l). time .0 y (mem-behind apart (fin y j (s, e))) (s, e, l))),
+        answered c (reply S (L .asked c)) agree,
+      )
+      (ahead c (reply S (L .asked c)) marked)
 
   listed : (n : ℕ) (S : Items) (rest o : List ℕ) → length rest ≤ n → ((c : ℕ) → List·Memᴰ c o → List·Memᴰ c rest) → Once o
       → ((c : ℕ) → List·Memᴰ c rest → Finished L c → List·Memᴰ c o)
-      → RespectsTime L o → Agree L o (replies S (map (L .asked) o)) → List·Memᴰ o (ordersOf L n S rest)
+      → RespectsTime L o → Agree L o (replies S (map (L .asked) o)) → MarkedAhead L o (replies S (map (L .asked) o)) → List·Memᴰ o (ordersOf L n S rest)
   unfolding ordersOf
-  listed zero S rest [] fuel sub one fin time agree = rw (stops rest fin) (List·Memᴰ·head refl)
-  listed (suc n) S rest [] fuel sub one fin time agree = rw (stops rest fin) (List·Memᴰ·head refl)
-  listed zero S rest (c ∷ o) fuel sub one fin time agree = absurd (omega (arith, without-less c rest (sub c (List·Memᴰ·head refl))))
-  listed (suc n) S rest (c ∷ o) fuel sub one fin time agree =
+  listed zero S rest [] fuel sub one fin time agree marked = rw (stops rest fin) (List·Memᴰ·head refl)
+  listed (suc n) S rest [] fuel sub one fin time agree marked = rw (stops rest fin) (List·Memᴰ·head refl)
+  listed zero S rest (c ∷ o) fuel sub one fin time agree marked = absurd (omega (arith, without-less c rest (sub c (List·Memᴰ·head refl))))
+  listed (suc n) S rest (c ∷ o) fuel sub one fin time agree marked =
       Memᴰ·append-right (ended (mayEnd L rest))
       (gathered-in (λ d. next (mayBeNext L S rest d) d (ordersOf L n (after S (L .asked d)) (without d rest))) rest c (c ∷ o) (sub c (List·Memᴰ·head refl))
-      (rw (comes-next S rest c o fin time (agree .0))
+      (rw (comes-next S rest c o fin time (agree .0) (marked .0))
       (Memᴰ·map (λ (o : List ℕ). c ∷ o)
       (listed n (after S (L .asked c)) (without c rest) o (omega (arith, without-less c rest (sub c (List·Memᴰ·head refl))))
       (λ d i. in-without c d rest (sub d (List·Memᴰ·tail i)) (one .0 d i)) (one .1)
-      (λ d i f. let (j, apart) = without-in c d rest i in mem-behind apart (fin d j f)) (time .1) (agree .1)))))
+      (λ d i f. let (j, apart) = without-in c d rest i in mem-behind apart (fin d j f)) (time .1) (agree .1) (marked .1)))))
 
   -- THE ORDER OF EVERY LINEARIZATION IS IN THE LIST
   pub linearization-admitted : (X : Linearization L) → List·Memᴰ (X .order) (admitted L)
   linearization-admitted X =
       listed (L .started) [] (upTo (L .started)) (X .order) (omega (arith, length-up-to (L .started)))
-      (λ c i. let (lo, hi) = X .calls c i in up-to-in (L .started) c lo hi) (X .once) (λ c i. X .finished c) (X .real-time) (X .agrees)
+      (λ c i. let (lo, hi) = X .calls c i in up-to-in (L .started) c lo hi) (X .once) (λ c i. X .finished c) (X .real-time) (X .agrees) (X .marked-ahead)

@@ -63,6 +63,10 @@ emptied = finds-none 1 (asks 1 (stores 0 (item 10 1) new))
 pub unfinished : Ledger
 unfinished = takes 1 (item 10 1) (asks 1 (begins 0 (enqueue (item 10 1)) new))
 
+-- an arrival is stored, a take begins and has marked what f says, and another take that starts then finds none
+pub taking : (Ledger → Ledger) → Ledger
+taking f = finds-none 1 (asks 1 (f (asks 0 (stores 1 (item 10 1) new))))
+
 -- ── what they admit ──
 -- PASSING OVER 15 AND TAKING 20: no order
 pub passed-over : Linearization (paused (item 20 2)) → ⊥
@@ -92,3 +96,13 @@ not-empty = none-there emptied refl
 pub put-added : (X : Linearization unfinished) → X .order ≡ 1 ∷ 2 ∷ []
 unfolding unfinished item asks takes ordersOf below lower energyOf
 put-added = forced unfinished _ refl
+
+-- an unfinished take that has marked nothing takes nothing: no order
+pub nothing-in-hand : Linearization (taking (λ L. L)) → ⊥
+unfolding taking item stores asks finds-none ordersOf below lower energyOf
+nothing-in-hand = none-there (taking (λ L. L)) refl
+
+-- one that has marked the arrival has it in hand
+pub in-hand : (X : Linearization (taking (marks 0 (item 10 1)))) → X .order ≡ 1 ∷ 2 ∷ 3 ∷ []
+unfolding taking item stores asks finds-none ordersOf below lower energyOf
+in-hand = forced (taking (marks 0 (item 10 1))) _ refl

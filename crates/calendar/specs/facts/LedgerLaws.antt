@@ -75,9 +75,10 @@ module _ (sh : Shape) where
       noted : (a : Action) → refusal sh m a ≡ 0 → Lawful sh (notes sh m a (outcome sh m a .response) L)
       noted (Enqueue i y) e =
           let A = enqueue-accepted sh (m .store) (m .table) i y e in
+          let home = bucket-below sh (y .time) wd (A .time) in
           lawful-begins i (queue.enqueue (itemOf y (L .started + 1))) L
           (λ x q. let z : itemOf y (L .started + 1)
-          ≡ x = cc in (ap (λ (u : Item). u .ticket) (sym z), subst (λ (u : Item). bucketOf sh (u .time) < sh .buckets) z (bucket-below sh (y .time) wd (A .time)))) G
+          ≡ x = cc in (ap (λ (u : Item). u .ticket) (sym z), subst (λ (u : Item). bucketOf sh (u .time) < sh .buckets) z home)) G
       noted (Dequeue i) e = lawful-begins i queue.dequeue L (λ x q. absurd (let z : _≡_ {A = ℕ} 0 1 = cc in omega arith)) G
       noted (Step i) e =
           lawful-hears i (outcome sh m (Step i) .response) (sees sh m i L)
