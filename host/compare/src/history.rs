@@ -3,8 +3,8 @@
 
 use std::fmt;
 
-use order::{Answer, History, Kind};
-use second::{Record, Records, Refusal};
+use order::{Answer, Call, History, Kind};
+use second::{Record, Records, Refusal, Shape};
 
 use crate::line::{Line, Taken};
 use crate::record::show;
@@ -15,7 +15,10 @@ use crate::record::show;
 pub struct Opened {
     /// The place of the opening.
     pub opening: usize,
+    pub shape: Shape,
     pub history: History<Taken>,
+    /// For each call the place of its first turn, if it has had one.
+    pub first_turns: Vec<Option<usize>>,
 }
 
 /// A line that cannot be, whatever the order of the calls.
@@ -65,16 +68,37 @@ impl<'a> Run<'a> {
         self.lines.get(place).copied().unwrap_or("(no line)")
     }
 
+    pub fn fault(&self, at: usize, why: &'static str) -> Fault {
+        let (record, line) = (self.record(at), self.line(at).to_string());
+        Fault {
+            at,
+            record,
+            line,
+            why,
+        }
+    }
+
+    /// A call as a line of text.
+    pub fn call(&self, call: &Call<Taken>) -> String {
+        let Call { ticket, worker, .. } = call;
+        let kind = match call.kind {
+            Kind::Put(time, _) => format!("put at {time}"),
+            Kind::Take => "take".to_string(),
+        };
+        let (end, answer) = match call.end {
+            Some(end) => ((end.at + 1).to_string(), self.line(end.at)),
+            None => ("...".to_string(), "unfinished"),
+        };
+        let records = format!("{} to {end}", call.start + 1);
+        format!("  {ticket:<5}worker {worker:<4}{kind:<18}records {records:<14}{answer}\n")
+    }
+
     /// The calls of every history.
     pub fn histories(&self) -> Result<Vec<Opened>, Fault> {
         let mut histories = Histories::default();
         for place in 0..self.records.len().max(self.lines.len()) {
-            self.follow(&mut histories, place).map_err(|why| Fault {
-                at: place,
-                record: self.record(place),
-                line: self.line(place).to_string(),
-                why,
-            })?;
+            self.follow(&mut histories, place)
+                .map_err(|why| self.fault(place, why))?;
         }
         Ok(histories.0)
     }
@@ -85,8 +109,8 @@ impl<'a> Run<'a> {
         let line = Line::parse(text).ok_or("no such line")?;
         match (*record, line) {
             (_, Line::No(_)) => Ok(()),
-            (Ok(Record::Open(_)), Line::Open) => {
-                histories.open(place);
+            (Ok(Record::Open(shape)), Line::Open) => {
+                histories.open(place, shape);
                 Ok(())
             }
             (Ok(Record::EnqueueStart { worker, arrival }), Line::Begun(ticket)) => {
@@ -96,7 +120,9 @@ impl<'a> Run<'a> {
             (Ok(Record::DequeueStart { worker }), Line::Begun(ticket)) => {
                 histories.begin(worker.into(), ticket, Kind::Take, place)
             }
-            (Ok(Record::Step { worker }), Line::On) => histories.busy(worker.into()).map(drop),
+            (Ok(Record::Step { worker }), Line::On) => {
+                histories.turn(worker.into(), place).map(drop)
+            }
             (Ok(Record::Step { worker }), Line::Ended(answer)) => {
                 histories.end(worker.into(), place, answer)
             }
@@ -110,9 +136,13 @@ impl<'a> Run<'a> {
 struct Histories(Vec<Opened>);
 
 impl Histories {
-    fn open(&mut self, opening: usize) {
-        let history = History::default();
-        self.0.push(Opened { opening, history });
+    fn open(&mut self, opening: usize, shape: Shape) {
+        self.0.push(Opened {
+            opening,
+            shape,
+            history: History::default(),
+            first_turns: Vec::new(),
+        });
     }
 
     fn begin(
@@ -122,7 +152,8 @@ impl Histories {
         kind: Kind<Taken>,
         start: usize,
     ) -> Result<(), &'static str> {
-        let Opened { history, .. } = self.0.last_mut().ok_or("nothing is open")?;
+        let opened = self.0.last_mut().ok_or("nothing is open")?;
+        let history = &mut opened.history;
         if ticket != history.calls().len() as u64 + 1 {
             return Err("not the next ticket");
         }
@@ -130,18 +161,23 @@ impl Histories {
             return Err("the worker has a call in progress");
         }
         history.begin(worker, ticket, kind, start);
+        opened.first_turns.push(None);
         Ok(())
     }
 
-    /// The last history, in which the worker has a call in progress.
-    fn busy(&mut self, worker: usize) -> Result<&mut History<Taken>, &'static str> {
-        let last = self.0.last_mut().map(|opened| &mut opened.history);
-        last.filter(|history| history.is_busy(worker))
-            .ok_or("the worker has no call in progress")
+    /// A turn of a worker with a call in progress, in the last history.
+    fn turn(&mut self, worker: usize, at: usize) -> Result<&mut History<Taken>, &'static str> {
+        let idle = "the worker has no call in progress";
+        let opened = self.0.last_mut().ok_or(idle)?;
+        let calls = opened.history.calls();
+        let latest = calls.iter().rposition(|call| call.worker == worker);
+        let latest = latest.filter(|&latest| calls[latest].end.is_none());
+        opened.first_turns[latest.ok_or(idle)?].get_or_insert(at);
+        Ok(&mut opened.history)
     }
 
     fn end(&mut self, worker: usize, at: usize, answer: Answer<Taken>) -> Result<(), &'static str> {
-        self.busy(worker)?.end(worker, at, answer);
+        self.turn(worker, at)?.end(worker, at, answer);
         Ok(())
     }
 }

@@ -2,7 +2,7 @@
 
 use std::fmt::{self, Write};
 
-use order::{find_order, Kind};
+use order::find_order;
 
 use crate::history::{Fault, Opened, Run};
 use crate::line::Taken;
@@ -85,7 +85,7 @@ fn describe(run: &Run<'_>, opened: &Opened, last: usize) -> String {
         last + 1
     );
     for call in known_after(opened.history.calls(), last) {
-        push_call(&mut text, run, &call);
+        text.push_str(&run.call(&call));
     }
     text.push_str("records:\n");
     let mut place = opened.opening;
@@ -101,21 +101,4 @@ fn describe(run: &Run<'_>, opened: &Opened, last: usize) -> String {
         place += count;
     }
     text
-}
-
-fn push_call(text: &mut String, run: &Run<'_>, call: &Call) {
-    let Call { ticket, worker, .. } = call;
-    let kind = match call.kind {
-        Kind::Put(time, _) => format!("put at {time}"),
-        Kind::Take => "take".to_string(),
-    };
-    let (end, answer) = match call.end {
-        Some(end) => ((end.at + 1).to_string(), run.line(end.at)),
-        None => ("...".to_string(), "unfinished"),
-    };
-    let records = format!("{} to {end}", call.start + 1);
-    let _ = writeln!(
-        text,
-        "  {ticket:<5}worker {worker:<4}{kind:<18}records {records:<14}{answer}"
-    );
 }
