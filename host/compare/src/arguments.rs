@@ -6,9 +6,14 @@ pub const HELP: &str = "\
 usage: compare ENGINE [options]
 
 Runs the program ENGINE, which reads a turn file and prints one line a record,
-on many turn files. Its lines must be those of the second program, and in small
-histories its calls must have an order of a plain queue. Ends with status 0 if
-all is well, with 1 at the first difference, with 2 for wrong arguments.
+on many turn files. Its lines must be those of the second program; by themselves
+they must keep promises 2 to 5 on the arrivals taken (docs/READING.md), in files
+of any length; and in small histories its calls must have an order of a plain
+queue. Ends with status 0 if all is well, with 1 at the first file that is wrong,
+with 2 for wrong arguments. The last line counts where each promise had something
+to say: for 2 and 3 the puts that must be marked when some take ends, and those
+of them then held by another; for 4 the takes whose arrival had been in the pool
+all through another take; for 5 the answers, and those of alike arrivals.
 
 Files written by hand, cut files and files with wrong marks always run, and
 random files of some seeds: small histories, damaged ones and three long ones a

@@ -14,7 +14,7 @@ pub enum Line {
 }
 
 /// What a take prints of its arrival.
-#[derive(Clone, Copy, Debug, PartialEq, Eq)]
+#[derive(Clone, Copy, Debug, PartialEq, Eq, Hash)]
 pub struct Taken {
     pub time: u64,
     pub path: u64,

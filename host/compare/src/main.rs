@@ -8,6 +8,7 @@ use std::time::{SystemTime, UNIX_EPOCH};
 use compare::arguments::{self, Arguments, HELP};
 use compare::engine::Engine;
 use compare::suite;
+use compare::taken_list::Met;
 
 fn main() -> ExitCode {
     let words: Vec<String> = std::env::args().skip(1).collect();
@@ -32,10 +33,14 @@ fn compare(arguments: &Arguments) -> ExitCode {
         println!("fresh seeds {fresh:?}");
         seeds.extend(fresh);
     }
+    let mut met = Met::default();
     for group in suite::groups(&seeds, arguments.records) {
         let name = group.name;
         match suite::run(&engine, group) {
-            Ok(counts) => println!("{name:<16}{counts}"),
+            Ok(counts) => {
+                println!("{name:<16}{counts}");
+                met += counts.met;
+            }
             Err(failure) => {
                 print!("{failure}");
                 println!("again: {}", arguments::again(arguments, failure.seed));
@@ -43,6 +48,7 @@ fn compare(arguments: &Arguments) -> ExitCode {
             }
         }
     }
+    println!("promises        {met}");
     ExitCode::SUCCESS
 }
 

@@ -7,6 +7,7 @@ use crate::engine::{Engine, Printed};
 use crate::inputs::{self, Input};
 use crate::linearizability::{self, Checked};
 use crate::seeded;
+use crate::taken_list::{self, Met};
 
 /// Turn files under one name.
 pub struct Group<'a> {
@@ -53,6 +54,8 @@ pub struct Counts {
     pub lines: usize,
     /// The histories in which an order was found.
     pub checked: Checked,
+    /// Where the promises on the taken list had something to say.
+    pub met: Met,
 }
 
 impl fmt::Display for Counts {
@@ -87,9 +90,7 @@ impl fmt::Display for Failure {
 pub fn run(engine: &Engine, group: Group<'_>) -> Result<Counts, Failure> {
     let mut counts = Counts::default();
     for input in group.inputs {
-        let lines = run_input(engine, &input, &mut counts.checked);
-        counts.files += 1;
-        counts.lines += lines.map_err(|text| Failure {
+        run_input(engine, &input, &mut counts).map_err(|text| Failure {
             group: group.name,
             input: input.name.clone(),
             seed: input.seed,
@@ -99,8 +100,8 @@ pub fn run(engine: &Engine, group: Group<'_>) -> Result<Counts, Failure> {
     Ok(counts)
 }
 
-/// The number of lines, or what is wrong.
-fn run_input(engine: &Engine, input: &Input, checked: &mut Checked) -> Result<usize, String> {
+/// Counts what was run, or says what is wrong.
+fn run_input(engine: &Engine, input: &Input, counts: &mut Counts) -> Result<(), String> {
     let expected = expected(input)?;
     let Printed { output, status } = engine
         .run(&input.bytes)
@@ -109,21 +110,35 @@ fn run_input(engine: &Engine, input: &Input, checked: &mut Checked) -> Result<us
     if let Some(difference) = difference::first(&input.bytes, expected.as_bytes(), &output) {
         push_difference(&mut wrong, &difference, "second", "engine");
     }
-    if input.is_small {
-        match linearizability::check(&input.bytes, &String::from_utf8_lossy(&output)) {
-            Ok(more) => {
-                checked.histories += more.histories;
-                checked.calls += more.calls;
-            }
-            Err(violation) => wrong.push_str(&violation.to_string()),
-        }
-    }
+    push_violations(&mut wrong, input, &String::from_utf8_lossy(&output), counts);
     if wrong.is_empty() && !status.success() {
         wrong = format!("the lines are right, but the engine ended with {status}\n");
     }
+    counts.files += 1;
+    counts.lines += output.iter().filter(|&&byte| byte == b'\n').count();
     match wrong.is_empty() {
-        true => Ok(output.iter().filter(|&&byte| byte == b'\n').count()),
+        true => Ok(()),
         false => Err(wrong),
+    }
+}
+
+/// What is wrong in the lines themselves.
+fn push_violations(wrong: &mut String, input: &Input, output: &str, counts: &mut Counts) {
+    match taken_list::check(&input.bytes, output) {
+        Ok(met) => counts.met += met,
+        Err(violation) => wrong.push_str(&violation.to_string()),
+    }
+    if !input.is_small {
+        return;
+    }
+    match linearizability::check(&input.bytes, output) {
+        Ok(more) => {
+            counts.checked.histories += more.histories;
+            counts.checked.calls += more.calls;
+        }
+        // The taken list has it, too.
+        Err(linearizability::Violation::Fault(_)) => {}
+        Err(violation) => wrong.push_str(&violation.to_string()),
     }
 }
 

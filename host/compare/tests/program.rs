@@ -27,7 +27,7 @@ const FEW: [&str; 4] = ["--seeds", "0..2", "--records", "3000"];
 fn the_second_program_passes() {
     let (status, text) = compare(None, &FEW);
     assert_eq!(status, Some(0), "{text}");
-    assert_eq!(text.lines().count(), 10);
+    assert_eq!(text.lines().count(), 11);
     for line in [
         "worked example      1 files        15 records     1 histories       2 calls in order\n",
         "every shape         2 files      6000 records\n",
