@@ -34,6 +34,14 @@ fn the_second_program_passes() {
     ] {
         assert!(text.contains(line), "{text}");
     }
+    // Each promise had something to say, of histories of every group.
+    let last = text.lines().last().unwrap();
+    let words = last.strip_prefix("promises ").unwrap().split(' ');
+    let counts: Vec<u64> = words
+        .filter_map(|word| word.trim_matches(&['(', ')'][..]).parse().ok())
+        .collect();
+    assert_eq!(counts.len(), 8, "{last}");
+    assert!(counts[..7].iter().all(|&count| count > 100), "{last}");
 }
 
 #[test]
@@ -78,6 +86,31 @@ fn a_lost_arrival_is_refused() {
     assert!(text.contains("no order of a plain queue"), "{text}");
     let again = format!("again: compare {ENGINE} --seeds 3..4 --records 3000\n");
     assert!(text.ends_with(&again), "{text}");
+}
+
+/// Each promise is named, with the calls that break it.
+#[test]
+fn a_broken_promise_is_named() {
+    for (mistake, shown) in [
+        (
+            "PassNextAfterLoss",
+            "promise 2 (nothing earlier is passed over) is broken",
+        ),
+        ("PassNextAfterLoss", "promise 4 (two takes) is broken"),
+        ("StoredUnlinked", "promise 3 (empty means empty) is broken"),
+        (
+            "OtherPath",
+            "promise 5 (once each) is broken at record 15\n",
+        ),
+        (
+            "OtherPath",
+            "calls:\n  2    worker 0   take              records 8 to 15",
+        ),
+    ] {
+        let (status, text) = compare(Some(mistake), &FEW);
+        assert_eq!(status, Some(1), "{mistake}: {text}");
+        assert!(text.contains(shown), "{mistake}: {text}");
+    }
 }
 
 #[test]

@@ -1,9 +1,13 @@
-//! The second program, with its lines altered as the variable ALTER asks; without
-//! it, the second program itself.
+//! The second program, with its lines altered or with a mistake, as the variable
+//! ALTER asks; without it, the second program itself.
 #![forbid(unsafe_code)]
+
+mod mistaken;
 
 use std::io::{self, Read, Write};
 use std::process::ExitCode;
+
+use mistaken::Mistake;
 
 fn main() -> ExitCode {
     let how = match std::env::var("ALTER") {
@@ -15,10 +19,13 @@ fn main() -> ExitCode {
     };
     let mut input = Vec::new();
     io::stdin().lock().read_to_end(&mut input).expect("input");
-    let text = schedule::lines(&input[..]);
+    let mut mistakes = Mistake::ALL.into_iter();
+    let mistake = mistakes.find(|mistake| format!("{mistake:?}") == how);
+    let text = mistaken::print(mistake.unwrap_or(Mistake::None), &input);
+    let text = alter(text, &how);
     io::stdout()
         .lock()
-        .write_all(alter(text, &how).as_bytes())
+        .write_all(text.as_bytes())
         .expect("output");
     match how.as_str() {
         "status" => ExitCode::from(3),

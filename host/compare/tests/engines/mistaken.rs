@@ -1,0 +1,169 @@
+//! Wrong pools: the rules of the second program, with the lent memory spoilt after
+//! a turn, or another answer given.
+
+use schedule::lent::Memory;
+use second::layout::{field, CURRENT};
+use second::{stage, word, Answer, Lines, Record, Records, Response, Worker};
+use second::{LENT_RECORDS, LENT_WORDS};
+
+#[derive(Clone, Copy, Debug, PartialEq, Eq)]
+pub enum Mistake {
+    None,
+    /// A taker walks past a node of a higher epoch.
+    PassOver,
+    /// A node is free once it is marked.
+    FreeWhenMarked,
+    /// A node is free once its taker has ended.
+    FreeWhenTaken,
+    /// Stored is answered at the link.
+    StoredAtLink,
+    /// Current is lowered in the old epoch.
+    OldEpoch,
+    /// A taker takes the last node of a bucket.
+    LastOfBucket,
+    /// A taker that loses a node to another goes on behind the next one.
+    PassNextAfterLoss,
+    /// A taker answers empty at the end of any bucket.
+    EmptyBucket,
+    /// A taker takes a marked node, too.
+    TakeMarked,
+    /// A put that fails to link its node answers stored; the node is free.
+    StoredUnlinked,
+    /// A take answers another path.
+    OtherPath,
+}
+
+impl Mistake {
+    pub const ALL: [Self; 11] = [
+        Self::PassOver,
+        Self::FreeWhenMarked,
+        Self::FreeWhenTaken,
+        Self::StoredAtLink,
+        Self::OldEpoch,
+        Self::LastOfBucket,
+        Self::PassNextAfterLoss,
+        Self::EmptyBucket,
+        Self::TakeMarked,
+        Self::StoredUnlinked,
+        Self::OtherPath,
+    ];
+}
+
+/// What an engine with this mistake prints.
+pub fn print(mistake: Mistake, input: &[u8]) -> String {
+    let mut engine = Engine::new(mistake);
+    let mut output = Vec::new();
+    let mut lines = Lines::new(&mut output);
+    for record in Records::new(input) {
+        let answer = record.and_then(|record| engine.apply(record));
+        lines.write(&answer).unwrap();
+    }
+    lines.finish().unwrap();
+    String::from_utf8(output).unwrap()
+}
+
+struct Engine {
+    mistake: Mistake,
+    memory: Memory,
+}
+
+impl Engine {
+    fn new(mistake: Mistake) -> Self {
+        let memory = Memory::zeros(LENT_WORDS, LENT_RECORDS);
+        Self { mistake, memory }
+    }
+
+    fn apply(&mut self, record: Record) -> Answer {
+        match record {
+            Record::Step { worker } => {
+                let worker = usize::from(worker);
+                let before = self.memory.workers.get(worker).copied();
+                let response = self.memory.turn(worker)?;
+                Ok(self.spoil(worker, before.unwrap_or_default(), response))
+            }
+            other => self.memory.apply(other),
+        }
+    }
+
+    /// Makes the mistake after a turn, where there is room for it.
+    fn spoil(&mut self, worker: usize, before: Worker, response: Response) -> Response {
+        let after = self.memory.workers[worker];
+        let own = after.own as usize;
+        match (self.mistake, before.stage, after.stage) {
+            (Mistake::PassOver, stage::DEQUEUE_LINK, stage::DEQUEUE_CURRENT) => {
+                self.pass_over(worker);
+            }
+            (Mistake::FreeWhenMarked, stage::DEQUEUE_MARK, stage::SEARCH_HEAD) => {
+                *self.memory.node_word(own, field::RECLAMATION) = 0;
+            }
+            (Mistake::FreeWhenTaken, _, stage::IDLE) => {
+                if matches!(response, Response::Took { .. }) {
+                    *self.memory.node_word(own, field::RECLAMATION) = 0;
+                }
+            }
+            (Mistake::StoredAtLink, stage::ENQUEUE_INSERT, stage::ENQUEUE_COMPARE) => {
+                return self.end(worker, Response::Stored(after.ticket));
+            }
+            (Mistake::OldEpoch, stage::ENQUEUE_LOWER, stage::IDLE) => {
+                let epoch = word::current_epoch(before.current_seen);
+                self.memory.store[CURRENT] = word::current(before.bucket, epoch);
+            }
+            (Mistake::LastOfBucket, stage::DEQUEUE_LINK, stage::DEQUEUE_MARK) => {
+                if word::successor(after.link_seen) != self.memory.shape.nodes.into() {
+                    self.pass_over(worker);
+                }
+            }
+            (Mistake::PassNextAfterLoss, stage::DEQUEUE_MARK, stage::DEQUEUE_LINK) => {
+                self.pass_next(worker);
+            }
+            (Mistake::EmptyBucket, _, stage::DEQUEUE_ADVANCE) => {
+                return self.end(worker, Response::Empty);
+            }
+            (Mistake::TakeMarked, stage::DEQUEUE_LINK, _) if word::is_marked(after.link_seen) => {
+                let record = &mut self.memory.workers[worker];
+                record.right = before.right;
+                record.stage = stage::DEQUEUE_MARK;
+            }
+            (Mistake::StoredUnlinked, stage::ENQUEUE_INSERT, stage::SEARCH_HEAD) => {
+                *self.memory.node_word(own, field::RECLAMATION) = 0;
+                return self.end(worker, Response::Stored(after.ticket));
+            }
+            (Mistake::OtherPath, stage::DEQUEUE_MARK, stage::SEARCH_HEAD) => {
+                *self.memory.node_word(own, field::PATH) ^= 1;
+            }
+            _ => {}
+        }
+        response
+    }
+
+    fn end(&mut self, worker: usize, response: Response) -> Response {
+        self.memory.workers[worker].stage = stage::IDLE;
+        response
+    }
+
+    /// The taker goes on behind the node it has looked at.
+    fn pass_over(&mut self, worker: usize) {
+        let shape = self.memory.shape;
+        let (nodes, last) = (shape.nodes.into(), u64::from(shape.buckets) - 1);
+        let record = &mut self.memory.workers[worker];
+        record.right = word::successor(record.link_seen);
+        record.stage = match record.bucket {
+            _ if record.right != nodes => stage::DEQUEUE_LINK,
+            bucket if bucket == last => stage::DEQUEUE_CONFIRM,
+            _ => stage::DEQUEUE_ADVANCE,
+        };
+    }
+
+    /// The taker goes on behind the node behind the one it has lost.
+    fn pass_next(&mut self, worker: usize) {
+        let nodes = u64::from(self.memory.shape.nodes);
+        let lost = self.memory.workers[worker].right as usize;
+        let next = word::successor(*self.memory.node_word(lost, field::LINK));
+        if next != nodes {
+            let link = *self.memory.node_word(next as usize, field::LINK);
+            if word::successor(link) != nodes {
+                self.memory.workers[worker].right = word::successor(link);
+            }
+        }
+    }
+}
