@@ -11,7 +11,11 @@
 //! What is promised to all: each call takes effect at one moment between its
 //! start and its end; so nothing is lost or taken twice, a reflection is taken
 //! after its parent, and no take passes over an arrival that was in the pool,
-//! earlier, all the while.
+//! earlier, all the while. docs/READING.md has the promises one by one.
+//!
+//! The report has a star at an arrival x that was taken after a later one, y. By
+//! promises 2 and 4, x's put had not ended when y's take started, or the takes of
+//! both overlap, and x was in a worker's hand when y's take ended.
 #![forbid(unsafe_code)]
 
 mod arguments;

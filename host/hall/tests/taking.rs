@@ -1,8 +1,11 @@
 //! What the workers take, under many orders of turns.
 
+use std::collections::HashMap;
+use std::iter::successors;
+
 use hall::{trace, Arguments, Call, Event, Image, Trace};
 use order::{find_order, Answer, End, Kind};
-use wubraken::{Arrival, Shape};
+use wubraken::{Arrival, Shape, Taken};
 
 fn run(arguments: Arguments) -> Trace {
     trace(&arguments.job()).unwrap()
@@ -76,6 +79,100 @@ fn several_workers_may_take_out_of_order() {
         .map(|taken| taken.time)
         .collect();
     assert!(times.windows(2).any(|pair| pair[0] > pair[1]));
+}
+
+/// An arrival that was taken after a later one.
+struct Overtaken<'a> {
+    x: Taken,
+    put: &'a Call,
+    take: &'a Call,
+    /// The take of the later one, y.
+    take_of_y: &'a Call,
+}
+
+/// All pairs of x and y; the report has a star at each x.
+fn overtaken(trace: &Trace) -> Vec<Overtaken<'_>> {
+    let takes: Vec<(Taken, &Call)> = trace.calls.iter().filter_map(took).collect();
+    let mut overtaken = Vec::new();
+    for (place, &(x, take)) in takes.iter().enumerate() {
+        for &(_, take_of_y) in takes[..place].iter().filter(|(y, _)| x.time < y.time) {
+            overtaken.push(Overtaken {
+                x,
+                put: put_of(trace, x.path),
+                take,
+                take_of_y,
+            });
+        }
+    }
+    overtaken
+}
+
+fn took(call: &Call) -> Option<(Taken, &Call)> {
+    match call.event {
+        Event::Took(taken) => Some((taken, call)),
+        _ => None,
+    }
+}
+
+fn put_of(trace: &Trace, path: u32) -> &Call {
+    let is_it = |call: &&Call| matches!(call.event, Event::Put(put) if put.path == path);
+    trace.calls.iter().find(is_it).unwrap()
+}
+
+fn take_of(trace: &Trace, path: u32) -> &Call {
+    let is_it = |call: &&Call| matches!(call.event, Event::Took(taken) if taken.path == path);
+    trace.calls.iter().find(is_it).unwrap()
+}
+
+/// By promises 2 and 4: x's put had not ended when y's take started, or the takes
+/// of both overlap, and x was in a worker's hand when y's take ended.
+#[test]
+fn why_an_arrival_is_taken_after_a_later_one() {
+    let (mut put_late, mut in_hand) = (0, 0);
+    for trace in runs() {
+        for overtaken in overtaken(&trace) {
+            let Overtaken {
+                x,
+                put,
+                take,
+                take_of_y,
+            } = overtaken;
+            let is_put_late = put.end > take_of_y.start;
+            let is_in_hand = take.start < take_of_y.end && take_of_y.end < take.end;
+            assert!(is_put_late || is_in_hand, "path {}", x.path);
+            put_late += usize::from(!is_in_hand);
+            in_hand += usize::from(!is_put_late);
+        }
+    }
+    println!("only put late: {put_late}, only in a worker's hand: {in_hand}");
+    assert!(put_late > 100 && in_hand > 100, "{put_late}, {in_hand}");
+}
+
+/// What the report says of a star: some time during y's take x, or what it was
+/// reflected from, was in a worker's hand. Either it was not yet put, or its take
+/// was in progress.
+#[test]
+fn it_or_what_it_was_reflected_from_was_in_a_workers_hand() {
+    for trace in runs() {
+        let reflected: HashMap<u32, u32> = trace.taken().iter().flat_map(reflections).collect();
+        let parent = |path: &u32| reflected.get(path).copied();
+        for Overtaken { x, take_of_y, .. } in overtaken(&trace) {
+            let overlaps = |from, to| from < take_of_y.end && take_of_y.start < to;
+            let was_in_hand = |path: u32| {
+                let made = parent(&path).map_or(0, |parent| take_of(&trace, parent).end);
+                let take = take_of(&trace, path);
+                overlaps(made, put_of(&trace, path).end) || overlaps(take.start, take.end)
+            };
+            let mut line = successors(Some(x.path), parent);
+            assert!(line.any(was_in_hand), "path {}", x.path);
+        }
+    }
+}
+
+/// The paths of an arrival's reflections, each with its own.
+fn reflections(taken: &Taken) -> Vec<(u32, u32)> {
+    let images = Image::from_path(taken.path).reflections().into_iter();
+    images.map(|image| (image.path(), taken.path)).collect()
 }
 
 #[test]
