@@ -1,11 +1,11 @@
 //! Whether what an engine printed keeps the promises on the taken list, the
 //! arrivals in the order in which takes answered them.
 //!
-//! From a turn file and its lines alone, and without a search for an order: what
-//! is checked grows as n log n, so that long files are checked, too. No line says
-//! which arrival a take in progress holds, which of alike arrivals was answered, or
-//! what is in the lists. Where the lines leave that open, the promises must hold in
-//! some way; so no right run is refused.
+//! From a turn file and its lines alone, and without a search for an order: the
+//! work grows as n log n, so that long files are checked, too. No line says which
+//! arrival a take in progress holds, which of alike arrivals was answered, or what
+//! is in the lists. Where the lines leave that open, the promises must hold in some
+//! way; so no right run is refused.
 
 mod alike;
 mod calls;
@@ -28,7 +28,7 @@ use seen::Seen;
 pub enum Violation {
     /// A line that cannot be.
     Fault(Fault),
-    /// The promises that the first history that breaks any does not keep.
+    /// The promises not kept by the first history that breaks any.
     Broken(Vec<Broken>),
 }
 

@@ -48,8 +48,8 @@ impl Made {
         };
         while made.calls.len() < 11 {
             let worker = random.below(WORKERS.into()) as u8;
-            let calls = made.calls.iter();
-            match calls.clone().rposition(|call| call.worker == worker) {
+            let latest = made.calls.iter().rposition(|call| call.worker == worker);
+            match latest {
                 Some(call) if made.calls[call].end == NEVER => made.turn(random, call),
                 _ => made.start(random, worker, paths),
             }

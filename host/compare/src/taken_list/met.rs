@@ -11,8 +11,8 @@ use crate::taken_list::seen::Seen;
 #[derive(Clone, Copy, Debug, Default, PartialEq, Eq)]
 pub struct Met {
     pub histories: usize,
-    /// 2: puts that some take has to find marked, as it answered a later arrival;
-    /// and how many of them were then in the hand of a take in progress.
+    /// 2: puts that must be marked when some take ends, as it answered a later
+    /// arrival; and how many of them were then held by a take in progress.
     pub earlier: usize,
     pub earlier_held: usize,
     /// 3: the same for takes that answered empty.
@@ -46,7 +46,7 @@ impl Met {
     }
 }
 
-/// The puts that are due, and those then in the hand of a take in progress.
+/// The puts that must be marked, and those then held by a take in progress.
 fn due(seen: &Seen, takes: &[Option<usize>]) -> (usize, usize) {
     let (mut due, mut held) = (0, 0);
     for (put, take) in takes.iter().enumerate() {

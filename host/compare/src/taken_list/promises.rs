@@ -64,7 +64,8 @@ pub fn empty_means_empty(seen: &Seen) -> Vec<Breach> {
 /// 4. If take c ended before take d started, c answered x and d answered y, and y's
 /// put had ended before c started, then x's key is below y's.
 ///
-/// Of all c with a higher key than y's the one that ended first will do.
+/// Of all c with a higher key than y's the one that ended first will do. Who breaks
+/// this breaks 2 as well: d had not started when c ended, so y was not marked.
 pub fn two_takes(seen: &Seen) -> Vec<Breach> {
     let mut breaches = Vec::new();
     for (y, d) in seen.takers.answered(&seen.calls) {
@@ -89,8 +90,9 @@ pub fn two_takes(seen: &Seen) -> Vec<Breach> {
 /// from one put; after any list, each put that ended is answered by exactly one
 /// take, held by exactly one, or still in the lists.
 ///
-/// Which of the last two is not seen. But in a list or a hand an arrival has a node,
-/// so no more puts are begun and not answered than the pool has nodes.
+/// Which of the last two it is cannot be seen. But a put has a node from its start
+/// until its arrival is answered, so no more puts are begun and not answered than
+/// the pool has nodes.
 pub fn once_each(seen: &Seen) -> Vec<Breach> {
     let mut breaches = answers_from_no_put(seen);
     breaches.extend(more_than_nodes(seen));
