@@ -73,7 +73,7 @@ impl Takers {
         puts.sort_unstable_by_key(|&put| due[put]);
         let takes = calls.takes.iter().enumerate();
         let mut takes: Vec<(usize, usize)> = takes
-            .filter(|(_, take)| take.end == NEVER && take.first_turn != NEVER)
+            .filter(|(_, take)| take.end == NEVER)
             .map(|(number, take)| (take.first_turn, number))
             .collect();
         takes.sort_unstable();
