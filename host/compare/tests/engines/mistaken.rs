@@ -3,7 +3,7 @@
 
 use schedule::lent::Memory;
 use second::layout::{field, CURRENT};
-use second::{stage, word, Answer, Lines, Record, Records, Response, Worker};
+use second::{kind, stage, word, Answer, Lines, Record, Records, Response, Worker};
 use second::{LENT_RECORDS, LENT_WORDS};
 
 #[derive(Clone, Copy, Debug, PartialEq, Eq)]
@@ -87,20 +87,15 @@ impl Engine {
 
     /// Makes the mistake after a turn, where there is room for it.
     fn spoil(&mut self, worker: usize, before: Worker, response: Response) -> Response {
+        match before.kind {
+            kind::ENQUEUE => self.spoil_put(worker, before, response),
+            _ => self.spoil_take(worker, before, response),
+        }
+    }
+
+    fn spoil_put(&mut self, worker: usize, before: Worker, response: Response) -> Response {
         let after = self.memory.workers[worker];
-        let own = after.own as usize;
         match (self.mistake, before.stage, after.stage) {
-            (Mistake::PassOver, stage::DEQUEUE_LINK, stage::DEQUEUE_CURRENT) => {
-                self.pass_over(worker);
-            }
-            (Mistake::FreeWhenMarked, stage::DEQUEUE_MARK, stage::SEARCH_HEAD) => {
-                *self.memory.node_word(own, field::RECLAMATION) = 0;
-            }
-            (Mistake::FreeWhenTaken, _, stage::IDLE) => {
-                if matches!(response, Response::Took { .. }) {
-                    *self.memory.node_word(own, field::RECLAMATION) = 0;
-                }
-            }
             (Mistake::StoredAtLink, stage::ENQUEUE_INSERT, stage::ENQUEUE_COMPARE) => {
                 return self.end(worker, Response::Stored(after.ticket));
             }
@@ -108,6 +103,26 @@ impl Engine {
                 let epoch = word::current_epoch(before.current_seen);
                 self.memory.store[CURRENT] = word::current(before.bucket, epoch);
             }
+            (Mistake::StoredUnlinked, stage::ENQUEUE_INSERT, stage::SEARCH_HEAD) => {
+                self.free(after.own);
+                return self.end(worker, Response::Stored(after.ticket));
+            }
+            _ => {}
+        }
+        response
+    }
+
+    fn spoil_take(&mut self, worker: usize, before: Worker, response: Response) -> Response {
+        let after = self.memory.workers[worker];
+        let took = matches!(response, Response::Took { .. });
+        match (self.mistake, before.stage, after.stage) {
+            (Mistake::PassOver, stage::DEQUEUE_LINK, stage::DEQUEUE_CURRENT) => {
+                self.pass_over(worker);
+            }
+            (Mistake::FreeWhenMarked, stage::DEQUEUE_MARK, stage::SEARCH_HEAD) => {
+                self.free(after.own);
+            }
+            (Mistake::FreeWhenTaken, _, stage::IDLE) if took => self.free(after.own),
             (Mistake::LastOfBucket, stage::DEQUEUE_LINK, stage::DEQUEUE_MARK) => {
                 if word::successor(after.link_seen) != self.memory.shape.nodes.into() {
                     self.pass_over(worker);
@@ -124,16 +139,16 @@ impl Engine {
                 record.right = before.right;
                 record.stage = stage::DEQUEUE_MARK;
             }
-            (Mistake::StoredUnlinked, stage::ENQUEUE_INSERT, stage::SEARCH_HEAD) => {
-                *self.memory.node_word(own, field::RECLAMATION) = 0;
-                return self.end(worker, Response::Stored(after.ticket));
-            }
             (Mistake::OtherPath, stage::DEQUEUE_MARK, stage::SEARCH_HEAD) => {
-                *self.memory.node_word(own, field::PATH) ^= 1;
+                *self.memory.node_word(after.own as usize, field::PATH) ^= 1;
             }
             _ => {}
         }
         response
+    }
+
+    fn free(&mut self, node: u64) {
+        *self.memory.node_word(node as usize, field::RECLAMATION) = 0;
     }
 
     fn end(&mut self, worker: usize, response: Response) -> Response {
