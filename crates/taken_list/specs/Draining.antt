@@ -145,7 +145,8 @@ module _ (sh : Shape) (m : Memory) (L : Ledger) (C : Correct sh m L) (G : Lawful
       counted : rest ≡ countFrom (suc (L .started)) (length rest)
       counted =
           in-turn M rest (L .started) (time-behind M front rest (subst (λ (o : List ℕ). RespectsTime M o) whole (D .linearization .real-time)))
-          (once-behind front rest one) (λ c i. (high c i, called c (Memᴰ·append-right front i) .1)) in-rest (λ c l h. turns c l (omega arith) .1 h)
+          (once-behind front rest one) (λ c i. (high c i, called c (Memᴰ·append-right front i) .1)) in-rest
+          (λ c l h. let (s, e, b) = turns c l (omega arith) .1 h in (s, e, omega arith))
 
       behind : Fits M items (countFrom (suc (L .started)) (length rest))
       behind = subst (λ (o : List ℕ). Fits M items o) counted (fits-behind M [] front rest along)

@@ -65,8 +65,8 @@ module _ (sh : Shape) (m : Memory) (L : Ledger) (C : Correct sh m L) (G : Lawful
         items = remaining L [] front;
         replied = fits-behind L [] front (d ∷ rest) F .0 .0 f;
         were-put = λ x i. put x (remaining-put L [] front x i);
-        there-or-marked = λ x (a, before). place x a before (List·Memᴰ·append-cases front
-            (subst (λ (o : List ℕ). Mem (x .ticket) o) e (C .linearization .finished (x .ticket) (before .0, before .1))));
+        there-or-marked = λ x (a, (s, q, l)). place x a (s, q, omega arith) (List·Memᴰ·append-cases front
+            (subst (λ (o : List ℕ). Mem (x .ticket) o) e (C .linearization .finished (x .ticket) (s, q))));
       }
         where
           F : Fits L [] (front ++ (d ∷ rest))
@@ -96,7 +96,7 @@ module _ (sh : Shape) (m : Memory) (L : Ledger) (C : Correct sh m L) (G : Lawful
             where
               behind : (x .ticket ≡ d) ⊎ Mem (x .ticket) rest → ⊥
               behind (inl z) = omega (arith, G .ended (x .ticket) s q .0)
-              behind (inr j) = time-behind L front (d ∷ rest) T .0 (x .ticket) j (s, q, l)
+              behind (inr j) = time-behind L front (d ∷ rest) T .0 (x .ticket) j (s, q, omega arith)
 
   -- what has marked y is a take
   pub marks-takes : (d : ℕ) (y : Item) → Met d → L .marked d ≡ some y → L .asked d ≡ dequeue

@@ -42,16 +42,16 @@ module _ (sh : Shape) (m : Memory) (L : Ledger) (C : Correct sh m L) (G : Lawful
   ends-later c (s, e, l) = omega (arith, G .ended c s e .0)
 
   pub two-apart : TwoTakes sh m L
-  two-apart c d x y apart ((f, r), k) ((f′, r′), k′) before =
+  two-apart c d x y (s, e, l) ((f, r), k) ((f′, r′), k′) (t, e′, l′) =
       let M = met sh m L C G c f in
-      go M (M .there-or-marked y (C .marked-put d y k′, before))
+      go M (s, e, omega arith) (M .there-or-marked y (C .marked-put d y k′, (t, e′, omega arith)))
     where
-      go : (M : Met sh m L C G c) → Mem y (M .items) ⊎ ((e : ℕ) × (e ≢ c) × (L .marked e ≡ some y) × (EndedBefore L c e → ⊥)) → lower x y ≡ true
-      go M (inl i) =
+      go : (M : Met sh m L C G c) → EndedBefore L c d → Mem y (M .items) ⊎ ((e : ℕ) × (e ≢ c) × (L .marked e ≡ some y) × (EndedBefore L c e → ⊥)) → lower x y ≡ true
+      go M apart (inl i) =
           lower-total y x (lowest-least (M .items) x y (met-taken sh m L C G c x M k) i)
           (λ t. ends-later c (subst (λ n. EndedBefore L c n) (sym (C .marked-once c d x y k k′ (sym t))) apart))
-      go M (inr (e, u, j, n)) = absurd (n (subst (λ z. EndedBefore L c z) (sym (C .marked-once e d y y j k′ refl)) apart))
+      go M apart (inr (e, u, j, n)) = absurd (n (subst (λ z. EndedBefore L c z) (sym (C .marked-once e d y y j k′ refl)) apart))
 
   pub swapped-overlap : Swapped sh m L
   swapped-overlap c d s x y e a b before l =
-      by-size s d (λ h. absurd (lower-irr x (lower-trans x y x (two-apart c d x y (s, e, h) a b before) l))) (λ h. h)
+      by-size s d (λ h. absurd (lower-irr x (lower-trans x y x (two-apart c d x y (s, e, h) a b before) l))) (λ h. omega arith)
