@@ -358,7 +358,8 @@ static inline wubraken_answer wubraken_pool_put(const wubraken_pool *pool, uint6
 }
 
 /* A worker takes the earliest arrival out: begins, and goes on by at most so many
- * turns, with UINT64_MAX as above. TOOK or EMPTY; or BEGUN or ON, as above. Refusals: 1 to 4, 9, 11. */
+ * turns, with UINT64_MAX as above. TOOK or EMPTY; or BEGUN or ON, as above. Refusals: 1 to 4, 9, 11.
+ * Workers whose calls overlap may get arrivals out of order: docs/READING.md. */
 static inline wubraken_answer wubraken_pool_take(const wubraken_pool *pool, uint64_t worker, uint64_t turns)
 {
     return wubraken_narrow_dequeue(pool->shape, worker, turns,

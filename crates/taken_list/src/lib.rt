@@ -1,1 +1,1 @@
-// Demand 3: every interleaving has a sequential order. Invariants and the theorem, specs/. No code.
+// What a reader of the taken list, and a host, may rely on: six promises, from demand 3, specs/. No code.

@@ -260,6 +260,9 @@ impl<S: AsMut<[u64]>, T: AsMut<[Worker]>> Pool<S, T> {
     /// [`Pool::run`] by at most so many turns; `u64::MAX` is as good as no limit. A
     /// limit that is used up leaves the call in progress.
     ///
+    /// Workers whose calls overlap may get arrivals out of order: docs/READING.md
+    /// says which, and what else the order of answers tells.
+    ///
     /// Refusals 1 to 4, 9 and 11 are of the start, and nothing has begun. A turn is
     /// refused only by 3, in damaged memory, and leaves the call in progress.
     #[inline]
