@@ -63,7 +63,9 @@ module _ (L : Ledger) (X : Linearization L) where
 
   module _ (apart : NoOverlap L) where
     counted : o ≡ countFrom 1 (length o)
-    counted = in-turn L o 0 (X .real-time) (X .once) (λ c i. X .calls c i) (λ c l f. X .finished c f) (λ c l h. let (s, e, b) = apart c l h in (s, e, omega arith))
+    counted =
+        in-turn L o 0 (X .real-time) (X .once) (λ c i. X .calls c i) (λ c l f. X .finished c f)
+        (λ c l h. let (s, e, b) = apart c l h in (s, e, omega arith))
 
     short : length o ≤ L .started
     short = by-size (L .started) (length o) (λ h. absurd (over h)) (λ h. h)

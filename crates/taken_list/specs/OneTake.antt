@@ -1,5 +1,6 @@
 -- What a finished call met, by the linearization: what the queue held when its turn came.
 --     time-apart, time-behind      real time, of the front of an order and what stands behind it
+--     MarkedByAnother              another take has marked an arrival
 --     one-put, marked-is           a ticket tells an arrival from others
 --     Met, met                     what the queue held; what had been put before is there, or another take has marked it
 --     marks-takes, met-taken       what has marked an arrival is a take, and took the lowest;
@@ -38,6 +39,10 @@ pub time-behind : (L : Ledger) (o p : List ℕ) → RespectsTime L (o ++ p) → 
 time-behind L [] p t = t
 time-behind L (c ∷ o) p t = time-behind L o p (t .1)
 
+-- another take than d has marked x, and did not start after d's end
+abbrev pub MarkedByAnother : Ledger → ℕ → Item → Type 0
+MarkedByAnother L d x = (e : ℕ) × (e ≢ d) × (L .marked e ≡ some x) × (EndedBefore L d e → ⊥)
+
 module _ (sh : Shape) (m : Memory) (L : Ledger) (C : Correct sh m L) (G : Lawful sh L) where
   -- two arrivals of one ticket are one
   pub one-put : (x y : Item) → L .asked (x .ticket) ≡ enqueue x → L .asked (y .ticket) ≡ enqueue y → x .ticket ≡ y .ticket → x ≡ y
@@ -55,7 +60,7 @@ module _ (sh : Shape) (m : Memory) (L : Ledger) (C : Correct sh m L) (G : Lawful
     pub items : Items
     pub replied : reply items (L .asked d) ≡ poolReply L d
     pub were-put : (x : Item) → Mem x items → L .asked (x .ticket) ≡ enqueue x
-    pub there-or-marked : (x : Item) → PutBefore L x d → Mem x items ⊎ ((e : ℕ) × (e ≢ d) × (L .marked e ≡ some x) × (EndedBefore L d e → ⊥))
+    pub there-or-marked : (x : Item) → PutBefore L x d → Mem x items ⊎ MarkedByAnother L d x
 
   pub met : (d : ℕ) → Finished L d → Met d
   met d f = at (mem-split d (C .linearization .order) (C .linearization .finished d f))
@@ -83,14 +88,14 @@ module _ (sh : Shape) (m : Memory) (L : Ledger) (C : Correct sh m L) (G : Lawful
           put x (inr (c, i, a)) = ap (L .asked) (G .put c x a .0) ∙ a
 
           marked : (x : Item) → L .asked (x .ticket) ≡ enqueue x → Mem x (remaining L [] front) ⊎ Marked L front (x .ticket)
-              → Mem x (remaining L [] front) ⊎ ((c : ℕ) × (c ≢ d) × (L .marked c ≡ some x) × (EndedBefore L d c → ⊥))
+              → Mem x (remaining L [] front) ⊎ MarkedByAnother L d x
           marked x a (inl i) = inl i
           marked x a (inr (c, i, q, t)) =
               inr (c, once-apart front (d ∷ rest) c d O i (here refl), marked-is c x a t, time-apart L front (d ∷ rest) c d T i (here refl))
 
           -- a put that had ended before d started stands in front of it
           place : (x : Item) → L .asked (x .ticket) ≡ enqueue x → EndedBefore L (x .ticket) d → Mem (x .ticket) front ⊎ Mem (x .ticket) (d ∷ rest)
-              → Mem x (remaining L [] front) ⊎ ((c : ℕ) × (c ≢ d) × (L .marked c ≡ some x) × (EndedBefore L d c → ⊥))
+              → Mem x (remaining L [] front) ⊎ MarkedByAnother L d x
           place x a before (inl i) = marked x a (in-or-marked L [] front x (fits-front L [] front (d ∷ rest) F) (inr (x .ticket, i, a)))
           place x a (s, q, l) (inr i) = absurd (behind (List·Memᴰ·cases-cons i))
             where

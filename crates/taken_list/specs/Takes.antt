@@ -2,9 +2,8 @@
 --     passed-over, found-empty, two-apart, swapped-overlap     nothing earlier is passed over; empty means empty; two takes, and which may be swapped
 -- Assumes nothing.
 use mathlib.Core.Path.{_≡_, refl, sym, _∙_, subst}
-use mathlib.Core.Logic.{_≢_, _⊎_, inl, inr}
+use mathlib.Core.Logic.{_⊎_, inl, inr}
 use mathlib.Core.Bool.{true}
-use mathlib.Core.Option.{some}
 use mathlib.Core.List.{List·Memᴰ as Mem}
 use Prim.Native.Nat.{ℕ}
 use native.Mathlib.Omega.{arith}
@@ -18,12 +17,12 @@ use Rattle.calendar.specs.rules.Ledger.{Ledger}
 use Rattle.calendar.specs.rules.Linearizability.{EndedBefore, Correct}
 use Rattle.taken_list.specs.Promises.{GoneToAnother, NothingPassedOver, EmptyMeansEmpty, TwoTakes, Swapped}
 use Rattle.calendar.specs.facts.LedgerLaws.{Lawful}
-use Rattle.taken_list.specs.OneTake.{Met, met, met-taken, met-empty}
+use Rattle.taken_list.specs.OneTake.{MarkedByAnother, Met, met, met-taken, met-empty}
 
 module _ (sh : Shape) (m : Memory) (L : Ledger) (C : Correct sh m L) (G : Lawful sh L) where
   -- what is not there another take has marked
   elsewhere : (d : ℕ) (x : Item) (M : Met sh m L C G d) → (Mem x (M .items) → ⊥)
-      → Mem x (M .items) ⊎ ((e : ℕ) × (e ≢ d) × (L .marked e ≡ some x) × (EndedBefore L d e → ⊥)) → GoneToAnother sh m L d x
+      → Mem x (M .items) ⊎ MarkedByAnother L d x → GoneToAnother sh m L d x
   elsewhere d x M out (inl i) = absurd (out i)
   elsewhere d x M out (inr (e, u, k, n)) = (e, u, k, C .marked-kept e x k)
 
@@ -46,7 +45,7 @@ module _ (sh : Shape) (m : Memory) (L : Ledger) (C : Correct sh m L) (G : Lawful
       let M = met sh m L C G c f in
       go M (s, e, omega arith) (M .there-or-marked y (C .marked-put d y k′, (t, e′, omega arith)))
     where
-      go : (M : Met sh m L C G c) → EndedBefore L c d → Mem y (M .items) ⊎ ((e : ℕ) × (e ≢ c) × (L .marked e ≡ some y) × (EndedBefore L c e → ⊥)) → lower x y ≡ true
+      go : (M : Met sh m L C G c) → EndedBefore L c d → Mem y (M .items) ⊎ MarkedByAnother L c y → lower x y ≡ true
       go M apart (inl i) =
           lower-total y x (lowest-least (M .items) x y (met-taken sh m L C G c x M k) i)
           (λ t. ends-later c (subst (λ n. EndedBefore L c n) (sym (C .marked-once c d x y k k′ (sym t))) apart))
