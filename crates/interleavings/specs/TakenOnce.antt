@@ -22,14 +22,15 @@ use Rattle.arrival.specs.declared.Item.{Item}
 use Rattle.arrival.specs.declared.Worker.{Worker}
 use Rattle.arrival.specs.Keys.{bucketOf, itemBucket, item-bucket}
 use Rattle.arrival.specs.Queue as queue
-use Rattle.laws.specs.Tests.{parts, within}
+use Rattle.laws.specs.Tests.{parts}
 use Rattle.calendar.specs.rules.Layout.{link, itemAt, isMarked}
 use Rattle.calendar.specs.rules.Ranges.{worker}
 use Rattle.calendar.specs.rules.Operations.{Memory}
 use Rattle.calendar.specs.rules.Ledger.{Ledger, succeeds-11}
 use Rattle.calendar.specs.rules.Snapshot.{unmarkedOf, hasMarked}
-use Rattle.calendar.specs.rules.Linearizability.{Finished, HeldBy, AnsweredBy}
+use Rattle.calendar.specs.rules.Linearizability.{Finished, HeldBy, AnsweredBy, ListedOrMarked}
 use Rattle.calendar.specs.facts.Views.{View, view, itemIn}
+use Rattle.calendar.specs.facts.StoodOn.{marked-stage}
 use Rattle.order.specs.Entries.{Element, Entry, enqueue, dequeue, empty, scan, ticket, run}
 use Rattle.order.specs.RealTime.{ended, ticket-of}
 use Rattle.order.specs.Calls.{Call}
@@ -91,10 +92,9 @@ module _ (sh : Shape) (wd : 1 ≤ sh .width) (m : Memory) (L : Ledger) (F : Foll
 
   pub held-marked : (d : ℕ) (x : Item) → HeldBy sh m L d x → L .marked d ≡ some x
   held-marked d x (i, h, c, e, q) =
-      let (kind, stage) = parts (eqb (T i .kind) 1) _ e in
-      let (lo, hi) = within 1 3 (T i .stage) stage in
+      let (kind, lo, hi) = marked-stage (T i) e in
       let b : (T i) .stage ≢ 0 = λ z. omega arith in
-      ap (L .marked) (sym c ∙ F .agrees .calls i h b) ∙ F .agrees .marks i h b .holding (eqb-true (T i .kind) 1 kind) lo hi ∙ ap some q
+      ap (L .marked) (sym c ∙ F .agrees .calls i h b) ∙ F .agrees .marks i h b .holding kind lo hi ∙ ap some q
 
   pub marks-new : (i : ℕ) → i < sh .workers → succeeds-11 sh (m .store) (worker (m .table) i) ≡ true → L .marked (L .callOf i) ≡ none
   marks-new i h e =
@@ -143,16 +143,14 @@ module _ (sh : Shape) (wd : 1 ≤ sh .width) (m : Memory) (L : Ledger) (F : Foll
       ∙ e))))
 
   pub not-lost : (c : ℕ) (x : Item) → L .asked c ≡ queue.enqueue x → Finished L c
-      → ((unmarkedOf sh (m .store) x (F .chains (bucketOf sh (x .time))) ≡ 1) × ((d : ℕ) → L .marked d ≢ some x))
-      ⊎ ((unmarkedOf sh (m .store) x (F .chains (bucketOf sh (x .time))) ≡ 0) × ((d : ℕ) × (L .marked d ≡ some x)))
+      → ListedOrMarked L x (unmarkedOf sh (m .store) x (F .chains (bucketOf sh (x .time))))
   not-lost c x a (s, q) = go (enqueued-or-taken [] order (elem x) (inr (ended-entry c s x a e .1)))
     where
       e : F .ghost .hist .end c ≡ ended s
       e = end-known (F .ghost .hist .end c) s (sym (F .agrees .finish c) ∙ q)
 
       go : Mem (record { it = x }) (run [] (F .ghost .order)) ⊎ ((d : ℕ) × Mem (dequeue (record { it = x }) d) (F .ghost .order))
-          → ((unmarkedOf sh (m .store) x (F .chains (bucketOf sh (x .time))) ≡ 1) × ((d : ℕ) → L .marked d ≢ some x))
-          ⊎ ((unmarkedOf sh (m .store) x (F .chains (bucketOf sh (x .time))) ≡ 0) × ((d : ℕ) × (L .marked d ≡ some x)))
+          → ListedOrMarked L x (unmarkedOf sh (m .store) x (F .chains (bucketOf sh (x .time))))
       go (inl k) = inl (in-queue-once x k)
       go (inr (d, k)) = inr (taken-nowhere c s x d (ended-entry c s x a e .0) e k, (d, entry-marked sh wd m L F d x k))
 

@@ -18,7 +18,7 @@ use native.Mathlib.Omega.{arith}
 use lib.Dec.{eqb}
 use borrow.Author.Tests.{eqb-true, eqb-false}
 use Rattle.arrival.specs.declared.Item.{Item}
-use Rattle.arrival.specs.Queue.{Call, enqueue, dequeue, Items, lowest, dequeued, left-over, reply, after, replies}
+use Rattle.arrival.specs.Queue.{Call, enqueue, dequeue, Reply, Items, lowest, dequeued, left-over, reply, after, replies}
 use Rattle.arrival.specs.QueueLaws.{lowest-in, remove-in, in-remove}
 use Rattle.laws.specs.Lists.{Once}
 use Rattle.calendar.specs.rules.Ledger.{Ledger}
@@ -40,8 +40,8 @@ module _ (L : Ledger) where
   fits S (c ∷ o) a k = ((a .0, λ q. by-end q (L .ended c) refl), fits (after S (L .asked c)) o (a .1) (k .1))
     where
       by-end : L .asked c ≡ dequeue → (e : Option ℕ) → L .ended c ≡ e → reply S (L .asked c) .ticket ≡ markTicket (L .marked c)
-      by-end q none e = let (x, mark, r) = k .0 q e in ap (λ (u : Rattle.arrival.specs.Queue.Reply). u .ticket) r ∙ ap markTicket (sym mark)
-      by-end q (some s) e = ap (λ (u : Rattle.arrival.specs.Queue.Reply). u .ticket) (a .0 (s, e))
+      by-end q none e = let (x, mark, r) = k .0 q e in ap (λ (u : Reply). u .ticket) r ∙ ap markTicket (sym mark)
+      by-end q (some s) e = ap (λ (u : Reply). u .ticket) (a .0 (s, e))
 
   pub fits-front : (S : Items) (o p : List ℕ) → Fits S (o ++ p) → Fits S o
   fits-front S [] p f = tt

@@ -1,5 +1,7 @@
 -- Promise 6: from a place where no call is in progress, takes in turn answer what is in the lists, in the order of keys, and then empty.
--- L is the ledger at the place, M the ledger later. Assumes nothing.
+-- L is the ledger at the place, M the ledger later.
+--     drained-from     the promise, from what is known of both
+-- Assumes nothing.
 use mathlib.Core.Path.{_≡_, refl, sym, ap, _∙_, subst}
 use mathlib.Core.Logic.{_≢_, _⊎_, inl, inr}
 use mathlib.Core.Option.{some}
@@ -19,14 +21,14 @@ use Rattle.calendar.specs.rules.Ranges.{worker}
 use Rattle.calendar.specs.rules.Operations.{Memory}
 use Rattle.calendar.specs.rules.Ledger.{Ledger}
 use Rattle.calendar.specs.rules.Snapshot.{unmarkedOf}
-use Rattle.calendar.specs.rules.Linearizability.{Finished, RespectsTime, markTicket, poolReply, InProgress, HeldBy, AnsweredBy, Correct}
+use Rattle.calendar.specs.rules.Linearizability.{Finished, RespectsTime, markTicket, poolReply, InProgress, HeldBy, AnsweredBy, ListedOrMarked, Correct}
 use Rattle.taken_list.specs.Promises.{InLists, Quiet, TakesInTurn, nth, Drained}
 use Rattle.calendar.specs.facts.LedgerLaws.{Lawful, Kept}
 use Rattle.taken_list.specs.Along.{remaining, Fits, fits, fits-front, fits-behind, Put, Marked, remaining-put, in-or-marked, marked-gone}
 use Rattle.taken_list.specs.OneTake.{time-behind, one-put, marked-is, met, marks-takes}
 use Rattle.taken_list.specs.Fates.{in-lists, lists-put, holder-busy}
 use Rattle.taken_list.specs.InTurn.{countFrom, in-turn}
-use Rattle.taken_list.specs.TakesAlone.{divided, ascending-drained, drained-answers}
+use Rattle.taken_list.specs.TakesAlone.{Divided, divided, ascending-drained, drained-answers}
 
 module _ (sh : Shape) (m : Memory) (L : Ledger) (C : Correct sh m L) (G : Lawful sh L) (quiet : Quiet sh m) where
   nobody : (c : ℕ) → InProgress sh m L c → ⊥
@@ -50,8 +52,7 @@ module _ (sh : Shape) (m : Memory) (L : Ledger) (C : Correct sh m L) (G : Lawful
 
   module _ (n : Memory) (M : Ledger) (D : Correct sh n M) (H : Lawful sh M) (K : Kept L M) (turns : TakesInTurn (L .started) M) where
     -- ── the order falls into the calls before the place, and the takes behind it ──
-    parts-of : (front : List ℕ) × (rest : List ℕ) × (D .linearization .order ≡ front ++ rest) × ((c : ℕ) → Mem c front → c ≤ L .started)
-        × ((c : ℕ) → Mem c rest → L .started < c)
+    parts-of : Divided (L .started) (D .linearization .order)
     parts-of =
         divided M (L .started) (D .linearization .order) (D .linearization .real-time)
         (λ c i h. let (s, e, l) = ended c (D .linearization .calls c i .0) h in (s, K .ended c s e, l))
@@ -110,8 +111,7 @@ module _ (sh : Shape) (m : Memory) (L : Ledger) (C : Correct sh m L) (G : Lawful
           go a lo (C .not-lost (x .ticket) x a (s, e))
         where
           go : L .asked (x .ticket) ≡ enqueue x → 1 ≤ x .ticket
-              → ((unmarkedOf sh (m .store) x (C .lists (bucketOf sh (x .time))) ≡ 1) × ((d : ℕ) → L .marked d ≢ some x))
-              ⊎ ((unmarkedOf sh (m .store) x (C .lists (bucketOf sh (x .time))) ≡ 0) × ((d : ℕ) × (L .marked d ≡ some x))) → InLists sh m x
+              → ListedOrMarked L x (unmarkedOf sh (m .store) x (C .lists (bucketOf sh (x .time)))) → InLists sh m x
           go a lo (inl (u, none-marked)) = in-lists sh m L C G x a (λ z. omega arith)
           go a lo (inr (z, (d, k))) =
               let (s, e) = marked-ended d x k in
@@ -131,8 +131,7 @@ module _ (sh : Shape) (m : Memory) (L : Ledger) (C : Correct sh m L) (G : Lawful
           (C .not-lost (x .ticket) x a (s, e)) u
         where
           go : M .asked (x .ticket) ≡ enqueue x → Mem x items ⊎ Marked M front (x .ticket)
-              → ((unmarkedOf sh (m .store) x (C .lists (bucketOf sh (x .time))) ≡ 1) × ((d : ℕ) → L .marked d ≢ some x))
-              ⊎ ((unmarkedOf sh (m .store) x (C .lists (bucketOf sh (x .time))) ≡ 0) × ((d : ℕ) × (L .marked d ≡ some x)))
+              → ListedOrMarked L x (unmarkedOf sh (m .store) x (C .lists (bucketOf sh (x .time))))
               → unmarkedOf sh (m .store) x (C .lists (bucketOf sh (x .time))) ≢ 0 → Mem x items
           go a (inl j) fate u = j
           go a (inr p) (inr (z, w)) u = absurd (u z)

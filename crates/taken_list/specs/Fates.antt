@@ -9,20 +9,20 @@ use mathlib.Core.Option.{Option, none, some, Option·none-ne-some, Option·some-
 use mathlib.Core.List.{List, List·Memᴰ as Mem}
 use Prim.Native.Nat.{ℕ}
 use native.Mathlib.Omega.{arith}
-use lib.Dec.{eqb}
 use Rattle.arrival.specs.declared.Shape.{Shape}
 use Rattle.arrival.specs.declared.Item.{Item}
-use Rattle.arrival.specs.declared.Response.the-variants.{Empty}
+use Rattle.arrival.specs.declared.Response.the-variants.{Stored, Empty}
 use Rattle.arrival.specs.Keys.{bucketOf}
 use Rattle.arrival.specs.Queue.{enqueue, dequeue, Reply, lowest, dequeued, reply}
 use Rattle.arrival.specs.QueueLaws.{lowest-in}
-use Rattle.laws.specs.Tests.{parts, within, is-not}
+use Rattle.laws.specs.Tests.{is-not}
 use Rattle.calendar.specs.rules.Ranges.{worker}
 use Rattle.calendar.specs.rules.Operations.{Memory}
 use Rattle.calendar.specs.rules.Ledger.{Ledger}
 use Rattle.calendar.specs.rules.Snapshot.{unmarkedOf}
-use Rattle.calendar.specs.rules.Linearizability.{Finished, poolReply, InProgress, HeldBy, AnsweredBy, Correct}
+use Rattle.calendar.specs.rules.Linearizability.{Finished, poolReply, InProgress, HeldBy, AnsweredBy, ListedOrMarked, Correct}
 use Rattle.taken_list.specs.Promises.{Answers, InLists, Fate, OnceEach}
+use Rattle.calendar.specs.facts.StoodOn.{marked-stage}
 use Rattle.calendar.specs.facts.LedgerLaws.{Lawful}
 use Rattle.lists.specs.Walks.{unmarked-there, there-unmarked}
 use Rattle.taken_list.specs.OneTake.{marked-is, Met, met}
@@ -47,7 +47,12 @@ module _ (sh : Shape) (m : Memory) (L : Ledger) (C : Correct sh m L) (G : Lawful
             (subst (λ c. Mem n (C .lists c)) (sym home ∙ ap (λ (y : Item). bucketOf sh (y .time)) q) j) clean q,
       )
 
-  -- ── a finished take ──
+  -- ── a finished call ──
+  stored : (c : ℕ) (x : Item) → L .asked c ≡ enqueue x → Finished L c → L .response c ≡ Stored c
+  stored c x a f =
+      let said : reply (met sh m L C G c f .items) (enqueue x) ≡ poolReply L c = sym (ap (reply (met sh m L C G c f .items)) a) ∙ met sh m L C G c f .replied in
+      sym (ap (λ (r : Reply). r .response) said) ∙ ap Stored (G .put c x a .0)
+
   answer : (d : ℕ) → L .asked d ≡ dequeue → Finished L d → (L .response d ≡ Empty) ⊎ ((x : Item) × Answers L d x × (L .asked (x .ticket) ≡ enqueue x))
   answer d a f = go (met sh m L C G d f)
     where
@@ -66,15 +71,13 @@ module _ (sh : Shape) (m : Memory) (L : Ledger) (C : Correct sh m L) (G : Lawful
   -- who holds an arrival is in progress
   pub holder-busy : (d : ℕ) (x : Item) → HeldBy sh m L d x → InProgress sh m L d
   holder-busy d x (i, l, c, e, q) =
-      let (kind, stage) = parts (eqb (worker (m .table) i .kind) 1) _ e in
-      let (lo, hi) = within 1 3 (worker (m .table) i .stage) stage in
-      (i, l, c, is-not (worker (m .table) i .stage) 0 (λ z. omega arith))
+      let (kind, lo, hi) = marked-stage (worker (m .table) i) e in (i, l, c, is-not (worker (m .table) i .stage) 0 (λ z. omega arith))
 
   holds-on : (d : ℕ) (x : Item) → HeldBy sh m L d x → Finished L d → ⊥
   holds-on d x h (s, f) = Option·none-ne-some _ (sym (C .in-progress-not-ended d (holder-busy d x h)) ∙ f)
 
-  fate-of : (x : Item) → L .asked (x .ticket) ≡ enqueue x → Finished L (x .ticket) → Fate sh m L x
-  fate-of x a f = go (C .not-lost (x .ticket) x a f)
+  fate-of : (c : ℕ) (x : Item) → L .asked c ≡ enqueue x → Finished L c → Fate sh m L x
+  fate-of c x a f = go (C .not-lost c x a f)
     where
       only : (d e : ℕ) → L .marked d ≡ some x → L .marked e ≡ some x → e ≡ d
       only d e k j = C .marked-once e d x x j k refl
@@ -92,10 +95,16 @@ module _ (sh : Shape) (m : Memory) (L : Ledger) (C : Correct sh m L) (G : Lawful
         λ i. lists-put x i .1 z,
       )
 
-      go : ((unmarkedOf sh (m .store) x (C .lists (bucketOf sh (x .time))) ≡ 1) × ((d : ℕ) → L .marked d ≢ some x))
-          ⊎ ((unmarkedOf sh (m .store) x (C .lists (bucketOf sh (x .time))) ≡ 0) × ((d : ℕ) × (L .marked d ≡ some x))) → Fate sh m L x
-      go (inl (one, nobody)) = inr (inr (in-lists x a (λ z. omega arith), λ e g. nobody e (g .1), λ e g. nobody e (C .held-marked e x g)))
+      go : ListedOrMarked L x (unmarkedOf sh (m .store) x (C .lists (bucketOf sh (x .time)))) → Fate sh m L x
+      go (inl (one, nobody)) =
+          let listed = in-lists x (ap (L .asked) (G .put c x a .0) ∙ a) (λ z. omega arith) in
+          inr (inr (listed, λ e g. nobody e (g .1), λ e g. nobody e (C .held-marked e x g)))
       go (inr (z, (d, k))) = kept z d k (C .marked-kept d x k)
 
   pub once-each : OnceEach sh m L
-  once-each = record { answered-put = answer; answered-once = λ c d x y g h t. C .marked-once c d x y (g .1) (h .1) t; fate = fate-of }
+  once-each = record {
+    put-stored = stored;
+    answered-put = answer;
+    answered-once = λ c d x y g h t. C .marked-once c d x y (g .1) (h .1) t;
+    fate = λ c x a f. (G .put c x a .0, fate-of c x a f);
+  }

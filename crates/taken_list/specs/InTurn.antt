@@ -47,7 +47,7 @@ module _ (L : Ledger) where
       first : x ≡ suc n
       first = by-size (suc n) x (λ h. absurd (later h)) (λ h. omega (arith, range x (here refl) .0))
 
-  pub agree-on : (S : Items) (i k n : ℕ) → k ≤ n → Fits L S (countFrom i k) → ((c : ℕ) → i + k ≤ c → Finished L c → ⊥)
+  agree-on : (S : Items) (i k n : ℕ) → k ≤ n → Fits L S (countFrom i k) → ((c : ℕ) → i + k ≤ c → Finished L c → ⊥)
       → Agree L (countFrom i n) (replies S (map (L .asked) (countFrom i n)))
   unfolding wordsFrom
   agree-on S i zero zero l f out = tt

@@ -8,3 +8,4 @@ pub mod TakesAlone
 pub mod Draining
 pub mod PromisesKept
 pub mod Needed
+pub mod NeededToDrain

@@ -1,17 +1,17 @@
--- What the promises' hypotheses are for: runs in which a conclusion fails because its hypothesis does. 7 and 3 are arrivals, by their times.
+-- What the hypotheses of promises 1 to 5 are for: runs in which a conclusion fails because its hypothesis does. 7 and 3 are arrivals, by their times.
+--     seen, item, nowhere                      the ledger after a history; an arrival by time and ticket; an empty list has none
 --     overlap-needed                           1: calls that overlap
 --     put-before-needed                        2: a put that ended after the take had started
 --     ended-put-needed                         3: a put that ended after the take had
 --     apart-needed, put-before-both-needed     4: takes that overlap; a put that ended after the first take had started
 --     end-needed                               5: a put that has not ended
---     quiet-needed, in-turn-needed             6: a put in progress; takes that overlap
 -- Assumes nothing.
 use mathlib.Core.Path.{_≡_, refl, sym, ap, _∙_, subst}
 use mathlib.Core.Bool.{Bool, true, false, cond}
 use mathlib.Core.Logic.{_≢_, inl, inr}
-use mathlib.Core.List.{List, [], _∷_, _++_, map, List·Memᴰ, List·Memᴰ·head, List·Memᴰ·not-nil}
+use mathlib.Core.List.{List, [], _++_, map, List·Memᴰ, List·Memᴰ·not-nil}
 use mathlib.Core.Option.{Option, none, some, Option·none-ne-some, Option·some-injective}
-use Prim.Native.Nat.{ℕ, zero, suc, _<_}
+use Prim.Native.Nat.{ℕ, _<_}
 use native.Mathlib.Omega.{arith}
 use lib.Dec.{eqb}
 use Rattle.arrival.specs.declared.Item.{Item}
@@ -19,13 +19,13 @@ use Rattle.arrival.specs.declared.Action.{Action}
 use Rattle.arrival.specs.declared.Response.the-variants.{Empty}
 use Rattle.arrival.specs.Keys.{lower, bucketOf}
 use Rattle.arrival.specs.Energy.{energyOf}
-use Rattle.arrival.specs.Queue.{enqueue, dequeue, Reply, dequeued, replies, taken}
+use Rattle.arrival.specs.Queue.{enqueue, Reply, replies}
 use Rattle.laws.specs.Tests.{never}
 use Rattle.laws.specs.Counting.{every}
 use Rattle.laws.specs.Lists.{wordsFrom}
 use Rattle.calendar.specs.rules.Layout.{address, read, write}
-use Rattle.calendar.specs.rules.Ranges.{blank, worker, storeInRange, tableInRange}
-use Rattle.calendar.specs.rules.Reclaim.{inProgress, isFree, firstFreeOf, firstFree}
+use Rattle.calendar.specs.rules.Ranges.{blank, storeInRange, tableInRange}
+use Rattle.calendar.specs.rules.Reclaim.{isFree, firstFreeOf, firstFree}
 use Rattle.calendar.specs.rules.Opening.{openStore, openTable}
 use Rattle.calendar.specs.rules.Starts.{enqueueStart, dequeueStart}
 use Rattle.calendar.specs.rules.SearchSteps.{found, settle, step-1, step-2, step-3}
@@ -36,16 +36,16 @@ use Rattle.calendar.specs.rules.Refusals.{openRefusal, enqueueRefusal, dequeueR
 use Rattle.calendar.specs.rules.Operations.{open-pool, act, run}
 use Rattle.calendar.specs.rules.Ledger.{Ledger, new, at, ledger}
 use Rattle.calendar.specs.rules.Snapshot.{nodesFrom, bucketList}
-use Rattle.calendar.specs.rules.Linearizability.{Finished, EndedBefore, markTicket, poolReply, Agree, Correct, Demand3}
-use Rattle.taken_list.specs.Promises.{Answers, GoneToAnother, InLists, starts, Fate, Quiet, TakesInTurn, Ascending, nth, Drained}
+use Rattle.calendar.specs.rules.Linearizability.{Finished, EndedBefore, Agree, Correct, Demand3}
+use Rattle.taken_list.specs.Promises.{Answers, GoneToAnother, InLists, starts, Fate}
 use Rattle.calendar.specs.facts.Starred.{arrival, turns, put, take, lent}
-use Rattle.calendar.specs.facts.WorkedHistory.{one-bucket, history, start}
+use Rattle.calendar.specs.facts.WorkedHistory.{one-bucket, start}
 use Rattle.interleavings.specs.Demand3.{demand-3}
 
 unfoldable pub seen : List Action → Ledger
 seen h = ledger one-bucket start h new
 
-unfoldable item : ℕ → ℕ → Item
+unfoldable pub item : ℕ → ℕ → Item
 item time ticket = record { time = time; path = 7; order = 1; distance = 3; ticket = ticket }
 
 -- an arrival that differs from the only one marked is not marked
@@ -57,7 +57,8 @@ not-marked f d x y is apart e k = go (eqb d e) (ap (λ (g : ℕ → Option Item)
     go false q = Option·none-ne-some _ q
 
 -- the pool's one list is empty: nothing is in the lists
-nowhere : (h : List Action) → bucketList one-bucket (run one-bucket start h .store) 0 ≡ some [] → (x : Item) → InLists one-bucket (run one-bucket start h) x → ⊥
+pub nowhere : (h : List Action) → bucketList one-bucket (run one-bucket start h .store) 0 ≡ some [] → (x : Item)
+    → InLists one-bucket (run one-bucket start h) x → ⊥
 unfolding one-bucket
 nowhere h e x (b, n, ns, l, q, i, c, t) = go b l q
   where
@@ -77,42 +78,44 @@ unfoldable pub overlapping : List Action
 overlapping = take 0 0 ++ put 1 (arrival 7 3) 5 ++ turns 0 7
 
 pub overlap-needed : Agree (seen overlapping) (starts (seen overlapping)) (replies [] (map (seen overlapping .asked) (starts (seen overlapping)))) → ⊥
-unfolding seen item overlapping one-bucket history start arrival turns put take lent address read write every blank storeInRange tableInRange isFree
+unfolding seen item overlapping one-bucket start arrival turns put take lent address read write every blank storeInRange tableInRange isFree
     firstFreeOf firstFree wordsFrom openStore openTable enqueueStart dequeueStart found settle step-1 step-2 step-3 step-4 step-5 step-6 step-7 walk
     step-8 step-9 step-10 step-11 step-12 step-13 no-step step openRefusal enqueueRefusal dequeueRefusal stepRefusal open-pool act run ledger
     nodesFrom lower bucketOf energyOf
 overlap-needed agree = let z : _≡_ {A = ℕ} 0 2 = ap (λ (r : Reply). r .ticket) (agree .0 (2, refl)) in omega arith
 
 -- ── 2 ──
--- a take has seen 7 and pauses, 3 is stored, the take answers 7: 3 is not marked
+-- a take has seen 7 and pauses, 3 is stored, another call starts, the take answers 7: 3 is not marked
 unfoldable pub passing : List Action
-passing = put 0 (arrival 7 3) 5 ++ take 1 3 ++ put 0 (arrival 3 3) 6 ++ turns 1 5
+passing = put 0 (arrival 7 3) 5 ++ take 1 3 ++ put 0 (arrival 3 3) 6 ++ take 0 0 ++ turns 1 5
 
 passing-run :
     (seen passing .asked 3 ≡ enqueue (item 3 3))
     × (seen passing .ended 3 ≡ some 3)
+    × (seen passing .ended 2 ≡ some 4)
     × Answers (seen passing) 2 (item 7 1)
     × (lower (item 3 3) (item 7 1) ≡ true)
     × (seen passing .marked ≡ at 2 (some (item 7 1)) (λ c. none))
     × (item 3 3 .ticket ≢ item 7 1 .ticket)
-unfolding seen item passing one-bucket history start arrival turns put take lent address read write every blank storeInRange tableInRange isFree
+unfolding seen item passing one-bucket start arrival turns put take lent address read write every blank storeInRange tableInRange isFree
     firstFreeOf firstFree wordsFrom openStore openTable enqueueStart dequeueStart found settle step-1 step-2 step-3 step-4 step-5 step-6 step-7 walk
     step-8 step-9 step-10 step-11 step-12 step-13 no-step step openRefusal enqueueRefusal dequeueRefusal stepRefusal open-pool act run ledger
     nodesFrom lower bucketOf energyOf
-passing-run = (refl, refl, (((3, refl), refl), refl), refl, refl, λ q. omega arith)
+passing-run = (refl, refl, refl, (((4, refl), refl), refl), refl, refl, λ q. omega arith)
 
--- all but that the put ended before the take started
+-- it is not enough that the put ended before the take ended
 pub put-before-needed :
-    ((x y : Item) (d : ℕ) → seen passing .asked (x .ticket) ≡ enqueue x → Finished (seen passing) (x .ticket) → Answers (seen passing) d y → lower x y ≡ true
-    → GoneToAnother one-bucket (run one-bucket start passing) (seen passing) d x) → ⊥
+    ((d s t : ℕ) (x y : Item) → seen passing .asked (x .ticket) ≡ enqueue x → seen passing .ended (x .ticket) ≡ some s → seen passing .ended d ≡ some t → s < t
+    → Answers (seen passing) d y → lower x y ≡ true → GoneToAnother one-bucket (run one-bucket start passing) (seen passing) d x) → ⊥
 unfolding item
 put-before-needed claim =
-    let (a, e, g, l, is, apart) = passing-run in
-    let (d, u, k, w) = claim (item 3 3) (item 7 1) 2 a (3, e) g l in
+    let (a, e, f, g, l, is, apart) = passing-run in
+    let (d, u, k, w) = claim 2 3 4 (item 3 3) (item 7 1) a e f (omega arith) g l in
     not-marked (seen passing .marked) 2 (item 3 3) (item 7 1) is apart d k
 
 -- ── 3 ──
--- a take has seen no node, 7 is linked, the take answers empty, and then the put of 7 ends: 7 is not marked
+-- A take has seen no node, 7 is linked, the take answers empty, and then the put of 7 ends: 7 is not marked. (No run is known in which the put ends during
+-- the take: docs/DECISIONS.md, P15.)
 unfoldable pub linked : List Action
 linked = take 0 2 ++ put 1 (arrival 7 3) 3 ++ turns 0 1 ++ turns 1 2
 
@@ -122,7 +125,7 @@ linked-run :
     × (seen linked .ended 1 ≡ some 2)
     × (seen linked .response 1 ≡ Empty)
     × (seen linked .marked ≡ (λ c. none))
-unfolding seen item linked one-bucket history start arrival turns put take lent address read write every blank storeInRange tableInRange isFree
+unfolding seen item linked one-bucket start arrival turns put take lent address read write every blank storeInRange tableInRange isFree
     firstFreeOf firstFree wordsFrom openStore openTable enqueueStart dequeueStart found settle step-1 step-2 step-3 step-4 step-5 step-6 step-7 walk
     step-8 step-9 step-10 step-11 step-12 step-13 no-step step openRefusal enqueueRefusal dequeueRefusal stepRefusal open-pool act run ledger
     nodesFrom lower bucketOf energyOf
@@ -138,28 +141,35 @@ ended-put-needed claim =
     Option·none-ne-some _ (ap (λ (g : ℕ → Option Item). g d) (sym is) ∙ k)
 
 -- ── 4 ──
--- 3 and 7 are stored; a take marks 3 and pauses, another takes 7, the first answers 3
+-- 3 and 7 are stored; a take marks 3 and pauses, another takes 7, one more starts, the first answers 3
 unfoldable pub swapping : List Action
-swapping = put 0 (arrival 3 3) 5 ++ put 0 (arrival 7 3) 6 ++ take 0 4 ++ take 1 10 ++ turns 0 1
+swapping = put 0 (arrival 3 3) 5 ++ put 0 (arrival 7 3) 6 ++ take 0 4 ++ take 1 10 ++ take 1 0 ++ turns 0 1
 
+-- it is not enough that the one ended before the other ended
 pub apart-needed :
-    ((c d : ℕ) (x y : Item) → Answers (seen swapping) c x → Answers (seen swapping) d y → EndedBefore (seen swapping) (y .ticket) c → lower x y ≡ true) → ⊥
-unfolding seen item swapping one-bucket history start arrival turns put take lent address read write every blank storeInRange tableInRange isFree
+    ((c d s t : ℕ) (x y : Item) → seen swapping .ended c ≡ some s → seen swapping .ended d ≡ some t → s < t → Answers (seen swapping) c x
+    → Answers (seen swapping) d y → EndedBefore (seen swapping) (y .ticket) c → lower x y ≡ true) → ⊥
+unfolding seen item swapping one-bucket start arrival turns put take lent address read write every blank storeInRange tableInRange isFree
     firstFreeOf firstFree wordsFrom openStore openTable enqueueStart dequeueStart found settle step-1 step-2 step-3 step-4 step-5 step-6 step-7 walk
     step-8 step-9 step-10 step-11 step-12 step-13 no-step step openRefusal enqueueRefusal dequeueRefusal stepRefusal open-pool act run ledger
     nodesFrom lower bucketOf energyOf
-apart-needed claim = never (claim 4 3 (item 7 2) (item 3 1) (((4, refl), refl), refl) (((4, refl), refl), refl) (1, refl, omega arith))
+apart-needed claim =
+    never (claim 4 3 4 5 (item 7 2) (item 3 1) refl refl (omega arith) (((4, refl), refl), refl) (((5, refl), refl), refl) (1, refl, omega arith))
 
--- in the worked history 3 is stored after the take that answers 7 had started
+-- the take of `passing` answers 7, and one that starts then answers 3
+unfoldable pub between : List Action
+between = passing ++ take 1 7
+
+-- it is not enough that the put ended before the first take ended
 pub put-before-both-needed :
-    ((c d : ℕ) (x y : Item) → EndedBefore (seen history) c d → Answers (seen history) c x → Answers (seen history) d y → Finished (seen history) (y .ticket)
-    → lower x y ≡ true) → ⊥
-unfolding seen item one-bucket history start arrival turns put take lent address read write every blank storeInRange tableInRange isFree firstFreeOf
-    firstFree wordsFrom openStore openTable enqueueStart dequeueStart found settle step-1 step-2 step-3 step-4 step-5 step-6 step-7 walk step-8 step-9
-    step-10 step-11 step-12 step-13 no-step step openRefusal enqueueRefusal dequeueRefusal stepRefusal open-pool act run ledger nodesFrom lower
-    bucketOf energyOf
+    ((c d s t : ℕ) (x y : Item) → EndedBefore (seen between) c d → Answers (seen between) c x → Answers (seen between) d y
+    → seen between .ended (y .ticket) ≡ some s → seen between .ended c ≡ some t → s < t → lower x y ≡ true) → ⊥
+unfolding seen item passing between one-bucket start arrival turns put take lent address read write every blank storeInRange tableInRange isFree
+    firstFreeOf firstFree wordsFrom openStore openTable enqueueStart dequeueStart found settle step-1 step-2 step-3 step-4 step-5 step-6 step-7 walk
+    step-8 step-9 step-10 step-11 step-12 step-13 no-step step openRefusal enqueueRefusal dequeueRefusal stepRefusal open-pool act run ledger
+    nodesFrom lower bucketOf energyOf
 put-before-both-needed claim =
-    never (claim 2 4 (item 7 1) (item 3 3) (3, refl, omega arith) (((3, refl), refl), refl) (((4, refl), refl), refl) (3, refl))
+    never (claim 2 5 3 4 (item 7 1) (item 3 3) (4, refl, omega arith) (((4, refl), refl), refl) (((5, refl), refl), refl) refl refl (omega arith))
 
 -- ── 5 ──
 -- a put has begun: its arrival is nowhere yet
@@ -171,7 +181,7 @@ beginning-run :
     × (seen beginning .marked ≡ (λ c. none))
     × (bucketList one-bucket (run one-bucket start beginning .store) 0 ≡ some [])
     × (one-bucket .buckets ≡ 1)
-unfolding seen item beginning one-bucket history start arrival turns put take lent address read write every blank storeInRange tableInRange isFree
+unfolding seen item beginning one-bucket start arrival turns put take lent address read write every blank storeInRange tableInRange isFree
     firstFreeOf firstFree wordsFrom openStore openTable enqueueStart dequeueStart found settle step-1 step-2 step-3 step-4 step-5 step-6 step-7 walk
     step-8 step-9 step-10 step-11 step-12 step-13 no-step step openRefusal enqueueRefusal dequeueRefusal stepRefusal open-pool act run ledger
     nodesFrom lower bucketOf energyOf
@@ -189,91 +199,3 @@ end-needed claim = go (claim (item 7 1) (beginning-run .0))
     go (inl ((d, g, w), y, z)) = nobody d (g .1)
     go (inr (inl ((d, g, w), y, z))) = nobody d (correct beginning .held-marked d (item 7 1) g)
     go (inr (inr (i, y, z))) = nowhere beginning (beginning-run .2) (item 7 1) i
-
--- ── 6 ──
--- a put has begun and nothing is in the lists; it goes on, and a take answers its arrival
-unfoldable pub goingOn : List Action
-goingOn = turns 0 5 ++ take 0 7
-
--- 3 and 7 are stored; a take begins, another takes 3, the first answers 7
-unfoldable pub stored : List Action
-stored = put 0 (arrival 3 3) 5 ++ put 0 (arrival 7 3) 6
-
-unfoldable pub crossing : List Action
-crossing = take 0 0 ++ take 1 8 ++ turns 0 7
-
--- the ledger after g, which goes on from h
-abbrev pub afterwards : List Action → List Action → Ledger
-afterwards h g = ledger one-bucket (run one-bucket start h) g (seen h)
-
-going-on-run : (afterwards beginning goingOn .ended 2 ≡ some 2) × (markTicket (afterwards beginning goingOn .marked 2) ≡ 1)
-unfolding seen item beginning goingOn one-bucket history start arrival turns put take lent address read write every blank storeInRange tableInRange
-    isFree firstFreeOf firstFree wordsFrom openStore openTable enqueueStart dequeueStart found settle step-1 step-2 step-3 step-4 step-5 step-6 step-7
-    walk step-8 step-9 step-10 step-11 step-12 step-13 no-step step openRefusal enqueueRefusal dequeueRefusal stepRefusal open-pool act run ledger
-    nodesFrom lower bucketOf energyOf
-going-on-run = (refl, refl)
-
-pub quiet-needed : TakesInTurn 1 (afterwards beginning goingOn) × (Drained one-bucket (run one-bucket start beginning) 1 (afterwards beginning goingOn) → ⊥)
-unfolding seen item beginning goingOn one-bucket history start arrival turns put take lent address read write every blank storeInRange tableInRange
-    isFree firstFreeOf firstFree wordsFrom openStore openTable enqueueStart dequeueStart found settle step-1 step-2 step-3 step-4 step-5 step-6 step-7
-    walk step-8 step-9 step-10 step-11 step-12 step-13 no-step step openRefusal enqueueRefusal dequeueRefusal stepRefusal open-pool act run ledger
-    nodesFrom lower bucketOf energyOf
-quiet-needed = (
-  λ c lo hi. let z : c ≡ 2 = omega arith in (rw z refl, λ h. absurd (omega arith)),
-  λ D. go (D .left) (D .left-listed) (D .answers 0 (2, going-on-run .0)),
-)
-  where
-    go : (left : List Item) → ((x : Item) → List·Memᴰ x left → InLists one-bucket (run one-bucket start beginning) x)
-        → poolReply (afterwards beginning goingOn) 2 ≡ dequeued (nth left 0) → ⊥
-    go [] listed r = let z : _≡_ {A = ℕ} 1 0 = sym (going-on-run .1) ∙ ap (λ (u : Reply). u .ticket) r in omega arith
-    go (x ∷ left) listed r = nowhere beginning (beginning-run .2) x (listed x (List·Memᴰ·head refl))
-
--- a reply shows the item
-same-item : (x y : Item) → dequeued (some x) ≡ dequeued (some y) → x ≡ y
-same-item x y e =
-    let shown : taken x ≡ taken y = ap (λ (r : Reply). r .response) e in
-    let time : x .time ≡ y .time = cc in
-    let path : x .path ≡ y .path = cc in
-    let order : x .order ≡ y .order = cc in
-    let distance : x .distance ≡ y .distance = cc in
-    let ticket : x .ticket ≡ y .ticket = ap (λ (r : Reply). r .ticket) e in
-    λ i. record { time = time i; path = path i; order = order i; distance = distance i; ticket = ticket i }
-
-shows-one : (x : Item) → dequeued (some x) ≡ dequeued none → ⊥
-shows-one x e =
-    let shown : taken x ≡ Empty = ap (λ (r : Reply). r .response) e in absurd (let z : _≡_ {A = ℕ} 0 1 = cc in omega arith)
-
-crossing-run :
-    (afterwards stored crossing .started ≡ 4)
-    × (seen stored .started ≡ 2)
-    × (afterwards stored crossing .asked 3 ≡ dequeue)
-    × (afterwards stored crossing .asked 4 ≡ dequeue)
-    × (afterwards stored crossing .ended 3 ≡ some 4)
-    × (afterwards stored crossing .ended 4 ≡ some 4)
-    × (poolReply (afterwards stored crossing) 3 ≡ dequeued (some (item 7 2)))
-    × (poolReply (afterwards stored crossing) 4 ≡ dequeued (some (item 3 1)))
-    × (lower (item 7 2) (item 3 1) ≡ false)
-    × Quiet one-bucket (run one-bucket start stored)
-unfolding seen item stored crossing one-bucket history start arrival turns put take lent address read write every blank storeInRange tableInRange
-    isFree firstFreeOf firstFree wordsFrom openStore openTable enqueueStart dequeueStart found settle step-1 step-2 step-3 step-4 step-5 step-6 step-7
-    walk step-8 step-9 step-10 step-11 step-12 step-13 no-step step openRefusal enqueueRefusal dequeueRefusal stepRefusal open-pool act run ledger
-    nodesFrom lower bucketOf energyOf
-crossing-run = (refl, refl, refl, refl, refl, refl, refl, refl, refl, idle)
-  where
-    idle : (i : ℕ) → i < 2 → inProgress (worker (run one-bucket start stored .table) i) ≡ false
-    idle zero h = refl
-    idle (suc zero) h = refl
-    idle (suc (suc i)) h = absurd (omega arith)
-
-pub in-turn-needed : Quiet one-bucket (run one-bucket start stored) × (Drained one-bucket (run one-bucket start stored) 2 (afterwards stored crossing) → ⊥)
-in-turn-needed =
-    let (s, n, a, b, e, f, r, q, l, idle) = crossing-run in
-    (idle, λ D. go (D .left) (D .ascending) (sym r ∙ D .answers 0 (4, e)) (sym q ∙ D .answers 1 (4, f)) l)
-  where
-    go : (left : List Item) → Ascending left → dequeued (some (item 7 2)) ≡ dequeued (nth left 0) → dequeued (some (item 3 1)) ≡ dequeued (nth left 1)
-        → lower (item 7 2) (item 3 1) ≡ false → ⊥
-    go [] up r q l = shows-one (item 7 2) r
-    go (x ∷ []) up r q l = shows-one (item 3 1) q
-    go (x ∷ y ∷ left) up r q l =
-        let h : lower x y ≡ true = up .0 y (List·Memᴰ·head refl) in
-        never (sym l ∙ (λ i. lower (same-item (item 7 2) x r i) (same-item (item 3 1) y q i)) ∙ h)

@@ -27,7 +27,7 @@ use Rattle.calendar.specs.facts.LedgerLaws.{Lawful}
 use Rattle.taken_list.specs.Along.{remaining, Fits, fits, fits-front, fits-behind, Marked, remaining-put, in-or-marked}
 
 -- ── real time ──
-pub time-apart : (L : Ledger) (o p : List ℕ) (a b : ℕ) → RespectsTime L (o ++ p) → Mem a o → Mem b p → EndedBefore L b a → ⊥
+time-apart : (L : Ledger) (o p : List ℕ) (a b : ℕ) → RespectsTime L (o ++ p) → Mem a o → Mem b p → EndedBefore L b a → ⊥
 time-apart L [] p a b t i j = absurd (List·Memᴰ·not-nil i)
 time-apart L (c ∷ o) p a b t i j = go (List·Memᴰ·cases-cons i) (λ k. time-apart L o p a b (t .1) k j)
   where

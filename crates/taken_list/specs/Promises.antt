@@ -19,7 +19,7 @@ use Rattle.arrival.specs.declared.Shape.{Shape}
 use Rattle.arrival.specs.declared.Item.{Item}
 use Rattle.arrival.specs.declared.Action.{Action}
 use Rattle.arrival.specs.declared.Request.{Request}
-use Rattle.arrival.specs.declared.Response.the-variants.{Opened, Empty}
+use Rattle.arrival.specs.declared.Response.the-variants.{Opened, Stored, Empty}
 use Rattle.arrival.specs.Keys.{lower}
 use Rattle.arrival.specs.Queue.{enqueue, dequeue, dequeued, replies}
 use Rattle.laws.specs.Lists.{wordsFrom}
@@ -97,13 +97,15 @@ Fate sh m L x =
     ⊎ (InLists sh m x × ((e : ℕ) → Answers L e x → ⊥) × ((e : ℕ) → HeldBy sh m L e x → ⊥)))
 
 pub record OnceEach (sh : Shape) (m : Memory) (L : Ledger) : Type 0 where
+  -- what a finished put answered is stored, with its ticket
+  pub put-stored : (c : ℕ) (x : Item) → L .asked c ≡ enqueue x → Finished L c → L .response c ≡ Stored c
   -- what a finished take answered is an arrival that was put, with all its fields, or empty
   pub answered-put : (d : ℕ) → L .asked d ≡ dequeue → Finished L d
       → (L .response d ≡ Empty) ⊎ ((x : Item) × Answers L d x × (L .asked (x .ticket) ≡ enqueue x))
   -- no two answers come from one put
   pub answered-once : (c d : ℕ) (x y : Item) → Answers L c x → Answers L d y → x .ticket ≡ y .ticket → c ≡ d
-  -- what was put is not lost once its put has ended
-  pub fate : (x : Item) → L .asked (x .ticket) ≡ enqueue x → Finished L (x .ticket) → Fate sh m L x
+  -- what was put bears the ticket of its put, and is not lost once that has ended
+  pub fate : (c : ℕ) (x : Item) → L .asked c ≡ enqueue x → Finished L c → (x .ticket ≡ c) × Fate sh m L x
 
 -- ── 6: drained ──
 -- no call is in progress

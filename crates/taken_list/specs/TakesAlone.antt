@@ -1,5 +1,5 @@
 -- An order by the n-th start, and what takes alone answer.
---     divided               an order falls into the calls up to the n-th, and those after it, where the former have ended by then
+--     Divided, divided      an order falls into the calls up to the n-th, and those after it, where the former have ended by then
 --     ascending-drained     what takes alone give ascends
 --     drained-answers       takes in turn answer so
 -- Assumes nothing.
@@ -22,21 +22,23 @@ use Rattle.taken_list.specs.Along.{Fits}
 use Rattle.taken_list.specs.InTurn.{countFrom}
 
 -- ── an order in two parts ──
+-- in front what is at most n, behind it what is more
+abbrev pub Divided : ℕ → List ℕ → Type 0
+Divided n o = (front : List ℕ) × (rest : List ℕ) × (o ≡ front ++ rest) × ((c : ℕ) → Mem c front → c ≤ n) × ((c : ℕ) → Mem c rest → n < c)
+
 pub divided : (L : Ledger) (n : ℕ) (o : List ℕ) → RespectsTime L o → ((c : ℕ) → Mem c o → c ≤ n → (s : ℕ) × (L .ended c ≡ some s) × (s ≤ n))
-    → (front : List ℕ) × (rest : List ℕ) × (o ≡ front ++ rest) × ((c : ℕ) → Mem c front → c ≤ n) × ((c : ℕ) → Mem c rest → n < c)
+    → Divided n o
 divided L n [] t old = ([], [], refl, λ c i. absurd (List·Memᴰ·not-nil i), λ c i. absurd (List·Memᴰ·not-nil i))
 divided L n (x ∷ o) t old = by-size n x (λ h. after-n h) (λ h. before-n h (divided L n o (t .1) (λ c i. old c (there i))))
   where
-    after-n : n < x → (front : List ℕ) × (rest : List ℕ) × (x ∷ o ≡ front ++ rest) × ((c : ℕ) → Mem c front → c ≤ n) × ((c : ℕ) → Mem c rest → n < c)
+    after-n : n < x → Divided n (x ∷ o)
     after-n h = ([], x ∷ o, refl, λ c i. absurd (List·Memᴰ·not-nil i), λ c i. go c (List·Memᴰ·cases-cons i))
       where
         go : (c : ℕ) → (c ≡ x) ⊎ Mem c o → n < c
         go c (inl e) = omega arith
         go c (inr j) = by-size n c (λ l. l) (λ l. absurd (let (s, e, b) = old c (there j) l in t .0 c j (s, e, omega arith)))
 
-    before-n : x ≤ n
-        → (front : List ℕ) × (rest : List ℕ) × (o ≡ front ++ rest) × ((c : ℕ) → Mem c front → c ≤ n) × ((c : ℕ) → Mem c rest → n < c)
-        → (front : List ℕ) × (rest : List ℕ) × (x ∷ o ≡ front ++ rest) × ((c : ℕ) → Mem c front → c ≤ n) × ((c : ℕ) → Mem c rest → n < c)
+    before-n : x ≤ n → Divided n o → Divided n (x ∷ o)
     before-n h (front, rest, e, low, high) = (x ∷ front, rest, ap (λ (p : List ℕ). x ∷ p) e, λ c i. go c (List·Memᴰ·cases-cons i), high)
       where
         go : (c : ℕ) → (c ≡ x) ⊎ Mem c front → c ≤ n

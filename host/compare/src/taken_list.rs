@@ -1,11 +1,13 @@
 //! Whether what an engine printed keeps the promises on the taken list, the
 //! arrivals in the order in which takes answered them.
 //!
-//! From a turn file and its lines alone, and without a search for an order: the
-//! work grows as n log n, so that long files are checked, too. No line says which
-//! arrival a take in progress holds, which of alike arrivals was answered, or what
-//! is in the lists. Where the lines leave that open, the promises must hold in some
-//! way; so no right run is refused.
+//! From a turn file and its lines alone, and without a search for an order: for n
+//! calls the check takes n log n steps, so that long files are checked, too. No line
+//! says which arrival a take in progress holds, which of alike arrivals was answered,
+//! or what is in the lists. Where the lines leave that open, the promises must hold
+//! in some way; so no right run is refused. Some wrong ones are not found: an answer
+//! counts as the lowest of its alike arrivals, and a take may hold an arrival, or a
+//! put have linked one, from its first turn on, though it needs some turns for that.
 
 mod alike;
 mod calls;

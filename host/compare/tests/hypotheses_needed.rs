@@ -213,18 +213,21 @@ fn a_put_in_progress_may_be_nowhere() {
     assert!(calls.iter().all(|call| !call.answer.starts_with("took")));
 }
 
-/// 6 (drained): a take in progress holds 3, and takes one after the other do not
-/// answer all that was stored.
+/// 6 (drained): a take in progress has seen 3, which is in the lists with 7. It goes
+/// on and takes 3, and takes one after the other answer 7 only.
 #[test]
-fn what_is_held_is_not_drained() {
-    let script = one_is_held().taken(0, 10, &took(7)).taken(0, 3, "empty");
+fn what_is_in_the_lists_is_not_drained_while_a_take_is_in_progress() {
+    let place = Script::open(2, 4, 1, 10)
+        .stored(0, 3, 5)
+        .stored(0, 7, 6)
+        .take(1)
+        .turns(1, 3);
+    assert_eq!(in_the_lists(&place), [3, 7]);
+    let script = place.end(1, 5, &took(3));
+    let script = script.taken(0, 7, &took(7)).taken(0, 3, "empty");
     let calls = calls(&script);
-    assert!(calls[1].answer == "stored 1" && calls[2].answer == "stored 2");
-    assert!(calls[3].end.is_none());
     let drained: Vec<&str> = calls[4..].iter().map(|call| call.answer).collect();
     assert_eq!(drained, [&took(7), "empty"]);
-    let plain = queue(&calls, &[1, 2, 4, 5]);
-    assert_eq!(plain[2..], [took(3), took(7)]);
 }
 
 /// The same: a put in progress has linked 5, and a take answers empty.

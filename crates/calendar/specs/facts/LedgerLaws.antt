@@ -2,7 +2,7 @@
 --     Lawful, lawful                an arrival bears its put's ticket and has a bucket; a call ends after it started
 --     Kept, kept-refl, kept-trans   what is written of finished calls stays
 --     kept-act                      it stays past any action, where calls in progress have not ended
---     Left, left-run                a memory and a ledger that a history left; what goes on from them
+--     FromHistory, history-on         a memory and a ledger that a history left; what goes on from them
 -- Assumes nothing.
 use mathlib.Core.Path.{_≡_, refl, sym, ap, _∙_, subst}
 use mathlib.Core.Logic.{_≢_}
@@ -34,6 +34,7 @@ pub record Lawful (sh : Shape) (L : Ledger) : Type 0 where
   pub put : (c : ℕ) (x : Item) → L .asked c ≡ queue.enqueue x → (x .ticket ≡ c) × (1 ≤ c) × (c ≤ L .started) × (bucketOf sh (x .time) < sh .buckets)
   -- a call ends after it started
   pub ended : (c s : ℕ) → L .ended c ≡ some s → (c ≤ s) × (s ≤ L .started)
+  -- a worker's last call has started
   pub last : (i : ℕ) → L .callOf i ≤ L .started
 
 module _ (sh : Shape) where
@@ -101,16 +102,18 @@ pub record Kept (L L′ : Ledger) : Type 0 where
   pub started : L .started ≤ L′ .started
   pub asked : (c : ℕ) → c ≤ L .started → L′ .asked c ≡ L .asked c
   pub ended : (c s : ℕ) → L .ended c ≡ some s → L′ .ended c ≡ some s
+  pub response : (c s : ℕ) → L .ended c ≡ some s → L′ .response c ≡ L .response c
   pub marked : (c s : ℕ) → L .ended c ≡ some s → L′ .marked c ≡ L .marked c
 
 pub kept-refl : (L : Ledger) → Kept L L
-kept-refl L = record { started = omega arith; asked = λ c h. refl; ended = λ c s e. e; marked = λ c s e. refl }
+kept-refl L = record { started = omega arith; asked = λ c h. refl; ended = λ c s e. e; response = λ c s e. refl; marked = λ c s e. refl }
 
 pub kept-trans : (L M N : Ledger) → Kept L M → Kept M N → Kept L N
 kept-trans L M N K J = record {
   started = omega (arith, K .started, J .started);
   asked = λ c h. J .asked c (omega (arith, K .started)) ∙ K .asked c h;
   ended = λ c s e. J .ended c s (K .ended c s e);
+  response = λ c s e. J .response c s (K .ended c s e) ∙ K .response c s e;
   marked = λ c s e. J .marked c s (K .ended c s e) ∙ K .marked c s e;
 }
 
@@ -119,6 +122,7 @@ kept-begins i call L = record {
   started = omega arith;
   asked = λ c h. upd-other (L .started + 1) c call (L .asked c) (λ q. omega arith);
   ended = λ c s e. e;
+  response = λ c s e. refl;
   marked = λ c s e. refl;
 }
 
@@ -132,6 +136,7 @@ module _ (i : ℕ) (L : Ledger) (open-still : L .ended (L .callOf i) ≡ none) w
     started = omega arith;
     asked = λ c h. refl;
     ended = λ c s e. e;
+    response = λ c s e. refl;
     marked = λ c s e. upd-other (L .callOf i) c (some x) (L .marked c) (not-this c s e);
   }
 
@@ -140,6 +145,7 @@ module _ (i : ℕ) (L : Ledger) (open-still : L .ended (L .callOf i) ≡ none) w
     started = omega arith;
     asked = λ c h. refl;
     ended = λ c s e. upd-other (L .callOf i) c (some (L .started)) (L .ended c) (not-this c s e) ∙ e;
+    response = λ c s e. upd-other (L .callOf i) c r (L .response c) (not-this c s e);
     marked = λ c s e. refl;
   }
 
@@ -174,16 +180,16 @@ module _ (sh : Shape) where
 
   -- ── histories that go on ──
   -- m and L are what some history from p left
-  abbrev pub Left : Memory → Memory → Ledger → Type 0
-  Left p m L = (h : List Action) × (run sh p h ≡ m) × (ledger sh p h new ≡ L)
+  abbrev pub FromHistory : Memory → Memory → Ledger → Type 0
+  FromHistory p m L = (h : List Action) × (run sh p h ≡ m) × (ledger sh p h new ≡ L)
 
-  pub run-on : (p : Memory) (h g : List Action) (L : Ledger)
+  run-on : (p : Memory) (h g : List Action) (L : Ledger)
       → (run sh p (h ++ g) ≡ run sh (run sh p h) g) × (ledger sh p (h ++ g) L ≡ ledger sh (run sh p h) g (ledger sh p h L))
   unfolding run ledger
   run-on p [] g L = (refl, refl)
   run-on p (a ∷ h) g L = run-on (act sh p a .memory) h g (reads sh p a L)
 
-  pub left-run : (p m : Memory) (L : Ledger) (g : List Action) → Left p m L → Left p (run sh m g) (ledger sh m g L)
-  left-run p m L g (h, e, f) =
+  pub history-on : (p m : Memory) (L : Ledger) (g : List Action) → FromHistory p m L → FromHistory p (run sh m g) (ledger sh m g L)
+  history-on p m L g (h, e, f) =
       let (a, b) = run-on p h g new in
       (h ++ g, a ∙ ap (λ (n : Memory). run sh n g) e, b ∙ λ i. ledger sh (e i) g (f i))

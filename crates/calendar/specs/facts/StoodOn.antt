@@ -1,4 +1,5 @@
--- What a call stands on, stage by stage, as a table: a guard of `holds`; and that a turn looks into no other node. Assumes nothing.
+-- What a call stands on, stage by stage, as a table: a guard of `holds`; that a turn looks into no other node; and where a take that has marked stands.
+-- Assumes nothing.
 use mathlib.Core.Path.{_≡_, refl}
 use mathlib.Core.List.{List, [], _∷_}
 use mathlib.Core.Bool.{true, cond, _||_, or-true}
@@ -6,11 +7,12 @@ use mathlib.Core.Logic.{_⊎_, inl, inr}
 use Prim.Native.Nat.{ℕ, zero, suc, _≤_}
 use native.Mathlib.Omega.{arith}
 use lib.Dec.{eqb}
-use borrow.Author.Tests.{eq-eqb, le-leb}
+use borrow.Author.Tests.{eqb-true, eq-eqb, le-leb}
 use Rattle.arrival.specs.declared.Shape.{Shape}
 use Rattle.arrival.specs.declared.Worker.{Worker}
+use Rattle.laws.specs.Tests.{parts, within}
 use Rattle.calendar.specs.rules.Layout.{linkCell}
-use Rattle.calendar.specs.rules.Snapshot.{holds}
+use Rattle.calendar.specs.rules.Snapshot.{holds, hasMarked}
 
 pub shape : Shape
 shape = record { workers = 1; nodes = 4; buckets = 2; width = 10 }
@@ -59,3 +61,10 @@ module _ (sh : Shape) (w : Worker) where
   pub right-stood-on : (w .stage ≡ 2) ⊎ (w .stage ≡ 10) → holds sh w (w .right) ≡ true
   right-stood-on (inl q) = rw (q, eq-eqb (w .right) (w .right) refl) (or-true (eqb (w .own) (w .right) || eqb (w .left) (linkCell sh (w .right))))
   right-stood-on (inr q) = rw (q, eq-eqb (w .right) (w .right) refl)
+
+-- a take that has marked is at 1 to 3
+pub marked-stage : (w : Worker) → hasMarked w ≡ true → (w .kind ≡ 1) × (1 ≤ w .stage) × (w .stage ≤ 3)
+marked-stage w e =
+    let (kind, stage) = parts (eqb (w .kind) 1) _ e in
+    let (lo, hi) = within 1 3 (w .stage) stage in
+    (eqb-true (w .kind) 1 kind, lo, hi)

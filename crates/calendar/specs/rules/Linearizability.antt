@@ -85,6 +85,10 @@ HeldBy sh m L d x =
 abbrev pub AnsweredBy : Ledger → ℕ → Item → Type 0
 AnsweredBy L d x = Finished L d × (L .response d ≡ taken x)
 
+-- n unmarked nodes hold x: one, and nobody has marked it; or none, and a take has
+abbrev pub ListedOrMarked : Ledger → Item → ℕ → Type 0
+ListedOrMarked L x n = ((n ≡ 1) × ((d : ℕ) → L .marked d ≢ some x)) ⊎ ((n ≡ 0) × ((d : ℕ) × (L .marked d ≡ some x)))
+
 -- What holds of the memory and the ledger after a history.
 pub record Correct (sh : Shape) (m : Memory) (L : Ledger) : Type 0 where
   pub linearization : Linearization L
@@ -110,9 +114,7 @@ pub record Correct (sh : Shape) (m : Memory) (L : Ledger) : Type 0 where
   pub listed-put : (b n : ℕ) → b < sh .buckets → List·Memᴰ n (lists b) → isMarked (link sh (m .store) n) ≡ false
       → (L .asked (itemAt sh (m .store) n .ticket) ≡ enqueue (itemAt sh (m .store) n)) × (bucketOf sh (itemAt sh (m .store) n .time) ≡ b)
   -- an arrival whose put has ended is unmarked in its bucket's list exactly once, until a take has marked it
-  pub not-lost : (c : ℕ) (x : Item) → L .asked c ≡ enqueue x → Finished L c
-      → ((unmarkedOf sh (m .store) x (lists (bucketOf sh (x .time))) ≡ 1) × ((d : ℕ) → L .marked d ≢ some x))
-      ⊎ ((unmarkedOf sh (m .store) x (lists (bucketOf sh (x .time))) ≡ 0) × ((d : ℕ) × (L .marked d ≡ some x)))
+  pub not-lost : (c : ℕ) (x : Item) → L .asked c ≡ enqueue x → Finished L c → ListedOrMarked L x (unmarkedOf sh (m .store) x (lists (bucketOf sh (x .time))))
   -- stored + puts at 6 and 7 = arrivals answered + takes at 1 to 3 + unmarked nodes in the lists
   pub balance : L .stored + workersWith sh (m .table) hasLinked ≡ L .took + workersWith sh (m .table) hasMarked + unmarkedTo sh (m .store) lists (sh .buckets)
 
