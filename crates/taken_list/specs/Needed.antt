@@ -1,8 +1,8 @@
 -- What the hypotheses of promises 1 to 5 are for: runs in which a conclusion fails because its hypothesis does. 7 and 3 are arrivals, by their times.
 --     seen, item, nowhere                      the ledger after a history; an arrival by time and ticket; an empty list has none
---     overlap-needed                           1: calls that overlap
+--     no-overlap-needed                           1: calls that overlap
 --     put-before-needed                        2: a put that ended after the take had started
---     ended-put-needed                         3: a put that ended after the take had
+--     put-before-empty-needed                         3: a put that ended after the take had
 --     apart-needed, put-before-both-needed     4: takes that overlap; a put that ended after the first take had started
 --     end-needed                               5: a put that has not ended
 -- Assumes nothing.
@@ -77,12 +77,12 @@ correct h = demand-3 one-bucket lent refl h
 unfoldable pub overlapping : List Action
 overlapping = take 0 0 ++ put 1 (arrival 7 3) 5 ++ turns 0 7
 
-pub overlap-needed : Agree (seen overlapping) (starts (seen overlapping)) (replies [] (map (seen overlapping .asked) (starts (seen overlapping)))) → ⊥
+pub no-overlap-needed : Agree (seen overlapping) (starts (seen overlapping)) (replies [] (map (seen overlapping .asked) (starts (seen overlapping)))) → ⊥
 unfolding seen item overlapping one-bucket start arrival turns put take lent address read write every blank storeInRange tableInRange isFree
     firstFreeOf firstFree wordsFrom openStore openTable enqueueStart dequeueStart found settle step-1 step-2 step-3 step-4 step-5 step-6 step-7 walk
     step-8 step-9 step-10 step-11 step-12 step-13 no-step step openRefusal enqueueRefusal dequeueRefusal stepRefusal open-pool act run ledger
     nodesFrom lower bucketOf energyOf
-overlap-needed agree = let z : _≡_ {A = ℕ} 0 2 = ap (λ (r : Reply). r .ticket) (agree .0 (2, refl)) in omega arith
+no-overlap-needed agree = let z : _≡_ {A = ℕ} 0 2 = ap (λ (r : Reply). r .ticket) (agree .0 (2, refl)) in omega arith
 
 -- ── 2 ──
 -- a take has seen 7 and pauses, 3 is stored, another call starts, the take answers 7: 3 is not marked
@@ -131,11 +131,11 @@ unfolding seen item linked one-bucket start arrival turns put take lent address 
     nodesFrom lower bucketOf energyOf
 linked-run = (refl, refl, refl, refl, refl)
 
-pub ended-put-needed :
+pub put-before-empty-needed :
     ((x : Item) (d : ℕ) → seen linked .asked (x .ticket) ≡ enqueue x → Finished (seen linked) (x .ticket) → Finished (seen linked) d
     → seen linked .response d ≡ Empty → GoneToAnother one-bucket (run one-bucket start linked) (seen linked) d x) → ⊥
 unfolding item
-ended-put-needed claim =
+put-before-empty-needed claim =
     let (a, e, f, r, is) = linked-run in
     let (d, u, k, w) = claim (item 7 2) 1 a (2, e) (2, f) r in
     Option·none-ne-some _ (ap (λ (g : ℕ → Option Item). g d) (sym is) ∙ k)

@@ -32,7 +32,7 @@ use Rattle.calendar.specs.rules.Refusals.{openRefusal, enqueueRefusal, dequeueR
 use Rattle.calendar.specs.rules.Operations.{open-pool, act, run}
 use Rattle.calendar.specs.rules.Ledger.{Ledger, ledger}
 use Rattle.calendar.specs.rules.Snapshot.{nodesFrom, bucketList}
-use Rattle.calendar.specs.rules.Linearizability.{Finished, poolReply}
+use Rattle.calendar.specs.rules.Linearizability.{Finished, EndedBefore, poolReply}
 use Rattle.taken_list.specs.Promises.{InLists, Quiet, TakesInTurn, Ascending, nth, Drained}
 use Rattle.calendar.specs.facts.Starred.{arrival, turns, put, take, lent}
 use Rattle.calendar.specs.facts.WorkedHistory.{one-bucket, start}
@@ -61,13 +61,13 @@ shows-one : (x : Item) → dequeued (some x) ≡ dequeued none → ⊥
 shows-one x e =
     let shown : taken x ≡ Empty = ap (λ (r : Reply). r .response) e in absurd (let z : _≡_ {A = ℕ} 0 1 = cc in omega arith)
 
--- where nothing is in the lists, the first take answers empty
-empty-first : (h g : List Action) (n : ℕ) → bucketList one-bucket (run one-bucket start h .store) 0 ≡ some [] → Drain h n g
-    → Finished (afterwards h g) (n + 1) → poolReply (afterwards h g) (n + 1) ≡ dequeued none
-empty-first h g n e D f = go (D .left) (D .left-listed) (D .answers 0 f)
+-- where nothing is in the lists, every take answers empty
+all-empty : (h g : List Action) (n k : ℕ) → bucketList one-bucket (run one-bucket start h .store) 0 ≡ some [] → Drain h n g
+    → Finished (afterwards h g) (n + suc k) → poolReply (afterwards h g) (n + suc k) ≡ dequeued none
+all-empty h g n k e D f = go (D .left) (D .left-listed) (D .answers k f)
   where
     go : (left : List Item) → ((x : Item) → List·Memᴰ x left → InLists one-bucket (run one-bucket start h) x)
-        → poolReply (afterwards h g) (n + 1) ≡ dequeued (nth left 0) → poolReply (afterwards h g) (n + 1) ≡ dequeued none
+        → poolReply (afterwards h g) (n + suc k) ≡ dequeued (nth left k) → poolReply (afterwards h g) (n + suc k) ≡ dequeued none
     go [] listed r = r
     go (x ∷ left) listed r = absurd (nowhere h e x (listed x (List·Memᴰ·head refl)))
 
@@ -91,7 +91,7 @@ going-on-run = (refl, refl, refl, refl, λ c lo hi. let z : c ≡ 2 = omega arit
 pub put-in-progress : (seen beginning .started ≡ 1) × TakesInTurn 1 (afterwards beginning goingOn) × (Drain beginning 1 goingOn → ⊥)
 put-in-progress =
     let (n, none-listed, f, r, turns) = going-on-run in
-    (n, turns, λ D. shows-one (item 7 1) (sym r ∙ empty-first beginning goingOn 1 none-listed D (2, f)))
+    (n, turns, λ D. shows-one (item 7 1) (sym r ∙ all-empty beginning goingOn 1 0 none-listed D (2, f)))
 
 -- ── a take in progress ──
 -- 3 and 7 are stored, and a take has seen 3; it goes on and takes 3, and one that starts then answers 7
@@ -138,40 +138,40 @@ take-in-progress =
         pick (inr j) = never (sym l ∙ ap (λ (z : Item). lower z (item 3 1)) (shows-item (item 7 2) x r) ∙ up .0 (item 3 1) j)
 
 -- ── a put behind the place ──
+-- nothing is in the lists; 3 is stored, and a take answers it
 unfoldable pub storing : List Action
-storing = put 0 (arrival 3 3) 5
+storing = put 0 (arrival 3 3) 5 ++ take 0 7
 
 storing-run :
     (bucketList one-bucket (run one-bucket start [] .store) 0 ≡ some [])
     × (afterwards [] storing .ended 1 ≡ some 1)
-    × (afterwards [] storing .response 1 ≡ Stored 1)
+    × (afterwards [] storing .ended 2 ≡ some 2)
+    × (poolReply (afterwards [] storing) 2 ≡ dequeued (some (item 3 1)))
     × Quiet one-bucket (run one-bucket start [])
 unfolding seen item storing one-bucket start arrival turns put take lent address read write every blank storeInRange tableInRange isFree firstFreeOf
     firstFree wordsFrom openStore openTable enqueueStart dequeueStart found settle step-1 step-2 step-3 step-4 step-5 step-6 step-7 walk step-8 step-9
     step-10 step-11 step-12 step-13 no-step step openRefusal enqueueRefusal dequeueRefusal stepRefusal open-pool act run ledger nodesFrom lower bucketOf
     energyOf
-storing-run = (refl, refl, refl, idle)
+storing-run = (refl, refl, refl, refl, idle)
   where
     idle : (i : ℕ) → i < 2 → inProgress (worker (run one-bucket start [] .table) i) ≡ false
     idle zero h = refl
     idle (suc zero) h = refl
     idle (suc (suc i)) h = absurd (omega arith)
 
-pub put-behind : Quiet one-bucket (run one-bucket start []) × (Drain [] 0 storing → ⊥)
+-- no call was in progress, and the two do not overlap
+pub put-behind : Quiet one-bucket (run one-bucket start []) × EndedBefore (afterwards [] storing) 1 2 × (Drain [] 0 storing → ⊥)
 put-behind =
-    let (none-listed, f, r, idle) = storing-run in (
-      idle,
-      λ D. let shown : Stored 1 ≡ Empty = sym r ∙ ap (λ (u : Reply). u .response) (empty-first [] storing 0 none-listed D (1, f)) in
-          absurd (let z : _≡_ {A = ℕ} 0 1 = cc in omega arith),
-    )
+    let (none-listed, e, f, r, idle) = storing-run in
+    (idle, (1, e, omega arith), λ D. shows-one (item 3 1) (sym r ∙ all-empty [] storing 0 1 none-listed D (2, f)))
 
 -- ── takes that overlap ──
--- 3 and 7 are stored; a take begins, another takes 3, the first answers 7
+-- 3 and 7 are stored; a take begins, another marks 3, the first answers 7, the other 3: by starts and by ends not in the order of keys
 unfoldable pub stored : List Action
 stored = put 0 (arrival 3 3) 5 ++ put 0 (arrival 7 3) 6
 
 unfoldable pub crossing : List Action
-crossing = take 0 0 ++ take 1 8 ++ turns 0 7
+crossing = take 0 0 ++ take 1 4 ++ turns 0 10 ++ turns 1 1
 
 crossing-run :
     (seen stored .started ≡ 2)

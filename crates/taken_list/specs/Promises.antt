@@ -1,4 +1,5 @@
--- What a reader of the taken list, and a host, may rely on: six promises. They speak of a history's memory and ledger, and name no order of calls.
+-- What a reader of the taken list, and a host, may rely on: six promises. They speak of a history's memory and ledger, and name no order of
+-- calls but that of their starts.
 --     Answers, PutBefore, GoneToAnother, InLists     what became of an arrival, as an onlooker can say it
 --     NoOverlap, starts, OneAtATime                  1: used by one at a time
 --     NothingPassedOver                              2: nothing earlier is passed over
@@ -89,7 +90,7 @@ Swapped sh m L =
     (c d s : ℕ) (x y : Item) → L .ended c ≡ some s → Answers L c x → Answers L d y → EndedBefore L (y .ticket) c → lower y x ≡ true → d ≤ s
 
 -- ── 5: once each ──
--- one take has answered x, or one holds it, or it is in the lists; and nothing else
+-- one take has answered x, or one holds it, or it is in the lists: only one of the three
 abbrev pub Fate : Shape → Memory → Ledger → Item → Type 0
 Fate sh m L x =
     (((d : ℕ) × Answers L d x × ((e : ℕ) → Answers L e x → e ≡ d)) × ((e : ℕ) → HeldBy sh m L e x → ⊥) × (InLists sh m x → ⊥))

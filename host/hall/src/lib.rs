@@ -15,7 +15,7 @@
 //!
 //! The report has a star at an arrival x that was taken after a later one, y. By
 //! promises 2 and 4, x's put had not ended when y's take started, or the takes of
-//! both overlap, and x was in a worker's hand when y's take ended.
+//! both overlap, and x was marked and not yet answered when y's take ended.
 #![forbid(unsafe_code)]
 
 mod arguments;
