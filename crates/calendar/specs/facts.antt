@@ -23,7 +23,6 @@ pub mod FreshPool
 pub mod Acting
 pub mod RecordsBeyond
 pub mod LowestFirst
-pub mod LedgerLaws
 pub mod AdmittedOrders
 pub mod Guards
 pub mod StoodOn

@@ -23,7 +23,7 @@ use Rattle.calendar.specs.rules.Ledger.{Ledger}
 use Rattle.calendar.specs.rules.Snapshot.{unmarkedOf}
 use Rattle.calendar.specs.rules.Linearizability.{Finished, RespectsTime, markTicket, poolReply, InProgress, HeldBy, AnsweredBy, ListedOrMarked, Correct}
 use Rattle.taken_list.specs.Promises.{InLists, Quiet, TakesInTurn, nth, Drained}
-use Rattle.calendar.specs.facts.LedgerLaws.{Lawful, Kept}
+use Rattle.taken_list.specs.LedgerLaws.{Lawful, Kept}
 use Rattle.taken_list.specs.Along.{remaining, Fits, fits, fits-front, fits-behind, Put, Marked, remaining-put, in-or-marked, marked-gone}
 use Rattle.taken_list.specs.OneTake.{time-behind, one-put, marked-is, met, marks-takes}
 use Rattle.taken_list.specs.Fates.{in-lists, lists-put, holder-busy}

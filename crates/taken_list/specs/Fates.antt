@@ -22,8 +22,8 @@ use Rattle.calendar.specs.rules.Ledger.{Ledger}
 use Rattle.calendar.specs.rules.Snapshot.{unmarkedOf}
 use Rattle.calendar.specs.rules.Linearizability.{Finished, poolReply, InProgress, HeldBy, AnsweredBy, ListedOrMarked, Correct}
 use Rattle.taken_list.specs.Promises.{Answers, InLists, Fate, OnceEach}
+use Rattle.taken_list.specs.LedgerLaws.{Lawful}
 use Rattle.calendar.specs.facts.StoodOn.{marked-stage}
-use Rattle.calendar.specs.facts.LedgerLaws.{Lawful}
 use Rattle.lists.specs.Walks.{unmarked-there, there-unmarked}
 use Rattle.taken_list.specs.OneTake.{marked-is, Met, met}
 

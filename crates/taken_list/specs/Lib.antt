@@ -1,4 +1,5 @@
 pub mod Promises
+pub mod LedgerLaws
 pub mod Along
 pub mod OneTake
 pub mod Takes

@@ -23,7 +23,7 @@ use Rattle.calendar.specs.rules.Operations.{Memory}
 use Rattle.calendar.specs.rules.Ledger.{Ledger}
 use Rattle.calendar.specs.rules.Linearizability.{Finished, EndedBefore, RespectsTime, markTicket, poolReply, Correct}
 use Rattle.taken_list.specs.Promises.{PutBefore}
-use Rattle.calendar.specs.facts.LedgerLaws.{Lawful}
+use Rattle.taken_list.specs.LedgerLaws.{Lawful}
 use Rattle.taken_list.specs.Along.{remaining, Fits, fits, fits-front, fits-behind, Marked, remaining-put, in-or-marked}
 
 -- ── real time ──

@@ -22,9 +22,9 @@ use Rattle.calendar.specs.rules.Ledger.{Ledger, new, reads, ledger}
 use Rattle.calendar.specs.rules.Linearizability.{Correct, Always, Demand3}
 use Rattle.calendar.specs.rules.HostHistory.{oneByOne, HostAlways}
 use Rattle.taken_list.specs.Promises.{OneAtATime, NothingPassedOver, EmptyMeansEmpty, TwoTakes, Swapped, OnceEach, DrainedIf, Drains, HostDrains}
+use Rattle.taken_list.specs.LedgerLaws.{Lawful, lawful, lawful-new, Kept, kept-refl, kept-trans, kept-act, FromHistory, history-on}
 use Rattle.calendar.specs.facts.Accepted.{open-accepted}
 use Rattle.calendar.specs.facts.HostRun.{host-memory}
-use Rattle.calendar.specs.facts.LedgerLaws.{Lawful, lawful, lawful-new, Kept, kept-refl, kept-trans, kept-act, FromHistory, history-on}
 use Rattle.lists.specs.NodeReuse.{opened, always-in-range}
 use Rattle.interleavings.specs.Demand3.{demand-3}
 use Rattle.interleavings.specs.HostDemand3.{host-always}

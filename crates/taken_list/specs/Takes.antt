@@ -16,7 +16,7 @@ use Rattle.calendar.specs.rules.Operations.{Memory}
 use Rattle.calendar.specs.rules.Ledger.{Ledger}
 use Rattle.calendar.specs.rules.Linearizability.{EndedBefore, Correct}
 use Rattle.taken_list.specs.Promises.{GoneToAnother, NothingPassedOver, EmptyMeansEmpty, TwoTakes, Swapped}
-use Rattle.calendar.specs.facts.LedgerLaws.{Lawful}
+use Rattle.taken_list.specs.LedgerLaws.{Lawful}
 use Rattle.taken_list.specs.OneTake.{MarkedByAnother, Met, met, met-taken, met-empty}
 
 module _ (sh : Shape) (m : Memory) (L : Ledger) (C : Correct sh m L) (G : Lawful sh L) where

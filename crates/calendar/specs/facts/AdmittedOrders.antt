@@ -113,7 +113,7 @@ module _ (L : Ledger) where
       go none e = refl
       go (some s) e = same-reply r (poolReply L c) (h (s, e))
 
-  ahead : (c : ℕ) (r : Reply) → (L .asked c ≡ dequeue → L .ended c ≡ none → (x : Item) × (L .marked c ≡ some x) × Same r (dequeued (some x)))
+  ahead : (c : ℕ) (r : Reply) → (L .asked c ≡ dequeue → L .ended c ≡ none → (x : Item) × (L .marked c ≡ some x) × (r ≡ dequeued (some x)))
       → (isFinished (L .ended c) || marksThat (L .asked c) (L .marked c) r) ≡ true
   ahead c r h = go (L .ended c) refl (L .asked c) refl
     where
@@ -121,7 +121,8 @@ module _ (L : Ledger) where
       go (some s) e a q = refl
       go none e (enqueue x) q = refl
       go none e dequeue q =
-          let (x, k, f) = h q e in subst (λ (o : Option Item). marksThat dequeue o r ≡ true) (sym k) (same-reply r (dequeued (some x)) f)
+          let (x, k, f) = h q e in
+          subst (λ (o : Option Item). marksThat dequeue o r ≡ true) (sym k) (subst (λ (u : Reply). sameReply r u ≡ true) f (same-reply r r refl))
 
   -- nothing that is left has finished
   stops : (rest : List ℕ) → ((c : ℕ) → List·Memᴰ c rest → Finished L c → List·Memᴰ c []) → mayEnd L rest ≡ true
@@ -130,7 +131,7 @@ module _ (L : Ledger) where
   -- what stands first may come next
   comes-next : (S : Items) (rest : List ℕ) (c : ℕ) (o : List ℕ) → ((d : ℕ) → List·Memᴰ d rest → Finished L d → List·Memᴰ d (c ∷ o)) → RespectsTime L (c ∷ o)
       → (Finished L c → Same (reply S (L .asked c)) (poolReply L c))
-      → (L .asked c ≡ dequeue → L .ended c ≡ none → (x : Item) × (L .marked c ≡ some x) × Same (reply S (L .asked c)) (dequeued (some x)))
+      → (L .asked c ≡ dequeue → L .ended c ≡ none → (x : Item) × (L .marked c ≡ some x) × (reply S (L .asked c) ≡ dequeued (some x)))
       → mayBeNext L S rest c ≡ true
   comes-next S rest c o fin time agree marked =
       rw (
