@@ -1,10 +1,10 @@
 -- The sequential queue by its laws: what is lowest, what is left when it is gone, and what takes alone give.
---     lowest-none, lowest-in, lowest-least     none is lowest of none; the lowest is one of them, and no key is lower
---     remove-in, in-remove, remove-less        what is left without a ticket; it is less
---     drained                                  what takes give, one after the other:
---     drained-zero, drained-none, drained-some   nothing, or the lowest and what the others give
---     drained-in, Told, in-drained             it is what was there, where a ticket tells an item from others
---     drained-lower                            what comes first is lower
+--     lowest-none, lowest-in, lowest-least         none is lowest of none; the lowest is one of them, and no key is lower
+--     remove-in, in-remove, remove-less            what is left without a ticket; it is less
+--     drained                                      what takes give, one after the other:
+--     drained-zero, drained-none, drained-some     nothing, or the lowest and what the others give
+--     drained-in, Told, in-drained                 it is what was there, where a ticket tells an item from others
+--     drained-lower                                what comes first is lower
 -- Assumes nothing.
 use mathlib.Core.Path.{_≡_, refl, sym, ap, _∙_, subst}
 use mathlib.Core.Bool.{Bool, true, false, cond}
@@ -28,42 +28,50 @@ pub lowest-none : (S : Items) (x : Item) → lowest S ≡ none → Mem x S → �
 lowest-none [] x e i = List·Memᴰ·not-nil i
 lowest-none (y ∷ S) x e i = Option·none-ne-some _ (sym e)
 
-pub lowest-in : (S : Items) (x : Item) → lowest S ≡ some x → Mem x S
-lowest-in [] x e = absurd (Option·none-ne-some _ e)
-lowest-in (y ∷ S) x e = go (lowest S) (lowest-in S) (Option·some-injective _ _ e)
-  where
-    go : (o : Option Item) → ((z : Item) → o ≡ some z → Mem z S) → lowerOf y o ≡ x → Mem x (y ∷ S)
-    go none rec p = here (sym p)
-    go (some z) rec p = pick (lower z y) p
-      where
-        pick : (t : Bool) → cond t z y ≡ x → Mem x (y ∷ S)
-        pick true q = there (rec x (ap some q))
-        pick false q = here (sym q)
+-- x is one of them, and no key is lower
+abbrev Least : Items → Item → Type 0
+Least S x = Mem x S × ((y : Item) → Mem y S → lower y x ≡ false)
 
-pub lowest-least : (S : Items) (x y : Item) → lowest S ≡ some x → Mem y S → lower y x ≡ false
-lowest-least [] x y e i = absurd (List·Memᴰ·not-nil i)
-lowest-least (z ∷ S) x y e i = go (lowest S) refl (lowest-least S) (Option·some-injective _ _ e) (List·Memᴰ·cases-cons i)
+least : (S : Items) (x : Item) → lowest S ≡ some x → Least S x
+least [] x e = absurd (Option·none-ne-some _ e)
+least (z ∷ S) x e = go (lowest S) refl (least S) (Option·some-injective _ _ e)
   where
     self : (a b : Item) → a ≡ b → lower a b ≡ true → ⊥
     self a b p h = lower-irr b (subst (λ (u : Item). lower u b ≡ true) p h)
 
-    go : (o : Option Item) → lowest S ≡ o → ((x y : Item) → lowest S ≡ some x → Mem y S → lower y x ≡ false) → lowerOf z o ≡ x → (y ≡ z) ⊎ Mem y S
-        → lower y x ≡ false
-    go none f rec p (inl q) = is-false (lower y x) (self y x (q ∙ p))
-    go none f rec p (inr j) = absurd (lowest-none S y f j)
-    go (some w) f rec p k = pick (lower w z) refl p k
+    -- z alone
+    alone : lowest S ≡ none → z ≡ x → (y : Item) → (y ≡ z) ⊎ Mem y S → lower y x ≡ false
+    alone f p y (inl q) = is-false (lower y x) (self y x (q ∙ p))
+    alone f p y (inr j) = absurd (lowest-none S y f j)
+
+    -- z beside the lowest of the others
+    beside : (w : Item) → Least S w → (t : Bool) → lower w z ≡ t → cond t w z ≡ x → Least (z ∷ S) x
+    beside w (i, low) true l q = (there (Memᴰ·cast (sym q) i), λ y j. pick y (List·Memᴰ·cases-cons j))
       where
-        pick : (t : Bool) → lower w z ≡ t → cond t w z ≡ x → (y ≡ z) ⊎ Mem y S → lower y x ≡ false
-        pick true l q (inl k) =
+        pick : (y : Item) → (y ≡ z) ⊎ Mem y S → lower y x ≡ false
+        pick y (inl k) =
             is-false (lower y x)
             (λ h. lower-irr w (lower-trans w z w l (subst (λ (u : Item). lower u w ≡ true) k (subst (λ (u : Item). lower y u ≡ true) (sym q) h))))
-        pick true l q (inr j) = subst (λ (u : Item). lower y u ≡ false) q (rec w y f j)
-        pick false l q (inl k) = is-false (lower y x) (self y x (k ∙ q))
-        pick false l q (inr j) = is-false (lower y x) (λ h. apart (lower-weak y w z (subst (λ (u : Item). lower y u ≡ true) (sym q) h)))
+        pick y (inr j) = subst (λ (u : Item). lower y u ≡ false) q (low y j)
+    beside w (i, low) false l q = (here (sym q), λ y j. pick y (List·Memᴰ·cases-cons j))
+      where
+        pick : (y : Item) → (y ≡ z) ⊎ Mem y S → lower y x ≡ false
+        pick y (inl k) = is-false (lower y x) (self y x (k ∙ q))
+        pick y (inr j) = is-false (lower y x) (λ h. apart (lower-weak y w z (subst (λ (u : Item). lower y u ≡ true) (sym q) h)))
           where
             apart : (lower y w ≡ true) ⊎ (lower w z ≡ true) → ⊥
-            apart (inl h) = never (sym (rec w y f j) ∙ h)
+            apart (inl h) = never (sym (low y j) ∙ h)
             apart (inr h) = never (sym l ∙ h)
+
+    go : (o : Option Item) → lowest S ≡ o → ((w : Item) → lowest S ≡ some w → Least S w) → lowerOf z o ≡ x → Least (z ∷ S) x
+    go none f rec p = (here (sym p), λ y j. alone f p y (List·Memᴰ·cases-cons j))
+    go (some w) f rec p = beside w (rec w f) (lower w z) refl p
+
+pub lowest-in : (S : Items) (x : Item) → lowest S ≡ some x → Mem x S
+lowest-in S x e = least S x e .0
+
+pub lowest-least : (S : Items) (x y : Item) → lowest S ≡ some x → Mem y S → lower y x ≡ false
+lowest-least S x y e i = least S x e .1 y i
 
 -- ── what is left ──
 remove-sift : (c : ℕ) (S : Items) → remove c S ≡ sift (λ (x : Item). eqb (x .ticket) c) S
