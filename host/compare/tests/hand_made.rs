@@ -43,21 +43,9 @@ fn fresh() -> Script {
     Script::open(4, 8, 1, 100)
 }
 
-/// The take has seen 7 and pauses; 3 is stored; the take answers 7.
-fn take_set_into_the_past() -> Script {
-    Script::open(2, 4, 1, 10)
-        .stored(0, 7, 5)
-        .take(1)
-        .turns(1, 3)
-        .stored(0, 3, 6)
-        .end(1, 5, &took(7))
-        .taken(0, 7, &took(3))
-        .taken(0, 3, "empty")
-}
-
 #[test]
 fn a_take_set_into_the_past() {
-    let script = take_set_into_the_past();
+    let script = orders::take_set_into_the_past().taken(0, 3, "empty");
     assert_eq!(schedule::lines(&script.bytes()[..]), script.output());
     let checked = verdict(&script).unwrap();
     assert_eq!((checked.histories, checked.calls), (1, 5));

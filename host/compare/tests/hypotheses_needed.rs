@@ -113,17 +113,6 @@ fn one_is_held() -> Script {
         .turns(1, 4)
 }
 
-/// The take has seen 7 and pauses; 3 is stored; the take answers 7.
-fn stored_behind_the_take() -> Script {
-    Script::open(2, 4, 1, 10)
-        .stored(0, 7, 5)
-        .take(1)
-        .turns(1, 3)
-        .stored(0, 3, 6)
-        .end(1, 5, &took(7))
-        .taken(0, 7, &took(3))
-}
-
 /// 1 (used by one at a time): two calls overlap, and the answers are not the
 /// queue's in the order of their starts.
 #[test]
@@ -141,7 +130,7 @@ fn a_take_answers_what_was_put_after_its_start() {
 /// The same: nor are they the queue's in the order of their ends.
 #[test]
 fn a_take_answers_what_was_first_at_its_start() {
-    let script = stored_behind_the_take();
+    let script = orders::take_set_into_the_past();
     let calls = calls(&script);
     assert!(calls[3].end < calls[2].end && calls[2].end < calls[4].end);
     let answers = queue(&calls, &[1, 3, 2, 4]);
@@ -153,7 +142,7 @@ fn a_take_answers_what_was_first_at_its_start() {
 /// starts, and 3 is not marked when it ends: the take that answers it starts later.
 #[test]
 fn what_is_put_during_a_take_may_be_passed_over() {
-    let script = stored_behind_the_take();
+    let script = orders::take_set_into_the_past();
     let calls = calls(&script);
     let (x, d, taker) = (calls[3], calls[2], calls[4]);
     assert!(x.time < calls[1].time && d.answer == took(7));
@@ -192,7 +181,7 @@ fn takes_that_overlap_may_answer_in_another_order() {
 /// first starts.
 #[test]
 fn two_takes_may_answer_in_another_order_what_came_between() {
-    let script = stored_behind_the_take();
+    let script = orders::take_set_into_the_past();
     let calls = calls(&script);
     let (c, d, y) = (calls[2], calls[4], calls[3]);
     assert!(c.ended_before(d.start) && !y.ended_before(c.start));

@@ -107,3 +107,15 @@ pub fn stale_advance_fails() -> Script {
         .end(0, 7, &took(5))
         .taken(1, 5, "empty")
 }
+
+/// Worker 1's take has seen 7 and pauses; 3 is stored; the take answers 7, and the
+/// next one 3. It stands before the put of 3, which ended first.
+pub fn take_set_into_the_past() -> Script {
+    Script::open(2, 4, 1, 10)
+        .stored(0, 7, 5)
+        .take(1)
+        .turns(1, 3)
+        .stored(0, 3, 6)
+        .end(1, 5, &took(7))
+        .taken(0, 7, &took(3))
+}
