@@ -1,8 +1,8 @@
 -- What the hypotheses of promises 1 to 5 are for: runs in which a conclusion fails because its hypothesis does. 7 and 3 are arrivals, by their times.
 --     seen, item, nowhere                      the ledger after a history; an arrival by time and ticket; an empty list has none
---     no-overlap-needed                           1: calls that overlap
+--     no-overlap-needed                        1: calls that overlap
 --     put-before-needed                        2: a put that ended after the take had started
---     put-before-empty-needed                         3: a put that ended after the take had
+--     put-before-empty-needed                  3: a put that ended after the take had
 --     apart-needed, put-before-both-needed     4: takes that overlap; a put that ended after the first take had started
 --     end-needed                               5: a put that has not ended
 -- Assumes nothing.
@@ -37,10 +37,10 @@ use Rattle.calendar.specs.rules.Operations.{open-pool, act, run}
 use Rattle.calendar.specs.rules.Ledger.{Ledger, new, at, ledger}
 use Rattle.calendar.specs.rules.Snapshot.{nodesFrom, bucketList}
 use Rattle.calendar.specs.rules.Linearizability.{Finished, EndedBefore, Agree, Correct, Demand3}
-use Rattle.taken_list.specs.Promises.{Answers, GoneToAnother, InLists, starts, Fate}
 use Rattle.calendar.specs.facts.Starred.{arrival, turns, put, take, lent}
 use Rattle.calendar.specs.facts.WorkedHistory.{one-bucket, start}
 use Rattle.interleavings.specs.Demand3.{demand-3}
+use Rattle.taken_list.specs.Promises.{Answers, GoneToAnother, InLists, starts, Fate}
 
 unfoldable pub seen : List Action → Ledger
 seen h = ledger one-bucket start h new

@@ -33,9 +33,9 @@ use Rattle.calendar.specs.rules.Operations.{open-pool, act, run}
 use Rattle.calendar.specs.rules.Ledger.{Ledger, ledger}
 use Rattle.calendar.specs.rules.Snapshot.{nodesFrom, bucketList}
 use Rattle.calendar.specs.rules.Linearizability.{Finished, EndedBefore, poolReply}
-use Rattle.taken_list.specs.Promises.{InLists, Quiet, TakesInTurn, Ascending, nth, Drained}
 use Rattle.calendar.specs.facts.Starred.{arrival, turns, put, take, lent}
 use Rattle.calendar.specs.facts.WorkedHistory.{one-bucket, start}
+use Rattle.taken_list.specs.Promises.{InLists, Quiet, TakesInTurn, Ascending, nth, Drained}
 use Rattle.taken_list.specs.Needed.{seen, item, nowhere, beginning}
 
 -- the ledger after g, which goes on from h
