@@ -1,5 +1,5 @@
 -- The proof's own account of a history and the onlooker's ledger agree, start by start and turn by turn.
---     itemAsked, endedAt, Same, MarkOf            what the two accounts say of a call
+--     itemAsked, endedAt, Same, MarkOf, Status    what the two accounts say of a call
 --     Agrees                                      they agree
 --     agrees-start                                past a start
 --     after, same-mark, agrees-on, agrees-end     past a turn: in general; that ends nothing; that ends its call
@@ -30,7 +30,7 @@ use Rattle.calendar.specs.rules.Ledger.{Ledger, begins, ends, marks, hears, see
 use Rattle.calendar.specs.facts.Views.{View, view, updates, itemIn}
 use Rattle.order.specs.Entries.{Entry, enqueue, dequeue, empty, scan, ticket}
 use Rattle.order.specs.RealTime.{End, running, ended}
-use Rattle.lists.specs.AllCalls.{with-record}
+use Rattle.lists.specs.AllCalls.{Live, with-record}
 use Rattle.interleavings.specs.ItemKeys.{keys}
 use Rattle.interleavings.specs.Joint.{Ghost}
 use Rattle.interleavings.specs.StartsKeepOrder.{logs}
@@ -60,6 +60,10 @@ MarkOf v w k = record {
   clear : (w .kind ≡ 0) ⊎ (8 ≤ w .stage) → k ≡ none;
 }
 
+-- call c is in progress at some worker, or has ended
+abbrev pub Status : ℕ → (ℕ → Worker) → (ℕ → End) → ℕ → Type 0
+Status W T end c = Live W T c ⊎ ((s : ℕ) × (end c ≡ ended s))
+
 abbrev pub Agrees : (sh : Shape) (wd : 1 ≤ sh .width) → View → (ℕ → Worker) → Ghost (keys sh wd) → Ledger → Type 0
 Agrees sh wd v T g L = record {
   started : v .started ≡ L .started;
@@ -68,8 +72,7 @@ Agrees sh wd v T g L = record {
   said : (c s : ℕ) → g .hist .end c ≡ ended s → Same sh wd (g .said c) (L .response c) (L .marked c);
   calls : (j : ℕ) → j < sh .workers → (T j) .stage ≢ 0 → L .callOf j ≡ (T j) .ticket;
   marks : (j : ℕ) → j < sh .workers → (T j) .stage ≢ 0 → MarkOf v (T j) (L .marked ((T j) .ticket));
-  status : (c : ℕ) → 1 ≤ c → c ≤ v .started
-      → ((j : ℕ) × (j < sh .workers) × ((T j) .stage ≢ 0) × ((T j) .ticket ≡ c)) ⊎ ((s : ℕ) × (g .hist .end c ≡ ended s));
+  status : (c : ℕ) → 1 ≤ c → c ≤ v .started → Status (sh .workers) T (g .hist .end) c;
   fresh : (c : ℕ) → (c ≡ 0) ⊎ (v .started < c) → L .marked c ≡ none;
 }
 
@@ -99,8 +102,7 @@ module _ (sh : Shape) (wd : 1 ≤ sh .width) (v : View) (T : ℕ → Worker) (g 
       new-or-0 c (inl z) = inl z
       new-or-0 c (inr h) = inr (omega arith)
 
-      begun : (c : ℕ) → c ≡ v .started + 1
-          → ((j : ℕ) × (j < sh .workers) × ((with-record T i w j) .stage ≢ 0) × ((with-record T i w j) .ticket ≡ c)) ⊎ ((s : ℕ) × (g .hist .end c ≡ ended s))
+      begun : (c : ℕ) → c ≡ v .started + 1 → Status (sh .workers) (with-record T i w) (g .hist .end) c
       begun c q =
           let same : with-record T i w i ≡ w = upd-same i i w (T i) refl in
           inl (i, l, subst (λ (u : Worker). u .stage ≢ 0) (sym same) begins, ap (λ (u : Worker). u .ticket) same ∙ new ∙ sym q)
@@ -119,8 +121,7 @@ module _ (sh : Shape) (wd : 1 ≤ sh .width) (v : View) (T : ℕ → Worker) (g 
           go true q b = ap (λ n. n + 1) (sym (A .started)) ∙ sym new
           go false q b = A .calls j h b
 
-      moved : (c : ℕ) → ((j : ℕ) × (j < sh .workers) × ((T j) .stage ≢ 0) × ((T j) .ticket ≡ c)) ⊎ ((s : ℕ) × (g .hist .end c ≡ ended s))
-          → ((j : ℕ) × (j < sh .workers) × ((with-record T i w j) .stage ≢ 0) × ((with-record T i w j) .ticket ≡ c)) ⊎ ((s : ℕ) × (g .hist .end c ≡ ended s))
+      moved : (c : ℕ) → Status (sh .workers) T (g .hist .end) c → Status (sh .workers) (with-record T i w) (g .hist .end) c
       moved c (inr x) = inr x
       moved c (inl (j, h, b, q)) = inl (j, h, subst (λ u. u .stage ≢ 0) (sym (same j b)) b, ap (λ (u : Worker). u .ticket) (same j b) ∙ q)
         where
@@ -168,10 +169,8 @@ module _ (sh : Shape) (wd : 1 ≤ sh .width) (v : View) (T : ℕ → Worker) (g 
       fresh = λ c h. fresh c h;
     }
       where
-        still-there : (d : ℕ) → d ≢ (T i) .ticket
-            → ((j : ℕ) × (j < sh .workers) × ((T j) .stage ≢ 0) × ((T j) .ticket ≡ d)) ⊎ ((t : ℕ) × (g .hist .end d ≡ ended t))
-            → ((j : ℕ) × (j < sh .workers) × ((with-record T i (o .worker) j) .stage ≢ 0) × ((with-record T i (o .worker) j) .ticket ≡ d))
-            ⊎ ((t : ℕ) × (g′ .hist .end d ≡ ended t))
+        still-there : (d : ℕ) → d ≢ (T i) .ticket → Status (sh .workers) T (g .hist .end) d
+            → Status (sh .workers) (with-record T i (o .worker)) (g′ .hist .end) d
         still-there d u (inr (t, e)) = inr (t, kept d t e)
         still-there d u (inl (j, h, b, q)) =
             let same : with-record T i (o .worker) j ≡ T j = upd-other i j (o .worker) (T j) (λ e. u (sym q ∙ ap (λ n. (T n) .ticket) (sym e))) in
@@ -181,14 +180,12 @@ module _ (sh : Shape) (wd : 1 ≤ sh .width) (v : View) (T : ℕ → Worker) (g 
         here-now = upd-same i i (o .worker) (T i) refl
 
         own : (d : ℕ) → (T i) .ticket ≡ d → (o .worker .stage ≢ 0) ⊎ ((t : ℕ) × (g′ .hist .end ((T i) .ticket) ≡ ended t))
-            → ((j : ℕ) × (j < sh .workers) × ((with-record T i (o .worker) j) .stage ≢ 0) × ((with-record T i (o .worker) j) .ticket ≡ d))
-            ⊎ ((t : ℕ) × (g′ .hist .end d ≡ ended t))
+            → Status (sh .workers) (with-record T i (o .worker)) (g′ .hist .end) d
         own d q (inl b) = inl (i, l, subst (λ (y : Worker). y .stage ≢ 0) (sym here-now) b, ap (λ (y : Worker). y .ticket) here-now ∙ E .ticket ∙ q)
         own d q (inr (t, e)) = inr (t, subst (λ n. g′ .hist .end n ≡ ended t) q e)
 
         status : (c : ℕ) → 1 ≤ c → c ≤ v .started → (b : Bool) → eqb ((T i) .ticket) c ≡ b
-            → ((j : ℕ) × (j < sh .workers) × ((with-record T i (o .worker) j) .stage ≢ 0) × ((with-record T i (o .worker) j) .ticket ≡ c))
-            ⊎ ((t : ℕ) × (g′ .hist .end c ≡ ended t))
+            → Status (sh .workers) (with-record T i (o .worker)) (g′ .hist .end) c
         status c lo hi true q = own c (eqb-true ((T i) .ticket) c q) goes
         status c lo hi false q = still-there c (λ z. eqb-false ((T i) .ticket) c q (sym z)) (A .status c lo hi)
 

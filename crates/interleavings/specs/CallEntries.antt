@@ -32,7 +32,7 @@ use Rattle.order.specs.Scans.{running-ended}
 use Rattle.order.specs.Calls.{Call, Distinct}
 use Rattle.interleavings.specs.ItemKeys.{keys}
 use Rattle.interleavings.specs.Joint.{Absent, Part}
-use Rattle.interleavings.specs.Agreement.{itemAsked, endedAt, Same, MarkOf}
+use Rattle.interleavings.specs.Agreement.{itemAsked, endedAt, Same, MarkOf, Status}
 use Rattle.interleavings.specs.AlongHistory.{Followed}
 
 -- two entries of one ticket are one
@@ -72,8 +72,7 @@ module _ (sh : Shape) (wd : 1 ≤ sh .width) (m : Memory) (L : Ledger) (F : Foll
   pub in-progress-or-ended : (c : ℕ) → 1 ≤ c → c ≤ L .started → InProgress sh m L c ⊎ Finished L c
   in-progress-or-ended c lo hi = go (F .agrees .status c lo (omega (arith, F .agrees .started)))
     where
-      go : ((j : ℕ) × (j < sh .workers) × ((worker (m .table) j) .stage ≢ 0) × ((worker (m .table) j) .ticket ≡ c))
-          ⊎ ((s : ℕ) × (F .ghost .hist .end c ≡ ended s)) → InProgress sh m L c ⊎ Finished L c
+      go : Status (sh .workers) (worker (m .table)) (F .ghost .hist .end) c → InProgress sh m L c ⊎ Finished L c
       go (inl (j, h, b, t)) = inl (j, h, F .agrees .calls j h b ∙ t, is-not (T j .stage) 0 b)
       go (inr (s, e)) = inr (s, F .agrees .finish c ∙ ap endedAt e)
 
@@ -94,8 +93,7 @@ module _ (sh : Shape) (wd : 1 ≤ sh .width) (m : Memory) (L : Ledger) (F : Foll
       none-marked f = Option·none-ne-some _ (sym f ∙ e)
 
   -- it is in progress or has ended
-  pub marked-status : (d : ℕ) (x : Item) → L .marked d ≡ some x
-      → ((j : ℕ) × (j < sh .workers) × ((T j) .stage ≢ 0) × ((T j) .ticket ≡ d)) ⊎ ((s : ℕ) × (F .ghost .hist .end d ≡ ended s))
+  pub marked-status : (d : ℕ) (x : Item) → L .marked d ≡ some x → Status (sh .workers) T (F .ghost .hist .end) d
   marked-status d x e = let (lo, hi) = marked-within d x e in F .agrees .status d lo hi
 
   -- a call in progress that marked something is a take at 1 to 3, and holds it
@@ -139,8 +137,7 @@ module _ (sh : Shape) (wd : 1 ≤ sh .width) (m : Memory) (L : Ledger) (F : Foll
   pub marked-entry : (d : ℕ) (x : Item) → L .marked d ≡ some x → Mem (dequeue (elem x) d) order
   marked-entry d x e = go (marked-status d x e)
     where
-      go : ((j : ℕ) × (j < sh .workers) × ((worker (m .table) j) .stage ≢ 0) × ((worker (m .table) j) .ticket ≡ d))
-          ⊎ ((s : ℕ) × (F .ghost .hist .end d ≡ ended s)) → Mem (dequeue (record { it = x }) d) (F .ghost .order)
+      go : Status (sh .workers) (worker (m .table)) (F .ghost .hist .end) d → Mem (dequeue (record { it = x }) d) (F .ghost .order)
       go (inl (j, h, b, t)) =
           let (z, lo, hi, q) = holder j d x h b t e in
           subst (λ n. Mem (dequeue (elem x) n) order) t
@@ -166,8 +163,7 @@ module _ (sh : Shape) (wd : 1 ≤ sh .width) (m : Memory) (L : Ledger) (F : Foll
   empty-ended d k r =
       go (F .agrees .status d (F .ord .whole .proper (empty d) k tt) (F .ord .whole .bound (empty d) k))
     where
-      go : ((j : ℕ) × (j < sh .workers) × ((worker (m .table) j) .stage ≢ 0) × ((worker (m .table) j) .ticket ≡ d))
-          ⊎ ((s : ℕ) × (F .ghost .hist .end d ≡ ended s)) → ⊥
+      go : Status (sh .workers) (worker (m .table)) (F .ghost .hist .end) d → ⊥
       go (inr (s, e)) = running-ended s (sym r ∙ e)
       go (inl (j, h, b, t)) = by-kind (F .reached .inv .knows j h .kinds)
         where

@@ -40,7 +40,7 @@ use Rattle.lists.specs.LinkInvariant.{chain-distinct}
 use Rattle.lists.specs.Walks.{unmarked-none, unmarked-once}
 use Rattle.interleavings.specs.ItemKeys.{keys}
 use Rattle.interleavings.specs.Nodes.{one-node}
-use Rattle.interleavings.specs.Agreement.{itemAsked, endedAt}
+use Rattle.interleavings.specs.Agreement.{itemAsked, endedAt, Status}
 use Rattle.interleavings.specs.AlongHistory.{Followed}
 use Rattle.interleavings.specs.CallEntries.{asked-put, end-known, marked-status, holder, answered, marked-entry, entry-marked}
 
@@ -85,8 +85,7 @@ module _ (sh : Shape) (wd : 1 ≤ sh .width) (m : Memory) (L : Ledger) (F : Foll
   pub marked-kept : (d : ℕ) (x : Item) → L .marked d ≡ some x → HeldBy sh m L d x ⊎ AnsweredBy L d x
   marked-kept d x e = go (marked-status sh wd m L F d x e)
     where
-      go : ((j : ℕ) × (j < sh .workers) × ((worker (m .table) j) .stage ≢ 0) × ((worker (m .table) j) .ticket ≡ d))
-          ⊎ ((s : ℕ) × (F .ghost .hist .end d ≡ ended s)) → HeldBy sh m L d x ⊎ AnsweredBy L d x
+      go : Status (sh .workers) (worker (m .table)) (F .ghost .hist .end) d → HeldBy sh m L d x ⊎ AnsweredBy L d x
       go (inl (j, h, b, t)) = let (z, lo, hi, q) = holder sh wd m L F j d x h b t e in inl (j, h, F .agrees .calls j h b ∙ t, holds-bits (T j) z lo hi, q)
       go (inr (s, q)) = inr ((s, F .agrees .finish d ∙ ap endedAt q), answered sh wd m L F d s x q e .1)
 

@@ -50,7 +50,8 @@ module _ (sh : Shape) (m : Memory) (L : Ledger) (C : Correct sh m L) (G : Lawful
   -- ── a finished call ──
   stored : (c : ℕ) (x : Item) → L .asked c ≡ enqueue x → Finished L c → L .response c ≡ Stored c
   stored c x a f =
-      let said : reply (met sh m L C G c f .items) (enqueue x) ≡ poolReply L c = sym (ap (reply (met sh m L C G c f .items)) a) ∙ met sh m L C G c f .replied in
+      let M = met sh m L C G c f in
+      let said : reply (M .items) (enqueue x) ≡ poolReply L c = sym (ap (reply (M .items)) a) ∙ M .replied in
       sym (ap (λ (r : Reply). r .response) said) ∙ ap Stored (G .put c x a .0)
 
   answer : (d : ℕ) → L .asked d ≡ dequeue → Finished L d → (L .response d ≡ Empty) ⊎ ((x : Item) × Answers L d x × (L .asked (x .ticket) ≡ enqueue x))

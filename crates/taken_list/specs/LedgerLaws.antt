@@ -1,7 +1,7 @@
 -- What holds of every ledger from an opening, by how it is written, and of two ledgers of which one goes on from the other.
---     Lawful, lawful                an arrival bears its put's ticket and has a bucket; a call ends after it started
---     Kept, kept-refl, kept-trans   what is written of finished calls stays
---     kept-act                      it stays past any action, where calls in progress have not ended
+--     Lawful, lawful, lawful-new      an arrival bears its put's ticket and has a bucket; a call ends after it started
+--     Kept, kept-refl, kept-trans     what is written of finished calls stays
+--     kept-act                        it stays past any action, where calls in progress have not ended
 --     FromHistory, history-on         a memory and a ledger that a history left; what goes on from them
 -- Assumes nothing.
 use mathlib.Core.Path.{_≡_, refl, sym, ap, _∙_, subst}
@@ -27,6 +27,17 @@ use Rattle.calendar.specs.rules.Ledger.{Ledger, new, begins, ends, marks, hears
 use Rattle.calendar.specs.rules.Linearizability.{InProgress}
 use Rattle.calendar.specs.facts.Accepted.{enqueue-accepted, step-accepted}
 use Rattle.calendar.specs.facts.Acting.{by-act}
+
+-- what is heard ends the worker's call, or leaves the ledger
+by-hears : (P : Ledger → Type 0) (i : ℕ) (r : Response) (L : Ledger) → P L → ((more-stored more-taken : ℕ) → P (ends i r more-stored more-taken L))
+    → P (hears i r L)
+by-hears P i Opened L same ended = same
+by-hears P i (Begun c) L same ended = same
+by-hears P i On L same ended = same
+by-hears P i (Stored c) L same ended = ended 1 0
+by-hears P i (Took time path order distance energy) L same ended = ended 0 1
+by-hears P i Empty L same ended = ended 0 0
+by-hears P i (Refused k) L same ended = same
 
 -- ── every ledger ──
 pub record Lawful (sh : Shape) (L : Ledger) : Type 0 where
@@ -61,15 +72,6 @@ module _ (sh : Shape) where
     last = G .last;
   }
 
-  lawful-hears : (i : ℕ) (r : Response) (L : Ledger) → Lawful sh L → Lawful sh (hears i r L)
-  lawful-hears i Opened L G = G
-  lawful-hears i (Begun c) L G = G
-  lawful-hears i On L G = G
-  lawful-hears i (Stored c) L G = lawful-ends i (Stored c) 1 0 L G
-  lawful-hears i (Took time path order distance energy) L G = lawful-ends i (Took time path order distance energy) 0 1 L G
-  lawful-hears i Empty L G = lawful-ends i Empty 0 0 L G
-  lawful-hears i (Refused k) L G = G
-
   lawful-act : 1 ≤ sh .width → (m : Memory) (L : Ledger) (a : Action) → Lawful sh L → Lawful sh (reads sh m a L)
   lawful-act wd m L a G = by-act sh (λ n. Lawful sh) m L a G (noted a)
     where
@@ -82,8 +84,11 @@ module _ (sh : Shape) where
           ≡ x = cc in (ap (λ (u : Item). u .ticket) (sym z), subst (λ (u : Item). bucketOf sh (u .time) < sh .buckets) z home)) G
       noted (Dequeue i) e = lawful-begins i queue.dequeue L (λ x q. absurd (let z : _≡_ {A = ℕ} 0 1 = cc in omega arith)) G
       noted (Step i) e =
-          lawful-hears i (outcome sh m (Step i) .response) (sees sh m i L)
-          (by-test {A = Ledger} (Lawful sh) (succeeds-11 sh (m .store) (worker (m .table) i)) (λ t. lawful-marks i _ L G) (λ t. G))
+          let M = sees sh m i L in
+          let r = outcome sh m (Step i) .response in
+          let H : Lawful sh M
+          = by-test {A = Ledger} (Lawful sh) (succeeds-11 sh (m .store) (worker (m .table) i)) (λ t. lawful-marks i _ L G) (λ t. G) in
+          by-hears (Lawful sh) i r M H (λ p q. lawful-ends i r p q M H)
 
   pub lawful : 1 ≤ sh .width → (m : Memory) (h : List Action) (L : Ledger) → Lawful sh L → Lawful sh (ledger sh m h L)
   unfolding ledger
@@ -149,21 +154,15 @@ module _ (i : ℕ) (L : Ledger) (open-still : L .ended (L .callOf i) ≡ none) w
     marked = λ c s e. refl;
   }
 
-  kept-hears : (r : Response) → Kept L (hears i r L)
-  kept-hears Opened = kept-refl L
-  kept-hears (Begun c) = kept-refl L
-  kept-hears On = kept-refl L
-  kept-hears (Stored c) = kept-ends (Stored c) 1 0
-  kept-hears (Took time path order distance energy) = kept-ends (Took time path order distance energy) 0 1
-  kept-hears Empty = kept-ends Empty 0 0
-  kept-hears (Refused k) = kept-refl L
-
 module _ (sh : Shape) where
   kept-turn : (m : Memory) (i : ℕ) (L : Ledger) (r : Response) → L .ended (L .callOf i) ≡ none → Kept L (hears i r (sees sh m i L))
   kept-turn m i L r e =
       by-test {A = Ledger} (λ M. Kept L (hears i r M)) (succeeds-11 sh (m .store) (worker (m .table) i))
-      (λ t. kept-trans L (marks i x L) (hears i r (marks i x L)) (kept-marks i L e x) (kept-hears i (marks i x L) e r)) (λ t. kept-hears i L e r)
+      (λ t. kept-trans L (marks i x L) (hears i r (marks i x L)) (kept-marks i L e x) (heard (marks i x L) e)) (λ t. heard L e)
     where
+      heard : (M : Ledger) → M .ended (M .callOf i) ≡ none → Kept M (hears i r M)
+      heard M e = by-hears (Kept M) i r M (kept-refl M) (kept-ends i M e r)
+
       x : Item
       x = itemAt sh (m .store) (worker (m .table) i .right)
 

@@ -24,7 +24,7 @@ use Rattle.calendar.specs.rules.Ledger.{Ledger}
 use Rattle.calendar.specs.rules.Linearizability.{Finished, EndedBefore, RespectsTime, markTicket, poolReply, Correct}
 use Rattle.taken_list.specs.Promises.{PutBefore}
 use Rattle.taken_list.specs.LedgerLaws.{Lawful}
-use Rattle.taken_list.specs.Along.{remaining, Fits, fits, fits-front, fits-behind, Marked, remaining-put, in-or-marked}
+use Rattle.taken_list.specs.Along.{remaining, Fits, fits, fits-front, fits-behind, Put, Marked, remaining-put, in-or-marked}
 
 -- ── real time ──
 time-apart : (L : Ledger) (o p : List ℕ) (a b : ℕ) → RespectsTime L (o ++ p) → Mem a o → Mem b p → EndedBefore L b a → ⊥
@@ -83,7 +83,7 @@ module _ (sh : Shape) (m : Memory) (L : Ledger) (C : Correct sh m L) (G : Lawful
           O : Once (front ++ (d ∷ rest))
           O = subst (λ (o : List ℕ). Once o) e (C .linearization .once)
 
-          put : (x : Item) → Mem x [] ⊎ ((c : ℕ) × Mem c front × (L .asked c ≡ enqueue x)) → L .asked (x .ticket) ≡ enqueue x
+          put : (x : Item) → Mem x [] ⊎ Put L front x → L .asked (x .ticket) ≡ enqueue x
           put x (inl i) = absurd (List·Memᴰ·not-nil i)
           put x (inr (c, i, a)) = ap (L .asked) (G .put c x a .0) ∙ a
 

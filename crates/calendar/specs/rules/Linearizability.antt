@@ -43,20 +43,20 @@ markTicket (some x) = x .ticket
 abbrev pub poolReply : Ledger → ℕ → Reply
 poolReply L c = record { response = L .response c; ticket = markTicket (L .marked c) }
 
+-- there is a reply for each call, and P holds of both
+abbrev pub Each : (ℕ → Reply → Type 0) → List ℕ → List Reply → Type 0
+Each P [] [] = Unit {0}
+Each P [] (r ∷ rs) = ⊥
+Each P (c ∷ cs) [] = ⊥
+Each P (c ∷ cs) (r ∷ rs) = P c r × Each P cs rs
+
 -- the queue's replies are the pool's, wherever the call has finished
 abbrev pub Agree : Ledger → List ℕ → List Reply → Type 0
-Agree L [] [] = Unit {0}
-Agree L [] (r ∷ rs) = ⊥
-Agree L (c ∷ cs) [] = ⊥
-Agree L (c ∷ cs) (r ∷ rs) = (Finished L c → r ≡ poolReply L c) × Agree L cs rs
+Agree L = Each (λ c r. Finished L c → r ≡ poolReply L c)
 
 -- a take that has not finished has marked the very item that the queue gives it
 abbrev pub MarkedAhead : Ledger → List ℕ → List Reply → Type 0
-MarkedAhead L [] [] = Unit {0}
-MarkedAhead L [] (r ∷ rs) = ⊥
-MarkedAhead L (c ∷ cs) [] = ⊥
-MarkedAhead L (c ∷ cs) (r ∷ rs) =
-    (L .asked c ≡ dequeue → L .ended c ≡ none → (x : Item) × (L .marked c ≡ some x) × (r ≡ dequeued (some x))) × MarkedAhead L cs rs
+MarkedAhead L = Each (λ c r. L .asked c ≡ dequeue → L .ended c ≡ none → (x : Item) × (L .marked c ≡ some x) × (r ≡ dequeued (some x)))
 
 pub record Linearization (L : Ledger) : Type 0 where
   pub order : List ℕ

@@ -40,25 +40,13 @@ pub struct Breach {
 ///
 /// What is marked stays so: of all d the one that ended first will do.
 pub fn nothing_earlier_is_passed_over(seen: &Seen) -> Vec<Breach> {
-    let mut breaches = Vec::new();
-    for (x, d) in each(&seen.later) {
-        if !seen.is_marked(x, seen.calls.takes[d].end) {
-            breaches.push(unmarked(seen, x, d, "answered a later arrival"));
-        }
-    }
-    breaches
+    unmarked_at_the_end(seen, &seen.later, "answered a later arrival")
 }
 
 /// 3. If take d answers empty, every arrival whose put ended before d started is
 /// marked when d ends.
 pub fn empty_means_empty(seen: &Seen) -> Vec<Breach> {
-    let mut breaches = Vec::new();
-    for (x, d) in each(&seen.empty) {
-        if !seen.is_marked(x, seen.calls.takes[d].end) {
-            breaches.push(unmarked(seen, x, d, "answered empty"));
-        }
-    }
-    breaches
+    unmarked_at_the_end(seen, &seen.empty, "answered empty")
 }
 
 /// 4. If take c ended before take d started, c answered x and d answered y, and y's
@@ -147,10 +135,13 @@ fn more_than_nodes(seen: &Seen) -> Option<Breach> {
     None
 }
 
-/// Each put that has such a take, with it.
-fn each(takes: &[Option<usize>]) -> impl Iterator<Item = (usize, usize)> + '_ {
+/// Of each put x that has such a take d: x is not marked when d ends.
+fn unmarked_at_the_end(seen: &Seen, takes: &[Option<usize>], answered: &str) -> Vec<Breach> {
     let each = takes.iter().enumerate();
-    each.filter_map(|(put, &take)| Some((put, take?)))
+    each.filter_map(|(x, &d)| Some((x, d?)))
+        .filter(|&(x, d)| !seen.is_marked(x, seen.calls.takes[d].end))
+        .map(|(x, d)| unmarked(seen, x, d, answered))
+        .collect()
 }
 
 /// The arrival x that is not marked when take d ends.
