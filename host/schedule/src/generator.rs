@@ -187,7 +187,7 @@ impl Generator {
     fn refused_record(&mut self) -> Record {
         let shape = self.program.shape();
         let some = self.random.below(shape.workers) as u8;
-        let time = self.random.below(shape.time_limit());
+        let time = self.random.below(shape.span());
         match self.random.below(10) {
             0 => Record::Open(shapes::outside_limits(&mut self.random)),
             1 => Record::Open(shapes::too_large(&mut self.random)),
@@ -232,7 +232,7 @@ impl Generator {
     }
 
     fn bad_arrival(&mut self, worker: u8, time: u32) -> Record {
-        let limit = self.program.shape().time_limit();
+        let limit = self.program.shape().span();
         let time = if self.random.one_in(4) { limit } else { time };
         let mut arrival = self.arrival(time);
         if self.random.one_in(3) {
@@ -244,7 +244,7 @@ impl Generator {
     }
 
     fn late_arrival(&mut self, worker: u8) -> Record {
-        let limit = self.program.shape().time_limit();
+        let limit = self.program.shape().span();
         let time = self.random.choose(&[limit, limit + 1, u32::MAX]);
         put_arrival(worker, self.arrival(time))
     }

@@ -62,7 +62,7 @@ impl Phase {
             5 | 6 => Pattern::Gather(random.choose(&GATHERED)),
             _ => Pattern::RoundRobin(0),
         };
-        let time = random.below(shape.time_limit());
+        let time = random.below(shape.span());
         let times = match random.below(6) {
             0 => Times::Any,
             1 => Times::Same(time),
@@ -131,7 +131,7 @@ impl Phase {
 
     /// The time of the next put, before the shape's limit.
     pub fn time(&mut self, random: &mut Random, shape: Shape) -> u32 {
-        let last = shape.time_limit() - 1;
+        let last = shape.span() - 1;
         match &mut self.times {
             Times::Any => random.between(0, last),
             Times::Same(time) => *time,

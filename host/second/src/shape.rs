@@ -31,8 +31,9 @@ impl Shape {
         node_at(self.buckets as usize, self.nodes as usize)
     }
 
-    /// Times below this have a bucket, for a shape within its limits.
-    pub fn time_limit(self) -> u32 {
+    /// The samples that the buckets would cover if each were one width long, for a
+    /// shape within its limits; later times lie in the last one.
+    pub fn span(self) -> u32 {
         self.buckets * self.width
     }
 

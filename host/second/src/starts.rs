@@ -15,7 +15,7 @@ impl Pool<'_> {
         if !arrival.is_in_range() {
             return Err(Refusal::ArrivalOutOfRange);
         }
-        if arrival.time >= self.shape.time_limit() {
+        if arrival.time >= self.shape.span() {
             return Err(Refusal::TimePastLastBucket);
         }
         let ticket = self.next_ticket(&record)?;

@@ -181,7 +181,7 @@ fn calls_run_to_their_end_at_the_limits() {
     for shape in [shape(1, 1, 1, 1), shape(64, 4_096, 256, 65_535)] {
         let mut lent = Lent::open(shape);
         let worker = shape.workers as usize - 1;
-        let last = shape.time_limit() - 1;
+        let last = shape.span() - 1;
         for round in 0..3 {
             let put = Call::Put(arrival(last));
             assert_eq!(lent.narrow(worker, put, u64::MAX), stored(3 * round + 1));

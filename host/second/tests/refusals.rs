@@ -66,9 +66,9 @@ fn refusal_1_at_every_limit() {
 fn the_limits_themselves_open() {
     for shape in [shape(1, 1, 1, 1), shape(64, 4_096, 256, 65_535)] {
         let mut lent = Lent::open(shape);
-        lent.store_whole(0, shape.time_limit() - 1);
-        assert_eq!(lent.put(0, shape.time_limit()), refused(6));
-        assert_eq!(lent.take_whole(0), took(shape.time_limit() as u64 - 1));
+        lent.store_whole(0, shape.span() - 1);
+        assert_eq!(lent.put(0, shape.span()), refused(6));
+        assert_eq!(lent.take_whole(0), took(shape.span() as u64 - 1));
     }
 }
 
