@@ -7,15 +7,24 @@ use schedule::by_hand::{self, ENERGIES};
 use schedule::script::shape;
 use schedule::Script;
 use second::layout::{field, CURRENT};
-use second::{energy, word, Arrival, Reclamation};
+use second::{energy, word, Arrival, Reclamation, Worker};
 
 fn fresh() -> Lent {
     Lent::open(shape(2, 4, 2, 10))
 }
 
+/// A script that expects 6 is older than Q-1; instead of it there is
+/// [`times_19_and_20_begin_in_bucket_1`].
+fn is_older(script: &Script) -> bool {
+    script.lines().iter().any(|line| line == "no 6")
+}
+
 #[test]
 fn every_case_prints_its_lines() {
     for (name, script) in by_hand::cases() {
+        if is_older(&script) {
+            continue;
+        }
         println!("{name}");
         Lent::play(&script);
         assert_eq!(schedule::lines(&script.bytes()[..]), script.output());
@@ -45,10 +54,24 @@ fn fresh_put_at_5_then_take() {
     assert_eq!(lent.current(), (0, 1));
 }
 
+/// 19, 20 and the last time there is; of 20 also the rest of the put.
 #[test]
-fn last_time_begins_and_the_next_is_6() {
-    Lent::play(&by_hand::last_time());
-    Lent::play(&by_hand::time_past_the_last());
+fn times_19_and_20_begin_in_bucket_1() {
+    let lent = Lent::play(&by_hand::last_time());
+    assert_eq!(lent.workers[0].bucket, 1);
+    for time in [20, u32::MAX] {
+        let lent = Lent::play(&Script::open(2, 4, 2, 10).put(0, time));
+        let expected = Worker {
+            stage: 1,
+            bucket: 1,
+            ticket: 1,
+            ..Worker::default()
+        };
+        assert_eq!(lent.workers[0], expected);
+    }
+    let mut lent = Lent::play(&Script::open(2, 4, 2, 10).stored(0, 20, 4));
+    assert_eq!(lent.times(1), [20]);
+    assert_eq!(lent.current(), (0, 0));
 }
 
 #[test]

@@ -40,21 +40,20 @@ pub fn stored(ticket: u64) -> Answer {
 
 pub fn refused(number: u8) -> Answer {
     use Refusal::*;
-    let all = [
-        ShapeOutsideLimits,
-        MemoryTooShort,
-        FieldOutOfRange,
-        NoSuchWorker,
-        ArrivalOutOfRange,
-        TimePastLastBucket,
-        UnknownMark,
-        RecordCut,
-        WorkerBusy,
-        WorkerIdle,
-        CountExhausted,
-        NoFreeNode,
-    ];
-    let refusal = all[usize::from(number) - 1];
+    let refusal = match number {
+        1 => ShapeOutsideLimits,
+        2 => MemoryTooShort,
+        3 => FieldOutOfRange,
+        4 => NoSuchWorker,
+        5 => ArrivalOutOfRange,
+        7 => UnknownMark,
+        8 => RecordCut,
+        9 => WorkerBusy,
+        10 => WorkerIdle,
+        11 => CountExhausted,
+        12 => NoFreeNode,
+        _ => panic!("no refusal is {number}"),
+    };
     assert_eq!(refusal.number(), number);
     Err(refusal)
 }
