@@ -2,6 +2,7 @@
 //! nothing and that the spare words and records are never changed.
 #![allow(dead_code)]
 
+pub mod noted;
 pub mod program;
 
 use std::ops::{Deref, DerefMut};
