@@ -224,14 +224,20 @@ impl Lent {
 
     /// Times met from a bucket's head to the end.
     pub fn times(&mut self, bucket: usize) -> Vec<u64> {
-        let mut times = Vec::new();
+        self.keys(bucket).iter().map(|key| key.0).collect()
+    }
+
+    /// Times and tickets, likewise.
+    pub fn keys(&mut self, bucket: usize) -> Vec<(u64, u64)> {
+        let mut keys = Vec::new();
         let mut node = word::successor(*self.head(bucket)) as usize;
         while node != self.shape.nodes as usize {
-            times.push(*self.node_word(node, field::TIME));
-            assert!(times.len() <= self.shape.nodes as usize, "cycle");
+            let time = *self.node_word(node, field::TIME);
+            keys.push((time, *self.node_word(node, field::TICKET)));
+            assert!(keys.len() <= self.shape.nodes as usize, "cycle");
             node = word::successor(*self.node_word(node, field::LINK)) as usize;
         }
-        times
+        keys
     }
 
     /// Makes a call and checks what every call must keep.
