@@ -1,7 +1,7 @@
--- Every time of 32 bits is taken, and 6 is no longer given (Q-1).
---     time-refuses-none     puts that differ in nothing but such times are refused alike, narrow ones too
---     open-never-6          no opening answers 6,
---     never-6               and no start or turn does, whole or narrow or with turns behind it, on any memory
+-- Since Q-1 no operation answers 6, and every time of 32 bits is taken.
+--     open-never-6              no opening answers 6,
+--     never-6                   and no start or turn does, whole or narrow or with turns behind it, on any memory
+--     at, time-refuses-none     puts that differ in nothing but their times of 32 bits are refused alike, narrow ones too
 -- Assumes nothing.
 use mathlib.Core.Path.{_≡_, refl, ap}
 use mathlib.Core.Bool.{Bool, true, false, cond}
@@ -28,20 +28,6 @@ use Rattle.calendar.specs.facts.FirstOf.{lacks, first-lacks}
 use Rattle.calendar.specs.facts.RefusalParts.{testsOf, refusal-first}
 use Rattle.calendar.specs.facts.Untouched.{outcome-said}
 use Rattle.calendar.specs.facts.Narrow.{narrow-said}
-
--- ── the time refuses none ──
--- an arrival at another time
-abbrev pub at : ℕ → Arrival → Arrival
-at time a = record { time = time; path = a .path; order = a .order; distance = a .distance }
-
-pub time-refuses-none : (sh : Shape) (m : Memory) (i t u : ℕ) (a : Arrival) → t < 4294967296 → u < 4294967296
-    → (refusal sh m (Enqueue i (at t a)) ≡ refusal sh m (Enqueue i (at u a)))
-    × (narrowRefusal sh m (Enqueue i (at t a)) ≡ narrowRefusal sh m (Enqueue i (at u a)))
-unfolding enqueueRefusal narrowRefusal
-time-refuses-none sh m i t u a h k = (
-  rw (lt-ltb t 4294967296 h, lt-ltb u 4294967296 k),
-  rw (lt-ltb t 4294967296 h, lt-ltb u 4294967296 k),
-)
 
 -- ── no operation answers 6 ──
 -- what is not refused by n, and is no refusal where it is not refused, does not answer n
@@ -94,3 +80,17 @@ pub never-6 : (sh : Shape) (m : Memory) (q : Request) → requested sh m q .resp
 unfolding narrowCall
 never-6 sh m (Whole a) = act-never-6 sh m a
 never-6 sh m (Narrow a n) = turns-never-6 sh (actor a) n (narrowAct sh m a) (narrow-never-6 sh m a)
+
+-- ── no time is a reason ──
+-- an arrival at another time
+abbrev pub at : ℕ → Arrival → Arrival
+at time a = record { time = time; path = a .path; order = a .order; distance = a .distance }
+
+pub time-refuses-none : (sh : Shape) (m : Memory) (i t u : ℕ) (a : Arrival) → t < 4294967296 → u < 4294967296
+    → (refusal sh m (Enqueue i (at t a)) ≡ refusal sh m (Enqueue i (at u a)))
+    × (narrowRefusal sh m (Enqueue i (at t a)) ≡ narrowRefusal sh m (Enqueue i (at u a)))
+unfolding enqueueRefusal narrowRefusal
+time-refuses-none sh m i t u a h k = (
+  rw (lt-ltb t 4294967296 h, lt-ltb u 4294967296 k),
+  rw (lt-ltb t 4294967296 h, lt-ltb u 4294967296 k),
+)
