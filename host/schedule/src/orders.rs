@@ -7,6 +7,7 @@ use crate::script::{put, took, Script};
 pub fn cases() -> Vec<(&'static str, Script)> {
     vec![
         ("a node of a higher epoch", sent_back()),
+        ("the same in the tail", sent_back_after(FAR)),
         ("a node stood on", stood_on_rests()),
         ("a marked node", marked_stays_in_use()),
         ("linked below current", stored_after_lowering()),
@@ -17,24 +18,36 @@ pub fn cases() -> Vec<(&'static str, Script)> {
 /// One bucket with 10 and 20; worker 0 reads current and pauses; 12 and then 15
 /// are stored; worker 1 takes 10 and 12; worker 0 comes to 15.
 pub fn paused_before_15() -> Script {
+    paused_after(0)
+}
+
+/// So many samples later 20 is the last time there is.
+const FAR: u32 = u32::MAX - 20;
+
+/// The same, with every time so many samples later: still in the one bucket.
+fn paused_after(samples: u32) -> Script {
     Script::open(2, 4, 1, 100)
-        .stored(0, 10, 5)
-        .stored(0, 20, 6)
+        .stored(0, samples + 10, 5)
+        .stored(0, samples + 20, 6)
         .take(0)
         .turns(0, 1)
-        .stored(1, 12, 7)
-        .stored(1, 15, 8)
-        .taken(1, 8, &took(10))
-        .taken(1, 8, &took(12))
+        .stored(1, samples + 12, 7)
+        .stored(1, samples + 15, 8)
+        .taken(1, 8, &took(samples + 10))
+        .taken(1, 8, &took(samples + 12))
         .turns(0, 1)
 }
 
 /// The taker reads current again before it takes 15.
 pub fn sent_back() -> Script {
-    paused_before_15()
+    sent_back_after(0)
+}
+
+fn sent_back_after(samples: u32) -> Script {
+    paused_after(samples)
         .turns(0, 2)
-        .end(0, 7, &took(15))
-        .taken(1, 7, &took(20))
+        .end(0, 7, &took(samples + 15))
+        .taken(1, 7, &took(samples + 20))
         .taken(1, 3, "empty")
 }
 

@@ -13,18 +13,9 @@ fn fresh() -> Lent {
     Lent::open(shape(2, 4, 2, 10))
 }
 
-/// A script that expects 6 is older than Q-1; instead of it there is
-/// [`times_19_and_20_begin_in_bucket_1`].
-fn is_older(script: &Script) -> bool {
-    script.lines().iter().any(|line| line == "no 6")
-}
-
 #[test]
 fn every_case_prints_its_lines() {
     for (name, script) in by_hand::cases() {
-        if is_older(&script) {
-            continue;
-        }
         println!("{name}");
         Lent::play(&script);
         assert_eq!(schedule::lines(&script.bytes()[..]), script.output());
@@ -57,10 +48,11 @@ fn fresh_put_at_5_then_take() {
 /// 19, 20 and the last time there is; of 20 also the rest of the put.
 #[test]
 fn times_19_and_20_begin_in_bucket_1() {
-    let lent = Lent::play(&by_hand::last_time());
+    let lent = Lent::play(&by_hand::fresh_put_at_19());
     assert_eq!(lent.workers[0].bucket, 1);
-    for time in [20, u32::MAX] {
-        let lent = Lent::play(&Script::open(2, 4, 2, 10).put(0, time));
+    let put_at_the_last = Script::open(2, 4, 2, 10).put(0, u32::MAX);
+    for script in [by_hand::fresh_put_at_20(), put_at_the_last] {
+        let lent = Lent::play(&script);
         let expected = Worker {
             stage: 1,
             bucket: 1,
