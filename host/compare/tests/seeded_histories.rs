@@ -183,7 +183,7 @@ fn many_workers() {
         shape: Some(shape(14, 24, 2, 3)),
     };
     let (mut altered, mut noticed) = (0, 0);
-    for seed in 0..30 {
+    for seed in 0..100 {
         let mut bytes = Vec::new();
         schedule::write(seed, 800, options, &mut bytes).unwrap();
         let sample = Sample::of_file(bytes);
