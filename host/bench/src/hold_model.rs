@@ -37,7 +37,7 @@ impl Model {
     /// As many holds as the calendar has room for; they move the earliest time by
     /// half the spread in as many holds as there are arrivals.
     pub fn new(shape: Shape, pending: usize, spread: u32) -> Self {
-        let room = f64::from(shape.time_limit() - spread) / (f64::from(spread) / 2.0);
+        let room = f64::from(shape.span() - spread) / (f64::from(spread) / 2.0);
         Self {
             shape,
             pending,
@@ -67,7 +67,7 @@ impl Model {
 
     /// The time of an arrival that is put back.
     pub fn later(&self, time: u32, increment: u32) -> u32 {
-        (time + increment).min(self.shape.time_limit() - 1)
+        (time + increment).min(self.shape.span() - 1)
     }
 
     pub fn run(&self, seed: u64) -> Run {
