@@ -24,8 +24,7 @@ pub fn cases() -> Vec<(String, Script)> {
         ("fresh take, then put at 5", fresh_take_then_put_at_5()),
         ("fresh put at 15", fresh_put_at_15()),
         ("fresh put at 5, then take", fresh_put_at_5_then_take()),
-        ("fresh put at 19", fresh_put_at_19()),
-        ("fresh put at 20", fresh_put_at_20()),
+        ("puts at 19 and 20", puts_at_19_and_20()),
         ("puts in the tail, then takes", puts_in_the_tail()),
         ("four puts", four_puts(1)),
         ("four puts at one time", four_puts(0)),
@@ -61,13 +60,9 @@ pub fn fresh_put_at_5_then_take() -> Script {
     fresh().stored(0, 5, 5).taken(0, 7, &took(5))
 }
 
-/// Two widths end here; the last bucket goes on.
-pub fn fresh_put_at_19() -> Script {
-    fresh().put(0, 19)
-}
-
-pub fn fresh_put_at_20() -> Script {
-    fresh().put(0, 20)
+/// Two widths end between them; the last bucket goes on.
+pub fn puts_at_19_and_20() -> Script {
+    fresh().put(0, 19).put(1, 20)
 }
 
 /// The last time there is, the first one past two widths, and one in bucket 0. Each

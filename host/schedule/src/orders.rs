@@ -12,6 +12,7 @@ pub fn cases() -> Vec<(&'static str, Script)> {
         ("a marked node", marked_stays_in_use()),
         ("linked below current", stored_after_lowering()),
         ("a stale advance", stale_advance_fails()),
+        ("a take in the tail", take_in_the_tail()),
     ]
 }
 
@@ -131,4 +132,21 @@ pub fn take_set_into_the_past() -> Script {
         .stored(0, 3, 6)
         .end(1, 5, &took(7))
         .taken(0, 7, &took(3))
+}
+
+/// Worker 1's take has come to the first of two at 1,000, in the last bucket; 5 is stored
+/// before it. The take answers 1,000, and the next ones 5, the other 1,000 and the last.
+pub fn take_in_the_tail() -> Script {
+    Script::open(2, 4, 2, 10)
+        .stored(0, u32::MAX, 4)
+        .stored(1, 1_000, 5)
+        .stored(0, 1_000, 6)
+        .take(1)
+        .turns(1, 5)
+        .stored(0, 5, 5)
+        .end(1, 5, &took(1_000))
+        .taken(0, 7, &took(5))
+        .taken(0, 10, &took(1_000))
+        .taken(0, 7, &took(u32::MAX))
+        .taken(0, 3, "empty")
 }

@@ -48,11 +48,11 @@ fn fresh_put_at_5_then_take() {
 /// 19, 20 and the last time there is; of 20 also the rest of the put.
 #[test]
 fn times_19_and_20_begin_in_bucket_1() {
-    let lent = Lent::play(&by_hand::fresh_put_at_19());
-    assert_eq!(lent.workers[0].bucket, 1);
-    let put_at_the_last = Script::open(2, 4, 2, 10).put(0, u32::MAX);
-    for script in [by_hand::fresh_put_at_20(), put_at_the_last] {
-        let lent = Lent::play(&script);
+    let lent = Lent::play(&by_hand::puts_at_19_and_20());
+    let buckets = [0, 1].map(|worker: usize| lent.workers[worker].bucket);
+    assert_eq!(buckets, [1, 1]);
+    for time in [20, u32::MAX] {
+        let lent = Lent::play(&Script::open(2, 4, 2, 10).put(0, time));
         let expected = Worker {
             stage: 1,
             bucket: 1,
