@@ -154,8 +154,9 @@ impl<'a> Host<'a> {
                 self.begin(worker, ticket, Some(arrival));
                 Ok(())
             }
-            Err(Refusal::BadArrival | Refusal::TooLate) => {
-                self.trace.out_of_reach += 1;
+            // Only its distance can be; no time is too late.
+            Err(Refusal::BadArrival) => {
+                self.trace.too_far += 1;
                 Ok(())
             }
             // A take makes room; waiting might not, if all workers wait.
