@@ -65,6 +65,10 @@ class Pool:
         """(B10)"""
         return self.get(node, TIME), self.get(node, TICKET)
 
+    def bucket_of(self, time):
+        """The last bucket takes the tail too (B9)."""
+        return min(time // self.width, self.buckets - 1)
+
     def swap(self, word, old, new):
         """(I4)"""
         if self.store[word] != old:
@@ -157,10 +161,6 @@ class Pool:
         self.store[: len(layout)] = layout
         self.table[:workers] = [Record() for _ in range(workers)]
         return "open"
-
-    def bucket_of(self, time):
-        """(B9)"""
-        return min(time // self.width, self.buckets - 1)
 
     def put_start(self, worker, time, path, order, distance):
         """(H)"""
