@@ -1,7 +1,9 @@
 //! The orders that catch an engine out, as scripts. Each has a beginning, up to
 //! where a wrong engine goes astray, and a right ending.
 
-use crate::script::{put, took, Script};
+use second::Arrival;
+
+use crate::script::{arrival, put, put_arrival, took, Script};
 
 /// Every order with its right ending, by name.
 pub fn cases() -> Vec<(&'static str, Script)> {
@@ -137,16 +139,24 @@ pub fn take_set_into_the_past() -> Script {
 /// Worker 1's take has come to the first of two at 1,000, in the last bucket; 5 is stored
 /// before it. The take answers 1,000, and the next ones 5, the other 1,000 and the last.
 pub fn take_in_the_tail() -> Script {
+    let from = |time, distance| Arrival {
+        distance,
+        ..arrival(time)
+    };
     Script::open(2, 4, 2, 10)
-        .stored(0, u32::MAX, 4)
-        .stored(1, 1_000, 5)
-        .stored(0, 1_000, 6)
+        .begin(put_arrival(0, from(u32::MAX, 3)))
+        .end(0, 4, "stored 1")
+        .begin(put_arrival(1, from(1_000, 5)))
+        .end(1, 5, "stored 2")
+        .begin(put_arrival(0, from(1_000, 1)))
+        .end(0, 6, "stored 3")
         .take(1)
         .turns(1, 5)
-        .stored(0, 5, 5)
-        .end(1, 5, &took(1_000))
-        .taken(0, 7, &took(5))
-        .taken(0, 10, &took(1_000))
-        .taken(0, 7, &took(u32::MAX))
+        .begin(put_arrival(0, from(5, 1_024)))
+        .end(0, 5, "stored 5")
+        .end(1, 5, "took 1000 7 1 671088")
+        .taken(0, 7, "took 5 7 1 16")
+        .taken(0, 10, "took 1000 7 1 16777216")
+        .taken(0, 7, "took 4294967295 7 1 1864135")
         .taken(0, 3, "empty")
 }
