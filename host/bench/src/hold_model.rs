@@ -3,7 +3,7 @@
 
 use schedule::script::{put, take, turn};
 use schedule::Random;
-use second::{Refusal, Response, Shape};
+use second::{Record, Refusal, Response, Shape};
 
 use crate::recorder::{Batch, Recorder};
 
@@ -31,6 +31,21 @@ pub struct Run {
     pub holding: Batch,
     /// Times in the order they were taken.
     pub taken: Vec<u32>,
+}
+
+/// The same for one worker that does each call in one go: only its starts.
+pub struct Starts {
+    pub filling: Vec<Record>,
+    pub holding: Vec<Record>,
+}
+
+impl Run {
+    pub fn starts(&self) -> Starts {
+        Starts {
+            filling: self.filling.starts(),
+            holding: self.holding.starts(),
+        }
+    }
 }
 
 impl Model {

@@ -57,6 +57,17 @@ impl Recorder {
 }
 
 impl Batch {
+    /// The records that begin a call.
+    pub fn starts(&self) -> Vec<Record> {
+        let is_start = |record: &&Record| {
+            matches!(
+                record,
+                Record::EnqueueStart { .. } | Record::DequeueStart { .. }
+            )
+        };
+        self.records.iter().filter(is_start).copied().collect()
+    }
+
     /// The same batch again and again, up to about so many records.
     pub fn repeated(&self, records: usize) -> Self {
         let times = (records / self.records.len()).max(1);
