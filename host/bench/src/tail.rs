@@ -59,15 +59,15 @@ pub fn run(arguments: &Arguments) -> io::Result<()> {
         "(put all, take all: the whole of a job, whose arrivals are put in a random order, so many per\n \
          cent of them far behind the span of the buckets. Hold beside the tail: only the others are\n \
          taken and put back later, as in the hold model. The last two: the tail without the others.\n \
-         share: per cent in the tail; turns: of a put and of a take; pool, second and heap as in the\n \
-         hold model; narrow: by one worker's narrow calls, each in one go; ratios: how many times as\n \
-         fast as the second program's library and the heap the pool is, and as the heap narrow calls)",
+         share: per cent in the tail; tail: how many these are; put, take: turns of one; pool, second and\n \
+         heap: as in the hold model; narrow: the pool by one worker's narrow calls, each in one go.\n \
+         ratio: how many times as fast as the second program's library, or the heap, the pool is)",
     );
     let mut panels = Vec::new();
     for arrivals in ARRIVALS {
         let name = format!("{arrivals} arrivals");
         println!(
-            " {name:<22} share  tail  turns: put   take      pool    second  ratio      heap  ratio    narrow  ratio"
+            " {name:<22} share  tail    put   take      pool    second  ratio      heap  ratio    narrow  ratio"
         );
         let [all, beside, ..] = SCENES.map(|scene| contests(arguments, arrivals, scene));
         panels.push(panel(arrivals, &all, &beside));
@@ -115,7 +115,7 @@ impl Times {
             narrow,
         } = *self;
         println!(
-            "  {name:<21}{share:>6}{:>6}{put:>12.1}{take:>7.1}{pool:>10.1}{second:>10.1}{:>7.2}\
+            "  {name:<21}{share:>6}{:>6}{put:>7.1}{take:>7.1}{pool:>10.1}{second:>10.1}{:>7.2}\
              {heap:>10.1}{:>7.2}{narrow:>10.1}{:>7.2}",
             job.tail,
             second / pool,
@@ -220,7 +220,10 @@ impl Job {
         const PAIRS: usize = 1_000;
         let mut random = Random::new(seed);
         let mut writer = Writer::open(self.others.shape);
-        let opening = writer.cut();
+        // The pool is at its last bucket, as after a job before.
+        writer.put(u32::MAX);
+        writer.take();
+        let filling = writer.cut();
         while writer.taken.len() < PAIRS {
             let times = draw(&mut random);
             for &time in &times {
@@ -230,7 +233,7 @@ impl Job {
                 writer.take();
             }
         }
-        writer.run(opening)
+        writer.run(filling)
     }
 
     /// The others are held.
@@ -300,7 +303,9 @@ impl Writer {
         time
     }
 
+    /// What was written up to here is not timed.
     fn cut(&mut self) -> Batch {
+        self.taken.clear();
         self.recorder.cut()
     }
 
@@ -308,7 +313,7 @@ impl Writer {
     fn run(mut self, filling: Batch) -> Run {
         Run {
             filling,
-            holding: self.cut(),
+            holding: self.recorder.cut(),
             taken: self.taken,
         }
     }
