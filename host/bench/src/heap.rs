@@ -109,12 +109,14 @@ impl Heap {
         for &start in starts {
             match start {
                 Record::EnqueueStart { arrival, .. } => self.put(Pending::new(arrival)),
-                _ => {
+                Record::DequeueStart { .. } => {
                     if let Some(taken) = self.take() {
                         sum = fold(sum, taken.time);
                         rest += taken.rest();
                     }
                 }
+                Record::Open(_) => self.heap.clear(),
+                Record::Step { .. } => {}
             }
         }
         keep(rest);
@@ -146,15 +148,16 @@ pub fn hold(model: &Model, runs: &[Draws]) -> (Vec<Duration>, u64) {
 /// How long the holding of each run takes, start by start, and the fold of the times
 /// taken.
 pub fn by_starts(model: &Model, runs: &[Starts]) -> (Vec<Duration>, u64) {
+    let mut heap = Heap::with_capacity(model.shape.nodes as usize);
     let mut elapsed = Vec::new();
     let mut sum = 0;
     for run in runs {
-        let mut heap = Heap::with_capacity(model.shape.nodes as usize);
         heap.replay(&run.filling, 0);
         let start = Instant::now();
         sum = heap.replay(&run.holding, sum);
         elapsed.push(start.elapsed());
-        heap.keep_all();
     }
+    heap.keep_all();
+    keep(sum);
     (elapsed, sum)
 }

@@ -33,7 +33,7 @@ pub struct Run {
     pub taken: Vec<u32>,
 }
 
-/// The same for one worker that does each call in one go: only its starts.
+/// The same for one worker that does each call in one go: all records but the turns.
 pub struct Starts {
     pub filling: Vec<Record>,
     pub holding: Vec<Record>,

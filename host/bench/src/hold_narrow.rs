@@ -86,7 +86,6 @@ pub fn by_starts(model: &Model, runs: &[Starts]) -> (Vec<Duration>, u64) {
     let mut elapsed = Vec::new();
     let mut sum = 0;
     for run in runs {
-        pool.reopen(pool.shape()).expect("it fits");
         replay_starts(&mut pool, &run.filling, 0);
         let start = Instant::now();
         sum = replay_starts(&mut pool, &run.holding, sum);
@@ -108,7 +107,8 @@ fn replay_starts(pool: &mut Pool, starts: &[Record], mut sum: u64) -> u64 {
                     sum = fold(sum, taken.time);
                 }
             }
-            Record::Step { .. } | Record::Open(_) => {}
+            Record::Open(shape) => pool.reopen(of_wrapper(shape)).expect("it fits"),
+            Record::Step { .. } => {}
         }
     }
     sum

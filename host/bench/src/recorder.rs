@@ -50,6 +50,11 @@ impl Recorder {
         }
     }
 
+    /// Turns written since the last cut.
+    pub fn turns(&self) -> usize {
+        self.batch.turns
+    }
+
     /// What was written since the last time.
     pub fn cut(&mut self) -> Batch {
         std::mem::take(&mut self.batch)
@@ -57,15 +62,11 @@ impl Recorder {
 }
 
 impl Batch {
-    /// The records that begin a call.
+    /// All records but the turns.
     pub fn starts(&self) -> Vec<Record> {
-        let is_start = |record: &&Record| {
-            matches!(
-                record,
-                Record::EnqueueStart { .. } | Record::DequeueStart { .. }
-            )
-        };
-        self.records.iter().filter(is_start).copied().collect()
+        let records = self.records.iter();
+        let starts = records.filter(|record| !matches!(record, Record::Step { .. }));
+        starts.copied().collect()
     }
 
     /// The same batch again and again, up to about so many records.

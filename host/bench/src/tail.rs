@@ -2,6 +2,7 @@
 //! in the last one.
 
 use std::io;
+use std::mem;
 
 use schedule::script::{put, take};
 use schedule::Random;
@@ -25,7 +26,8 @@ const SHARES: [usize; 4] = [0, 1, 10, 50];
 #[derive(Clone, Copy)]
 struct Scene {
     name: &'static str,
-    run: fn(&Job, u64) -> Run,
+    /// A run in pieces; only the first of them opens the pool.
+    pieces: fn(&Job, u64) -> Vec<Run>,
     /// Only the tail is in the pool.
     is_tail_alone: bool,
 }
@@ -33,22 +35,22 @@ struct Scene {
 const SCENES: [Scene; 4] = [
     Scene {
         name: "put all, take all",
-        run: Job::all,
+        pieces: Job::all,
         is_tail_alone: false,
     },
     Scene {
         name: "hold beside the tail",
-        run: Job::beside,
+        pieces: Job::beside,
         is_tail_alone: false,
     },
     Scene {
         name: "put the tail, take it",
-        run: Job::tail,
+        pieces: Job::tail,
         is_tail_alone: true,
     },
     Scene {
         name: "the same, ever later",
-        run: Job::ever_later,
+        pieces: Job::ever_later,
         is_tail_alone: true,
     },
 ];
@@ -67,7 +69,8 @@ pub fn run(arguments: &Arguments) -> io::Result<()> {
     for arrivals in ARRIVALS {
         let name = format!("{arrivals} arrivals");
         println!(
-            " {name:<22} share  tail    put   take      pool    second  ratio      heap  ratio    narrow  ratio"
+            " {name:<22} share  tail    put   take      pool    second  ratio      heap  ratio{:>17}",
+            "narrow  ratio"
         );
         let [all, beside, ..] = SCENES.map(|scene| contests(arguments, arrivals, scene));
         panels.push(panel(arrivals, &all, &beside));
@@ -128,10 +131,10 @@ impl Times {
 /// Long lists make long calls; fewer of them will do.
 fn contest(arguments: &Arguments, job: &Job, scene: Scene) -> Times {
     const TURNS: usize = 15;
-    let first = (scene.run)(job, 0);
-    let count = (arguments.holds * TURNS / first.holding.turns).max(1);
-    let more = (1..count as u64).map(|seed| (scene.run)(job, seed));
-    let runs: Vec<Run> = std::iter::once(first).chain(more).collect();
+    let mut runs = (scene.pieces)(job, 0);
+    let turns_of_one: usize = runs.iter().map(|run| run.holding.turns).sum();
+    let count = arguments.holds * TURNS / turns_of_one;
+    runs.extend((1..count as u64).flat_map(|seed| (scene.pieces)(job, seed)));
     let starts: Vec<Starts> = runs.iter().map(Run::starts).collect();
     let model = &job.others;
     let (mut entry, mut library) = hold::engines(model.shape);
@@ -199,15 +202,15 @@ impl Job {
         }
     }
 
-    fn all(&self, seed: u64) -> Run {
+    fn all(&self, seed: u64) -> Vec<Run> {
         self.put_and_take(seed, |random| self.draw_all(random))
     }
 
-    fn tail(&self, seed: u64) -> Run {
+    fn tail(&self, seed: u64) -> Vec<Run> {
         self.put_and_take(seed, |random| self.draw_tail(random))
     }
 
-    fn ever_later(&self, seed: u64) -> Run {
+    fn ever_later(&self, seed: u64) -> Vec<Run> {
         self.put_and_take(seed, |random| {
             let mut times = self.draw_tail(random);
             times.sort_unstable();
@@ -216,40 +219,45 @@ impl Job {
     }
 
     /// Arrivals are put and all of them taken, again and again.
-    fn put_and_take(&self, seed: u64, draw: impl Fn(&mut Random) -> Vec<u32>) -> Run {
+    fn put_and_take(&self, seed: u64, draw: impl Fn(&mut Random) -> Vec<u32>) -> Vec<Run> {
         const PAIRS: usize = 1_000;
         let mut random = Random::new(seed);
         let mut writer = Writer::open(self.others.shape);
         // The pool is at its last bucket, as after a job before.
         writer.put(u32::MAX);
         writer.take();
-        let filling = writer.cut();
-        while writer.taken.len() < PAIRS {
+        writer.end_filling();
+        let mut pairs = 0;
+        while pairs < PAIRS {
             let times = draw(&mut random);
             for &time in &times {
                 writer.put(time);
+                writer.end_long_piece();
             }
             for _ in &times {
                 writer.take();
+                writer.end_long_piece();
             }
+            pairs += times.len();
         }
-        writer.run(filling)
+        writer.pieces()
     }
 
     /// The others are held.
-    fn beside(&self, seed: u64) -> Run {
+    fn beside(&self, seed: u64) -> Vec<Run> {
         let Draws { times, increments } = self.others.draws(seed);
         let tail = self.draw_tail(&mut Random::new(!seed));
         let mut writer = Writer::open(self.others.shape);
         for time in latest_first(tail).into_iter().chain(latest_first(times)) {
             writer.put(time);
         }
-        let filling = writer.cut();
+        writer.end_filling();
         for increment in increments {
             let time = writer.take();
             writer.put(self.others.later(time, increment));
+            writer.end_long_piece();
         }
-        writer.run(filling)
+        writer.pieces()
     }
 
     fn draw_tail(&self, random: &mut Random) -> Vec<u32> {
@@ -276,17 +284,22 @@ fn draw_late(random: &mut Random) -> u32 {
     random.between(u32::MAX / 2, u32::MAX)
 }
 
-/// Writes whole calls of one worker.
+/// Writes whole calls of one worker, in pieces.
 struct Writer {
     recorder: Recorder,
+    /// Of the next piece.
+    filling: Batch,
     taken: Vec<u32>,
+    pieces: Vec<Run>,
 }
 
 impl Writer {
     fn open(shape: Shape) -> Self {
         Self {
             recorder: Recorder::open(shape),
+            filling: Batch::default(),
             taken: Vec::new(),
+            pieces: Vec::new(),
         }
     }
 
@@ -304,18 +317,32 @@ impl Writer {
     }
 
     /// What was written up to here is not timed.
-    fn cut(&mut self) -> Batch {
+    fn end_filling(&mut self) {
+        self.filling = self.recorder.cut();
         self.taken.clear();
-        self.recorder.cut()
     }
 
-    /// With what was written before as its filling.
-    fn run(mut self, filling: Batch) -> Run {
-        Run {
-            filling,
-            holding: self.recorder.cut(),
-            taken: self.taken,
+    /// A piece takes about a millisecond.
+    fn end_long_piece(&mut self) {
+        const TURNS: usize = 100_000;
+        if self.recorder.turns() >= TURNS {
+            self.end_piece();
         }
+    }
+
+    fn end_piece(&mut self) {
+        self.pieces.push(Run {
+            filling: mem::take(&mut self.filling),
+            holding: self.recorder.cut(),
+            taken: mem::take(&mut self.taken),
+        });
+    }
+
+    fn pieces(mut self) -> Vec<Run> {
+        if self.recorder.turns() > 0 {
+            self.end_piece();
+        }
+        self.pieces
     }
 }
 
