@@ -11,7 +11,7 @@ use mathlib.Core.Path.{_≡_, refl, sym, _∙_}
 use mathlib.Core.Bool.{Bool, true, false, _&&_, _||_}
 use mathlib.Core.Logic.{_≢_, _⊎_, inl, inr}
 use Prim.Native.Nat.{ℕ, _-_, _/_, min, _≤_, _<_}
-use native.Mathlib.Nat.{le-div-iff-mul-le, div-mul-le-self, le-min, min-le-left, min-le-right}
+use native.Mathlib.Nat.{le-div-iff-mul-le, div-mul-le-self}
 use native.Mathlib.Omega.{arith}
 use lib.Dec.{eqb, ltb}
 use borrow.Author.Tests.{eqb-true, eq-eqb, ltb-true, ltb-false, lt-ltb, le-ltb}
@@ -135,15 +135,12 @@ lower-total a b h n = lowered b a (go (ltb (b .time) (a .time)) refl (ltb (a .ti
 -- The bucket of a time is one of the buckets.
 pub bucket-below : (sh : Shape) (time : ℕ) → 1 ≤ sh .buckets → bucketOf sh time < sh .buckets
 unfolding bucketOf
-bucket-below sh time some = omega (arith, min-le-right (time / sh .width) (sh .buckets - 1))
+bucket-below sh time some = omega arith
 
 -- A lower key lies in no higher bucket.
 pub bucket-mono : (sh : Shape) (a b : Item) → 1 ≤ sh .width → lower a b ≡ true → itemBucket sh a ≤ itemBucket sh b
 unfolding itemBucket bucketOf
-bucket-mono sh a b w p =
-    let q = a .time / sh .width in
-    let l = sh .buckets - 1 in
-    le-min (omega (arith, min-le-left q l, go (below a b p))) (min-le-right q l)
+bucket-mono sh a b w p = omega (arith, go (below a b p))
   where
     go : Below a b → a .time / sh .width ≤ b .time / sh .width
     go (inl h) = le-div-iff-mul-le w .1 (omega (arith, div-mul-le-self (a .time) (sh .width)))

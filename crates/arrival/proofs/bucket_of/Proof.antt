@@ -1,6 +1,4 @@
 -- `arrival::bucket_of` computes the bucket of a time. Assumes nothing.
-use Prim.Native.Nat.{_-_, _/_, _≤_}
-use native.Mathlib.Nat.{min-eq-left, min-eq-right}
 use native.Mathlib.Omega.{arith}
 use borrow.Author.Needs.{needs}
 use Rattle.arrival.specs.Keys.{bucketOf}
@@ -15,17 +13,11 @@ div-quotient c = search needs
 
 returns : tie.Need-returns
 unfolding bucketOf
-returns c =
-    let a = c .before .before .before .args in
-    let h : a .time / a .shape .width ≤ a .shape .buckets - 1 = omega arith in
-    omega (arith, min-eq-left h)
+returns c = omega arith
 
 returns-2 : tie.Need-returns-2
 unfolding bucketOf
-returns-2 c =
-    let a = c .before .before .before .args in
-    let h : a .shape .buckets - 1 ≤ a .time / a .shape .width = omega arith in
-    omega (arith, min-eq-right h)
+returns-2 c = omega arith
 
 pub bucket-of-spec : {M : Type 1} → statement M
 bucket-of-spec = tie.close (tie.spec sub-last div-quotient returns returns-2)

@@ -1,10 +1,12 @@
 -- Since Q-1 no operation answers 6, and every time of 32 bits is taken.
 --     open-never-6              no opening answers 6,
 --     never-6                   and no start or turn does, whole or narrow or with turns behind it, on any memory
---     at, time-refuses-none     puts that differ in nothing but their times of 32 bits are refused alike, narrow ones too
+--     put-tests                 at a time of 32 bits a put is refused by path, order and distance, and by what does not look at the arrival
+--     at, time-refuses-none     so puts that differ in nothing but such times are refused alike, narrow ones too
 -- Assumes nothing.
 use mathlib.Core.Path.{_≡_, refl, ap}
-use mathlib.Core.Bool.{Bool, true, false, cond}
+use mathlib.Core.List.{[], _∷_}
+use mathlib.Core.Bool.{Bool, true, false, cond, not, _&&_}
 use mathlib.Core.Logic.{_≢_}
 use Prim.Native.Nat.{ℕ, zero, suc, _<_}
 use native.Mathlib.Omega.{arith}
@@ -12,6 +14,7 @@ use lib.Dec.{eqb}
 use borrow.Author.Tests.{eqb-true, lt-ltb}
 use Rattle.arrival.specs.declared.Shape.{Shape}
 use Rattle.arrival.specs.declared.Arrival.{Arrival}
+use Rattle.arrival.specs.declared.Worker.{Worker}
 use Rattle.arrival.specs.declared.Action.{Action}
 use Rattle.arrival.specs.declared.Action.the-variants.{Enqueue, Dequeue, Step}
 use Rattle.arrival.specs.declared.Request.{Request}
@@ -19,8 +22,9 @@ use Rattle.arrival.specs.declared.Request.the-variants.{Whole, Narrow}
 use Rattle.arrival.specs.declared.Response.{Response}
 use Rattle.arrival.specs.declared.Response.the-variants.{Opened, Refused}
 use Rattle.arrival.specs.Responses.{said}
+use Rattle.calendar.specs.rules.Ranges.{pathInRange, orderInRange, distanceInRange}
 use Rattle.calendar.specs.rules.Opening.{openStore, openTable}
-use Rattle.calendar.specs.rules.Refusals.{openTests, openRefusal, enqueueRefusal}
+use Rattle.calendar.specs.rules.Refusals.{busy, enqueueOwn, openTests, openRefusal, enqueueRefusal}
 use Rattle.calendar.specs.rules.Operations.{Memory, Result, unless, perform, open-pool, actor, refusal, outcome, act}
 use Rattle.calendar.specs.rules.NarrowCalls.{narrowTests, narrowRefusal, narrowAct, goesOn, turnsAfter, narrowCall}
 use Rattle.calendar.specs.rules.HostHistory.{requested}
@@ -82,6 +86,12 @@ never-6 sh m (Whole a) = act-never-6 sh m a
 never-6 sh m (Narrow a n) = turns-never-6 sh (actor a) n (narrowAct sh m a) (narrow-never-6 sh m a)
 
 -- ── no time is a reason ──
+-- What refuses a put of its own, at a time of 32 bits: 5 looks at path, order and distance.
+pub put-tests : (a : Arrival) (w : Worker) (spent none : Bool) → a .time < 4294967296
+    → enqueueOwn a w spent none
+    ≡ (5, not (pathInRange (a .path) && orderInRange (a .order) && distanceInRange (a .distance))) ∷ (9, busy w) ∷ (11, spent) ∷ (12, none) ∷ []
+put-tests a w spent none h = rw (lt-ltb (a .time) 4294967296 h)
+
 -- an arrival at another time
 abbrev pub at : ℕ → Arrival → Arrival
 at time a = record { time = time; path = a .path; order = a .order; distance = a .distance }
