@@ -39,7 +39,7 @@ start = open-pool two-workers lent .memory
 unfoldable pub seen : Ledger
 seen = ledger two-workers start history new
 
--- nine calls, all finished: put 5 ended when five calls had started, take 4 after it
+-- nine calls, all finished: take 4 and put 5 both ended when five calls had started
 pub answers :
     (seen .started ≡ 9)
     × (seen .response 1 ≡ Stored 1)
