@@ -105,12 +105,14 @@ static void turn_by_turn(void)
 /* The last bucket, of times from 10 on, takes what comes far behind the others, too. */
 static void tail(void)
 {
-    const uint32_t times[3] = {4294967295u, 5, 20};
+    const uint32_t borders[3] = {9, 10, 19}, times[3] = {4294967295u, 5, 20};
     wubraken_arrival late = arrival;
     int nth;
 
     puts("the tail:");
     open_for(1);
+    for (nth = 0; nth < 3; nth++)
+        printf("bucket %" PRIu64 "\n", wubraken_bucket_of(pool.shape, borders[nth]));
     for (nth = 0; nth < 3; nth++) {
         late.time = times[nth];
         printf("bucket %" PRIu64 "\n", wubraken_bucket_of(pool.shape, late.time));

@@ -154,7 +154,7 @@ impl<'a> Host<'a> {
                 self.begin(worker, ticket, Some(arrival));
                 Ok(())
             }
-            // Only its distance can be; no time is too late.
+            // Of its fields only the distance can be outside its limits.
             Err(Refusal::BadArrival) => {
                 self.trace.too_far += 1;
                 Ok(())

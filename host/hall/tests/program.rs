@@ -44,9 +44,9 @@ fn the_default_run_fits_a_screen() {
 }
 
 /// How many of the 25 come after the span. 1,465 samples take the direct sound and that
-/// by the floor, at most; the next one, by a side wall, 18.5 metres, is at 2,581. After
+/// by the floor, at most; the next one, by a side wall, 18.5 metres, is at 2,582. After
 /// 4,800 samples, 34.3 metres, come three second reflections, by a side wall at 35 metres,
-/// and by front and rear wall at 38 and 58, which is 8,120 samples.
+/// and by front and rear wall at 38 and 58, which is 8,119 samples.
 #[test]
 fn the_tail_is_counted() {
     for (span, samples, late) in [

@@ -70,8 +70,8 @@ impl Phase {
         };
         let time = times::any(random, shape);
         let times = match random.below(10) {
-            0..=2 => Times::Within,
-            3 => Times::Any,
+            0 => Times::Within,
+            1..=3 => Times::Any,
             4 => Times::Same(time),
             5 => Times::Close(time),
             6 => Times::Edges,

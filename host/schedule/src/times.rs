@@ -25,7 +25,8 @@ pub fn near_a_border(random: &mut Random, shape: Shape) -> u32 {
     near(random, border)
 }
 
-/// The last times there are, powers of two, and any time behind the span.
+/// The last times there are, those about powers of two (which a wide span may reach), and
+/// any time behind the span.
 pub fn far(random: &mut Random, shape: Shape) -> u32 {
     match random.below(3) {
         0 => u32::MAX - random.below(3),
@@ -37,12 +38,13 @@ pub fn far(random: &mut Random, shape: Shape) -> u32 {
     }
 }
 
-/// The next lower time: by halves as long as that is behind the span, then one by
-/// one. After 0 comes the last time there is.
+/// The next lower time: by halves to a little behind the span, then one by one. After 0
+/// comes the last time there is.
 pub fn lower(time: u32, shape: Shape) -> u32 {
+    let near_the_end = shape.span() + 3;
     match time.checked_sub(1) {
         None => u32::MAX,
-        Some(_) if time / 2 > shape.span() => time / 2,
+        Some(_) if time > near_the_end => near_the_end.max(time / 2),
         Some(lower) => lower,
     }
 }

@@ -127,6 +127,10 @@ fn kinds_of_time(shape: Shape, time: u32) -> impl Iterator<Item = &'static str> 
         ("before the last bucket", time < first),
         ("in the last bucket's width", first <= time && time < behind),
         ("in the tail", behind <= time),
+        (
+            "near the last bucket's borders, or behind",
+            is_near(first) || behind - 1 <= time,
+        ),
         ("a sample before the last bucket", time == first - 1),
         ("the last bucket's first", time == first),
         ("the last bucket's second", time == first + 1),
@@ -168,9 +172,10 @@ fn each_put(mut see: impl FnMut(&Program, u32, Answer)) {
     }
 }
 
-/// Of the puts that begin, a good share lies in the tail, another in the last bucket
-/// before it, and another in the buckets before that. Each kind of time occurs, and so
-/// do equal times in the tail and a fall from the tail to the buckets before the last.
+/// Of the puts that begin, most lie near the last bucket's borders or in the tail, and
+/// a fifth at least in the tail, in the last bucket before it, and in the buckets before
+/// that. Each kind of time occurs, and so do equal times in the tail and a fall from the
+/// tail to the buckets before the last.
 #[test]
 fn times_of_every_kind_begin() {
     let mut counts: BTreeMap<&str, usize> = BTreeMap::new();
@@ -194,21 +199,21 @@ fn times_of_every_kind_begin() {
         earlier = Some(time);
     });
     println!("{puts}: {counts:?}");
-    assert_eq!(counts.len(), 15, "{counts:?}");
+    assert_eq!(counts.len(), 16, "{counts:?}");
     assert!(counts.values().all(|&count| count > 100), "{counts:?}");
     for kind in [
         "before the last bucket",
         "in the last bucket's width",
         "in the tail",
     ] {
-        assert!(4 * counts[kind] > puts, "{kind}: {counts:?}");
+        assert!(5 * counts[kind] > puts, "{kind}: {counts:?}");
     }
+    assert!(2 * counts["near the last bucket's borders, or behind"] > puts);
 }
 
-/// What refuses other puts refuses those of late times, too (1 before an opening), and 6
-/// refuses none.
+/// What refuses other puts refuses those of late times, too (1 before an opening).
 #[test]
-fn puts_in_the_tail_are_refused_by_all_but_6() {
+fn late_puts_are_refused_as_others() {
     let mut refused: BTreeMap<u8, usize> = BTreeMap::new();
     each_put(|before, time, answer| {
         let shape = before.shape();

@@ -6,8 +6,8 @@
 use wubraken::{Arrival, Pool, Refusal, Shape, Take};
 
 /// Puts three arrivals and takes them: their times, each with its bucket.
-pub fn run() -> Result<Vec<(u32, Option<u64>)>, Refusal> {
-    // 16 buckets of a millisecond; the last one has from 720 samples on.
+pub fn run() -> Result<Vec<(u32, u64)>, Refusal> {
+    // 16 buckets of a millisecond; the last one has what comes from sample 720 on.
     let shape = Shape {
         workers: 1,
         nodes: 3,
@@ -27,14 +27,19 @@ pub fn run() -> Result<Vec<(u32, Option<u64>)>, Refusal> {
     }
     let mut taken = Vec::new();
     while let Take::Took(arrival) = pool.take(0, u64::MAX)? {
-        taken.push((arrival.time, shape.bucket_of(arrival.time)));
+        // None only for a shape outside its limits, which no pool has.
+        taken.extend(
+            shape
+                .bucket_of(arrival.time)
+                .map(|bucket| (arrival.time, bucket)),
+        );
     }
     Ok(taken)
 }
 
 pub fn main() -> Result<(), Refusal> {
     for (time, bucket) in run()? {
-        println!("took {time}, of bucket {}", bucket.unwrap_or_default());
+        println!("took {time}, of bucket {bucket}");
     }
     Ok(())
 }

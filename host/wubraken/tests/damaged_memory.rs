@@ -187,8 +187,8 @@ fn damage_all_over() {
     });
 }
 
-/// 6 is not given since Q-1: not in memory that is sound, damaged or too short, of any
-/// shape, and at any time; all that a start or turn can be refused by are given.
+/// 6 is not given since Q-1: not in memory that is sound, damaged or too short, of small
+/// shapes or of none, and at any time; all that a start or turn can be refused by are given.
 #[test]
 fn no_call_answers_6() {
     on_seeds("no 6", |random| {

@@ -20,7 +20,7 @@ fn threads_take_what_they_have_put() {
 /// 700 is in the 15th millisecond, and 20 seconds are behind all 16.
 #[test]
 fn the_tail_is_taken_in_its_order() {
-    let expected = vec![(5, Some(0)), (700, Some(14)), (960_000, Some(15))];
+    let expected = vec![(5, 0), (700, 14), (960_000, 15)];
     assert_eq!(tail::run(), Ok(expected));
 }
 

@@ -1,4 +1,4 @@
--- Since Q-1 no operation answers 6, and every time of 32 bits is taken.
+-- Since Q-1 no operation answers 6, and every time of 32 bits is accepted.
 --     open-never-6              no opening answers 6,
 --     never-6                   and no start or turn does, whole or narrow or with turns behind it, on any memory
 --     put-tests                 at a time of 32 bits a put is refused by path, order and distance, and by what does not look at the arrival
