@@ -1,5 +1,5 @@
 // The hold model of hold_model.rs on oneTBB's concurrent_priority_queue.
-//   tbb_hold PENDING HOLDS SPREAD LIMIT RUNS THREADS
+//   tbb_hold PENDING HOLDS SPREAD SPAN RUNS THREADS
 // prints the nanoseconds of each run's holds, and the fold of the times that the first
 // thread took. The random numbers are those of host/schedule, run 0 from seed 0.
 #include <atomic>
@@ -41,14 +41,14 @@ struct Share {
     size_t count;
 };
 
-uint64_t hold(Queue &queue, Share share, uint32_t limit, std::atomic<uint32_t> &ticket, uint64_t fold) {
+uint64_t hold(Queue &queue, Share share, uint32_t span, std::atomic<uint32_t> &ticket, uint64_t fold) {
     for (size_t i = 0; i < share.count; i++) {
         Pending taken;
         while (!queue.try_pop(taken)) {
         }
         fold = fold * 31 + taken.time;
         uint32_t later = taken.time + share.increments[i];
-        taken.time = later < limit ? later : limit - 1;
+        taken.time = later < span ? later : span - 1;
         taken.ticket = ticket.fetch_add(1, std::memory_order_relaxed);
         queue.push(taken);
     }
@@ -61,7 +61,7 @@ int main(int count, char **words) {
     }
     auto number = [&](int at) { return std::strtoull(words[at], nullptr, 10); };
     size_t pending = number(1), holds = number(2);
-    uint32_t spread = uint32_t(number(3)), limit = uint32_t(number(4));
+    uint32_t spread = uint32_t(number(3)), span = uint32_t(number(4));
     uint64_t runs = number(5);
     size_t threads = number(6);
 
@@ -90,14 +90,14 @@ int main(int count, char **words) {
                 waiting++;
                 while (!begun) {
                 }
-                folds[thread] = hold(queue, share(thread), limit, ticket, folds[thread]);
+                folds[thread] = hold(queue, share(thread), span, ticket, folds[thread]);
             });
         }
         while (waiting + 1 < threads) {
         }
         auto start = std::chrono::steady_clock::now();
         begun = true;
-        folds[0] = hold(queue, share(0), limit, ticket, folds[0]);
+        folds[0] = hold(queue, share(0), span, ticket, folds[0]);
         for (std::thread &other : others) {
             other.join();
         }

@@ -1,6 +1,7 @@
 /* A pool by its handle: arrivals are put in and taken out, a call at a time, in
- * parts, and turn by turn, which is the worked example. Prints what is answered,
- * and with the argument "turns" the worked example alone, one line a record. */
+ * parts, turn by turn, which is the worked example, and far behind the others.
+ * Prints what is answered, and with the argument "turns" the worked example alone,
+ * one line a record. */
 #include <inttypes.h>
 #include <stdio.h>
 #include <string.h>
@@ -101,6 +102,26 @@ static void turn_by_turn(void)
     finish(0);
 }
 
+/* The last bucket, of times from 10 on, takes what comes far behind the others, too. */
+static void tail(void)
+{
+    const uint32_t borders[3] = {9, 10, 19}, times[3] = {4294967295u, 5, 20};
+    wubraken_arrival late = arrival;
+    int nth;
+
+    puts("the tail:");
+    open_for(1);
+    for (nth = 0; nth < 3; nth++)
+        printf("bucket %" PRIu64 "\n", wubraken_bucket_of(pool.shape, borders[nth]));
+    for (nth = 0; nth < 3; nth++) {
+        late.time = times[nth];
+        printf("bucket %" PRIu64 "\n", wubraken_bucket_of(pool.shape, late.time));
+        print(wubraken_pool_put(&pool, 0, late, UINT64_MAX));
+    }
+    for (nth = 0; nth < 4; nth++)
+        print(wubraken_pool_take(&pool, 0, UINT64_MAX));
+}
+
 /* Then the pool has no shape, until it is opened again. */
 static void refused_opening(void)
 {
@@ -108,6 +129,7 @@ static void refused_opening(void)
 
     puts("a refused opening:");
     print(wubraken_pool_open(&pool, none, store, WUBRAKEN_WORDS(4, 2), table, 2));
+    printf("bucket %" PRIu64 " of %" PRIu64 "\n", wubraken_bucket_of(none, 5), none.buckets);
     print(wubraken_pool_take(&pool, 0, UINT64_MAX));
     if (wubraken_pool_reopen(&pool, shape).kind == WUBRAKEN_OPEN)
         print(wubraken_pool_take(&pool, 0, UINT64_MAX));
@@ -139,6 +161,7 @@ int main(int arguments, char **argument)
     in_parts();
     puts("turn by turn:");
     turn_by_turn();
+    tail();
     from_elsewhere();
     refused_opening();
     return 0;

@@ -52,7 +52,7 @@ typedef struct {
     uint64_t workers; /* to WUBRAKEN_MAX_WORKERS */
     uint64_t nodes;   /* to WUBRAKEN_MAX_NODES: arrivals that it can hold */
     uint64_t buckets; /* to WUBRAKEN_MAX_BUCKETS */
-    uint64_t width;   /* to WUBRAKEN_MAX_WIDTH: samples of time in one bucket */
+    uint64_t width;   /* to WUBRAKEN_MAX_WIDTH: samples of time in one bucket; the last takes all later ones, too */
 } wubraken_shape;
 
 /* The words for a number of nodes and buckets within their limits, as a constant:
@@ -60,7 +60,7 @@ typedef struct {
 #define WUBRAKEN_WORDS(nodes, buckets) (3 + (buckets) + 8 * (nodes))
 
 typedef struct {
-    uint32_t time;     /* samples, below buckets * width */
+    uint32_t time;     /* samples, any number */
     uint32_t path;     /* 0 to WUBRAKEN_MAX_PATH */
     uint32_t order;    /* reflections, 0 to WUBRAKEN_MAX_ORDER */
     uint32_t distance; /* metres, 1 to WUBRAKEN_MAX_DISTANCE */
@@ -114,7 +114,7 @@ enum {
     WUBRAKEN_OUT_OF_RANGE = 3, /* a word of the store or a field of the table is out of its range */
     WUBRAKEN_NO_WORKER = 4,    /* the shape has no such worker */
     WUBRAKEN_BAD_ARRIVAL = 5,  /* path, order or distance is outside its limits */
-    WUBRAKEN_TOO_LATE = 6,     /* the time is past the last bucket */
+    WUBRAKEN_TOO_LATE = 6,     /* not given since Q-1 */
     WUBRAKEN_UNKNOWN_MARK = 7, /* a turn file has two letters that begin no record */
     WUBRAKEN_CUT_RECORD = 8,   /* a turn file ends inside a record */
     WUBRAKEN_BUSY = 9,         /* the worker has a call in progress */
@@ -138,7 +138,7 @@ static inline const char *wubraken_refusal_text(uint64_t number)
     case WUBRAKEN_BAD_ARRIVAL:
         return "the arrival is outside its limits; path 0 to 65535, order 0 to 63, distance 1 to 1024";
     case WUBRAKEN_TOO_LATE:
-        return "the time is past the last bucket; it must be below buckets times width";
+        return "not given since Q-1; every time has a bucket";
     case WUBRAKEN_UNKNOWN_MARK:
         return "the turn file has an unknown mark; records begin with OP, PU, TA or TU";
     case WUBRAKEN_CUT_RECORD:
@@ -168,12 +168,24 @@ typedef struct {
 /* Words to lend for a shape; 0 if the shape is outside its limits. */
 uint64_t wubraken_words(wubraken_shape shape);
 
+/* The bucket of a time: the last one has all times from (buckets - 1) * width on,
+ * so its list grows with the arrivals that come late. If the shape is outside its
+ * limits, shape.buckets, which is no bucket. */
+static inline uint64_t wubraken_bucket_of(wubraken_shape shape, uint32_t time)
+{
+    uint64_t bucket;
+    if (wubraken_words(shape) == 0)
+        return shape.buckets;
+    bucket = time / shape.width;
+    return bucket < shape.buckets ? bucket : shape.buckets - 1;
+}
+
 /* Opens a pool, whatever the memory held. Refusals: 1, 2. */
 wubraken_answer wubraken_open(wubraken_shape shape,
                               uint64_t *store, size_t words,
                               wubraken_worker *table, size_t records);
 
-/* A worker begins to put an arrival in. Refusals: 1 to 6, 9, 11, 12. */
+/* A worker begins to put an arrival in. Refusals: 1 to 5, 9, 11, 12. */
 wubraken_answer wubraken_enqueue(wubraken_shape shape, uint64_t worker, wubraken_arrival arrival,
                                  uint64_t *store, size_t words,
                                  wubraken_worker *table, size_t records);
@@ -204,7 +216,7 @@ wubraken_answer wubraken_step(wubraken_shape shape, uint64_t worker,
  * With turns 0 it is the start or the turn alone. In memory that no pool has left
  * lists may lead in a circle, and a call needs a limit. */
 
-/* Refusals: 1 to 6, 9, 11, 12; in a turn 3, 11. */
+/* Refusals: 1 to 5, 9, 11, 12; in a turn 3, 11. */
 wubraken_answer wubraken_narrow_enqueue(wubraken_shape shape, uint64_t worker, wubraken_arrival arrival,
                                         uint64_t turns,
                                         uint64_t *store, size_t words,
@@ -310,7 +322,7 @@ static inline int wubraken_pool_in_progress(const wubraken_pool *pool, uint64_t 
     return worker < pool->shape.workers && worker < pool->records && pool->table[worker].stage != 0;
 }
 
-/* A worker begins to put an arrival in. Refusals: 1 to 6, 9, 11, 12. */
+/* A worker begins to put an arrival in. Refusals: 1 to 5, 9, 11, 12. */
 static inline wubraken_answer wubraken_pool_enqueue(const wubraken_pool *pool, uint64_t worker,
                                                     wubraken_arrival arrival)
 {
@@ -349,7 +361,7 @@ static inline wubraken_answer wubraken_pool_run(const wubraken_pool *pool, uint6
  * memory a list may lead in a circle, and no end comes). STORED; or BEGUN or ON: the turns are used
  * up, and the call goes on by _run or _step. A refusal in the midst (11: no epoch
  * is left; 3: damaged memory) leaves the call in progress, which
- * wubraken_pool_in_progress tells. Refusals: 1 to 6, 9, 11, 12. */
+ * wubraken_pool_in_progress tells. Refusals: 1 to 5, 9, 11, 12. */
 static inline wubraken_answer wubraken_pool_put(const wubraken_pool *pool, uint64_t worker,
                                                 wubraken_arrival arrival, uint64_t turns)
 {

@@ -65,6 +65,10 @@ class Pool:
         """(B10)"""
         return self.get(node, TIME), self.get(node, TICKET)
 
+    def bucket_of(self, time):
+        """The last bucket takes the tail too (B9)."""
+        return min(time // self.width, self.buckets - 1)
+
     def swap(self, word, old, new):
         """(I4)"""
         if self.store[word] != old:
@@ -163,15 +167,13 @@ class Pool:
         self.look(worker)
         if order > 63 or not 1 <= distance <= 1024 or path > 65535:
             raise Refused(5)
-        if time >= self.buckets * self.width:
-            raise Refused(6)
         self.look_at_start(worker)
         node, r = self.first_free(), self.table[worker]
         ticket = self.store[CALLS] + 1
         self.store[CALLS], self.store[LAST] = ticket, node
         for field, value in (TIME, time), (TICKET, ticket), (PATH, path), (ORDER, order), (DISTANCE, distance), (STANDING, 1):
             self.set(node, field, value)
-        r.stage, r.kind, r.own, r.bucket, r.ticket = 1, PUT, node, time // self.width, ticket
+        r.stage, r.kind, r.own, r.bucket, r.ticket = 1, PUT, node, self.bucket_of(time), ticket
         return f"begun {ticket}"
 
     def take_start(self, worker):

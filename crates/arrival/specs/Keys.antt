@@ -5,13 +5,13 @@
 --     bucketOf, itemBucket, item-bucket     the bucket of a time, and of an item
 --     lower-irr, lower-trans                the order is strict
 --     lower-weak, lower-total               weak, and total on different tickets
---     bucket-mono, bucket-below             a lower key lies in no higher bucket; an allowed time lies in one of the buckets
+--     bucket-below, bucket-mono             the bucket of a time is one of the buckets; a lower key lies in no higher one
 -- Assumes nothing.
 use mathlib.Core.Path.{_≡_, refl, sym, _∙_}
 use mathlib.Core.Bool.{Bool, true, false, _&&_, _||_}
 use mathlib.Core.Logic.{_≢_, _⊎_, inl, inr}
-use Prim.Native.Nat.{ℕ, _*_, _/_, _≤_, _<_}
-use native.Mathlib.Nat.{le-div-iff-mul-le, div-mul-le-self, div-lt-iff-lt-mul}
+use Prim.Native.Nat.{ℕ, _-_, _/_, min, _≤_, _<_}
+use native.Mathlib.Nat.{le-div-iff-mul-le, div-mul-le-self}
 use native.Mathlib.Omega.{arith}
 use lib.Dec.{eqb, ltb}
 use borrow.Author.Tests.{eqb-true, eq-eqb, ltb-true, ltb-false, lt-ltb, le-ltb}
@@ -44,9 +44,9 @@ pub lower-by-key : (a a′ b b′ : Item) → SameKey a a′ → SameKey b b′ 
 unfolding lower
 lower-by-key a a′ b b′ p q = λ j. ltb (p .time j) (q .time j) || (eqb (p .time j) (q .time j) && ltb (p .ticket j) (q .ticket j))
 
--- time divided by width, rounded down
+-- the smaller of time divided by width, rounded down, and buckets − 1
 unfoldable pub bucketOf : Shape → ℕ → ℕ
-bucketOf sh time = time / sh .width
+bucketOf sh time = min (time / sh .width) (sh .buckets - 1)
 
 -- the bucket of an item
 unfoldable pub itemBucket : Shape → Item → ℕ
@@ -132,16 +132,16 @@ lower-total a b h n = lowered b a (go (ltb (b .time) (a .time)) refl (ltb (a .ti
     go false e false f true g = inr (omega (arith, ltb-true, ltb-false))
     go false e false f false g = absurd (not-below (inr (omega (arith, ltb-true, ltb-false))))
 
+-- The bucket of a time is one of the buckets.
+pub bucket-below : (sh : Shape) (time : ℕ) → 1 ≤ sh .buckets → bucketOf sh time < sh .buckets
+unfolding bucketOf
+bucket-below sh time some = omega arith
+
 -- A lower key lies in no higher bucket.
 pub bucket-mono : (sh : Shape) (a b : Item) → 1 ≤ sh .width → lower a b ≡ true → itemBucket sh a ≤ itemBucket sh b
 unfolding itemBucket bucketOf
-bucket-mono sh a b w p = go (below a b p)
+bucket-mono sh a b w p = omega (arith, go (below a b p))
   where
     go : Below a b → a .time / sh .width ≤ b .time / sh .width
     go (inl h) = le-div-iff-mul-le w .1 (omega (arith, div-mul-le-self (a .time) (sh .width)))
     go (inr h) = le-div-iff-mul-le w .1 (omega (arith, div-mul-le-self (a .time) (sh .width)))
-
--- The bucket of an allowed time is one of the buckets.
-pub bucket-below : (sh : Shape) (time : ℕ) → 1 ≤ sh .width → time < sh .buckets * sh .width → bucketOf sh time < sh .buckets
-unfolding bucketOf
-bucket-below sh time w h = div-lt-iff-lt-mul w .1 h

@@ -1,4 +1,5 @@
 pub mod Keys
+pub mod BucketRun
 pub mod Energy
 pub mod Responses
 pub mod Queue

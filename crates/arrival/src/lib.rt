@@ -105,8 +105,10 @@ pub fn is_lower(a: Key, b: Key) -> bool
 
 // The bucket of a time.
 pub fn bucket_of(shape: Shape, time: u64) -> u64
-    requires { ⌜ 1 ≤ shape .width ⌝ }
+    requires { ⌜ (1 ≤ shape .buckets) × (1 ≤ shape .width) ⌝ }
     ensures { λ r. ⌜ r ≡ bucketOf shape time ⌝ }
 {
-    time / shape.width
+    let last = shape.buckets - 1;
+    let quotient = time / shape.width;
+    if quotient < last { quotient } else { last }
 }

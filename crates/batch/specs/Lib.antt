@@ -12,6 +12,7 @@ pub mod OpeningRounds
 pub mod ActHeld
 pub mod Stopping
 pub mod TurnFile
+pub mod NeverSix
 pub mod LinesFit
 pub mod PartOfFile
 pub mod WorkedExample

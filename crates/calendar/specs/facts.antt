@@ -15,6 +15,7 @@ pub mod Narrow
 pub mod GoesOn
 pub mod NarrowTurns
 pub mod HostRun
+pub mod EveryTime
 pub mod Starred
 pub mod RecordsKept
 pub mod RangesKept
@@ -27,5 +28,6 @@ pub mod AdmittedOrders
 pub mod Guards
 pub mod StoodOn
 pub mod WorkedHistory
+pub mod TailHistory
 pub mod OneWord
 pub mod WordsBeyond

@@ -127,7 +127,7 @@ module _ (sh : Shape) (wd : 1 ≤ sh .width) where
       let free = free-node sh s (m .table) x (first-free-free sh s (m .table) (K .store .last) (A .node)) in
       let w = begun (T i) 1 0 x (bucketOf sh (a .time)) c in
       let J = joint-enqueue sh wd v (F .chains) T (F .ghost) (record { pool = K .inv; ord = F .ord }) i l (A .idle) w refl x (itemOf a c) isNode free refl
-      (rw item-bucket (bucket-below sh (a .time) wd (A .time))) refl refl (sym (item-bucket sh (itemOf a c))) in
+      (rw item-bucket (bucket-below sh (a .time) (K .lent .limits .some-bucket))) refl refl (sym (item-bucket sh (itemOf a c))) in
       performed m i (outcome sh m (Enqueue i a)) (F .chains) (logs (F .ghost) c (some (itemOf a c))) (begins i (queue.enqueue (itemOf a (L .started + 1))) L)
       (F .chains) K l
       (enqueue-inside sh s x a (T i) isNode) (reached-enqueue sh m (F .chains) i a K A) (J .ord)

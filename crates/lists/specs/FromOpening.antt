@@ -153,7 +153,7 @@ reached-enqueue sh m ch i a K A =
     (inv-enqueue sh (view sh s) ch (worker (m .table)) (K .inv) i (A .usable .exists) (begun (worker (m .table) i) 1 0 x (bucketOf sh (a .time)) c) refl x
     (itemOf a c) isNode
     (free-node sh s (m .table) x (first-free-free sh s (m .table) (K .store .last) (A .node))) refl
-    (rw item-bucket (bucket-below sh (a .time) (K .lent .limits .some-width) (A .time))) refl refl (sym (item-bucket sh (itemOf a c))))
+    (rw item-bucket (bucket-below sh (a .time) (K .lent .limits .some-bucket))) refl refl (sym (item-bucket sh (itemOf a c))))
 
 pub reached-dequeue : (sh : Shape) (m : Memory) (ch : Chains) (i : ℕ) → Reached sh m ch → DequeueAccepted sh (m .store) (m .table) i
     → Reached sh (perform sh m i (outcome sh m (Dequeue i)) .memory) ch

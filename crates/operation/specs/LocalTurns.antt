@@ -16,7 +16,7 @@ use native.Mathlib.Omega.{arith}
 use lib.Dec.{eqb}
 use lib.ListN.{length, set, length-set}
 use lib.Seq.{set-set, getD-set-same}
-use borrow.Author.Tests.{not-false, not-true, eqb-true, eqb-false, leb-false, le-leb, lt-leb, eq-eqb}
+use borrow.Author.Tests.{not-false, not-true, eqb-true, eqb-false, le-leb, lt-leb, eq-eqb}
 use Rattle.arrival.specs.declared.Shape.{Shape}
 use Rattle.arrival.specs.declared.Worker.{Worker}
 use Rattle.arrival.specs.declared.Action.{Action}
@@ -176,12 +176,12 @@ module _ (sh : Shape) (low : ℕ) (s : List ℕ) (w : Worker) (A : Admitted sh s
   by-rule : (a : Action) → firstOf (ownTests sh s (noneBelow sh low s) a w) ≡ 0
       → Going sh (writeAll sh s (outcomeOf sh s (firstFreeBelow sh s low) a w .writes)) (outcomeOf sh s (firstFreeBelow sh s low) a w .worker)
   by-rule (Enqueue i x) e =
-      let (five, (six, (nine, (eleven, (twelve, last))))) = first-none (enqueueOwn sh x w (noTicket sh s) (noneBelow sh low s)) refl e in
+      let (five, (nine, (eleven, (twelve, last)))) = first-none (enqueueOwn x w (noTicket sh s) (noneBelow sh low s)) refl e in
       let few : started sh s < 4294967295 = omega (arith, A .words .started, eqb-false (started sh s) 4294967295 eleven) in
       let node = first-below-node sh s low (A .limits .some-node) (eqb-false _ _ twelve) in
       record {
         words = enqueue-words sh s (firstFreeBelow sh s low) x w (A .laid .fits) (A .words) node few;
-        tests = whole sh _ (enqueue-record sh s (firstFreeBelow sh s low) x w (A .worker) node (A .limits .some-width) (leb-false _ _ six) few);
+        tests = whole sh _ (enqueue-record sh s (firstFreeBelow sh s low) x w (A .worker) node (A .limits .some-bucket) few);
       }
   by-rule (Dequeue i) e =
       let (nine, (eleven, last)) = first-none (dequeueOwn w (noTicket sh s)) refl e in

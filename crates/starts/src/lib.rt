@@ -51,7 +51,7 @@ pub fn begin_enqueue(
     store: &mut [u64],
 ) -> Reply
     requires { ⌜ Laid shape (now store) ⌝ }
-    requires { ⌜ (started shape (now store) < 4294967296) × (n < shape .nodes) × (1 ≤ shape .width) ⌝ }
+    requires { ⌜ (started shape (now store) < 4294967296) × (n < shape .nodes) × (1 ≤ shape .buckets) × (1 ≤ shape .width) ⌝ }
     ensures { λ r. ⌜ gives (now (store .exit)) r ≡ done shape (now (store .entry)) (enqueueStart shape (now (store .entry)) n arrival w) ⌝ }
 {
     let time = arrival.time as u64;
@@ -104,16 +104,12 @@ fn is_bad(arrival: Arrival) -> bool
     !(path & order & distance)
 }
 
-// The refusals of a put by its arrival, its worker's stage and word 1: 5, 6, 9 or 11, or 0.
-fn enqueue_refusal(shape: Shape, arrival: Arrival, w: Worker, started: u64) -> u64
-    requires { ⌜ (shape .width ≤ 65535) × (shape .buckets ≤ 256) ⌝ }
-    ensures { λ r. ⌜ r ≡ earlyRefusal shape arrival w started ⌝ }
+// The refusals of a put by its arrival, its worker's stage and word 1: 5, 9 or 11, or 0.
+fn enqueue_refusal(arrival: Arrival, w: Worker, started: u64) -> u64
+    ensures { λ r. ⌜ r ≡ earlyRefusal arrival w started ⌝ }
 {
     if is_bad(arrival) {
         return 5;
-    }
-    if shape.buckets * shape.width <= arrival.time as u64 {
-        return 6;
     }
     if w.stage != 0 {
         return 9;
@@ -133,12 +129,12 @@ pub fn start_enqueue(
     store: &mut [u64],
 ) -> Reply
     requires { ⌜ Laid shape (now store) ⌝ }
-    requires { ⌜ (started shape (now store) < 4294967296) × (lastNode shape (now store) < shape .nodes) × (low ≤ 4294967296) × (1 ≤ shape .width)
-        × (shape .width ≤ 65535) ⌝ }
+    requires { ⌜ (started shape (now store) < 4294967296) × (lastNode shape (now store) < shape .nodes) × (low ≤ 4294967296) × (1 ≤ shape .buckets)
+        × (1 ≤ shape .width) ⌝ }
     ensures { λ r. ⌜ gives (now (store .exit)) r ≡ localEnqueue shape low (now (store .entry)) arrival w ⌝ }
 {
     let started = get_word(shape, word::STARTED, store);
-    let k = enqueue_refusal(shape, arrival, w, started);
+    let k = enqueue_refusal(arrival, w, started);
     if k != 0 {
         return refuse(w, k);
     }

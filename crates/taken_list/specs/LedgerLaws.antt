@@ -72,13 +72,13 @@ module _ (sh : Shape) where
     last = G .last;
   }
 
-  lawful-act : 1 ≤ sh .width → (m : Memory) (L : Ledger) (a : Action) → Lawful sh L → Lawful sh (reads sh m a L)
-  lawful-act wd m L a G = by-act sh (λ n. Lawful sh) m L a G (noted a)
+  lawful-act : (m : Memory) (L : Ledger) (a : Action) → Lawful sh L → Lawful sh (reads sh m a L)
+  lawful-act m L a G = by-act sh (λ n. Lawful sh) m L a G (noted a)
     where
       noted : (a : Action) → refusal sh m a ≡ 0 → Lawful sh (notes sh m a (outcome sh m a .response) L)
       noted (Enqueue i y) e =
           let A = enqueue-accepted sh (m .store) (m .table) i y e in
-          let home = bucket-below sh (y .time) wd (A .time) in
+          let home = bucket-below sh (y .time) (A .usable .lent .limits .some-bucket) in
           lawful-begins i (queue.enqueue (itemOf y (L .started + 1))) L
           (λ x q. let z : itemOf y (L .started + 1)
           ≡ x = cc in (ap (λ (u : Item). u .ticket) (sym z), subst (λ (u : Item). bucketOf sh (u .time) < sh .buckets) z home)) G
@@ -90,10 +90,10 @@ module _ (sh : Shape) where
           = by-test {A = Ledger} (Lawful sh) (succeeds-11 sh (m .store) (worker (m .table) i)) (λ t. lawful-marks i _ L G) (λ t. G) in
           by-hears (Lawful sh) i r M H (λ p q. lawful-ends i r p q M H)
 
-  pub lawful : 1 ≤ sh .width → (m : Memory) (h : List Action) (L : Ledger) → Lawful sh L → Lawful sh (ledger sh m h L)
+  pub lawful : (m : Memory) (h : List Action) (L : Ledger) → Lawful sh L → Lawful sh (ledger sh m h L)
   unfolding ledger
-  lawful wd m [] L G = G
-  lawful wd m (a ∷ h) L G = lawful wd (act sh m a .memory) h (reads sh m a L) (lawful-act wd m L a G)
+  lawful m [] L G = G
+  lawful m (a ∷ h) L G = lawful (act sh m a .memory) h (reads sh m a L) (lawful-act m L a G)
 
   pub lawful-new : Lawful sh new
   lawful-new = record {

@@ -13,7 +13,6 @@
 -- Assumes nothing.
 use mathlib.Core.Path.{_≡_, refl, sym, subst}
 use mathlib.Core.List.{List, [], _∷_}
-use Prim.Native.Nat.{_≤_}
 use Rattle.arrival.specs.declared.Shape.{Shape}
 use Rattle.arrival.specs.declared.Action.{Action}
 use Rattle.arrival.specs.declared.Response.the-variants.{Opened}
@@ -23,9 +22,8 @@ use Rattle.calendar.specs.rules.Linearizability.{Correct, Always, Demand3}
 use Rattle.calendar.specs.rules.HostHistory.{oneByOne, HostAlways}
 use Rattle.taken_list.specs.Promises.{OneAtATime, NothingPassedOver, EmptyMeansEmpty, TwoTakes, Swapped, OnceEach, DrainedIf, Drains, HostDrains}
 use Rattle.taken_list.specs.LedgerLaws.{Lawful, lawful, lawful-new, Kept, kept-refl, kept-trans, kept-act, FromHistory, history-on}
-use Rattle.calendar.specs.facts.Accepted.{open-accepted}
 use Rattle.calendar.specs.facts.HostRun.{host-memory}
-use Rattle.lists.specs.NodeReuse.{opened, always-in-range}
+use Rattle.lists.specs.NodeReuse.{always-in-range}
 use Rattle.interleavings.specs.Demand3.{demand-3}
 use Rattle.interleavings.specs.HostDemand3.{host-always}
 use Rattle.taken_list.specs.InTurn.{by-starts}
@@ -39,9 +37,7 @@ unfolding Demand3
 correct = demand-3
 
 always-lawful : Always (λ sh m L. Lawful sh L)
-always-lawful sh m e h =
-    let wd : 1 ≤ sh .width = open-accepted sh (m .store) (m .table) (opened sh m e .0) .limits .some-width in
-    lawful sh wd (open-pool sh m .memory) h new (lawful-new sh)
+always-lawful sh m e h = lawful sh (open-pool sh m .memory) h new (lawful-new sh)
 
 -- so whatever follows from both holds always
 by-demand-3 : (P : Shape → Memory → Ledger → Type 0) → ((sh : Shape) (m : Memory) (L : Ledger) → Correct sh m L → Lawful sh L → P sh m L) → Always P

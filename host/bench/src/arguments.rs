@@ -10,10 +10,11 @@ contestants take turns, and the best of several rounds counts.
 
 options:
   --quick          everything small, only to see that it runs
-  --only PART      one part: schedules, turn, narrow, hold, threads, calls or growth
+  --only PART      one part: schedules, turn, narrow, hold, threads, calls, growth or tail
   --records N      records of a schedule       (default 10,000,000)
   --rounds N       rounds of each contest      (default 7)
-  --svg PATH       where the picture goes      (default target/bench/growth.svg)
+  --svg PATH       the picture of growth       (default target/bench/growth.svg)
+  --tail-svg PATH  the picture of the tail     (default target/bench/tail.svg)
   --turns PATH     the program under test      (default target/bin/turns)
   --second PATH    the second program          (default host/target/release/second)
   --narrow PATH    the contest of narrow calls (default host/target/contest/narrow)
@@ -31,9 +32,10 @@ pub enum Part {
     Threads,
     SingleCalls,
     Growth,
+    Tail,
 }
 
-const PARTS: [(&str, Part); 7] = [
+const PARTS: [(&str, Part); 8] = [
     ("schedules", Part::Schedules),
     ("turn", Part::InnerTurn),
     ("narrow", Part::NarrowCalls),
@@ -41,6 +43,7 @@ const PARTS: [(&str, Part); 7] = [
     ("threads", Part::Threads),
     ("calls", Part::SingleCalls),
     ("growth", Part::Growth),
+    ("tail", Part::Tail),
 ];
 
 #[derive(Clone, Debug)]
@@ -54,6 +57,7 @@ pub struct Arguments {
     /// Batches that are nearly all turns.
     pub pieces_of_turns: usize,
     pub svg: PathBuf,
+    pub tail_svg: PathBuf,
     pub turns: PathBuf,
     pub second: PathBuf,
     pub narrow: PathBuf,
@@ -69,6 +73,7 @@ impl Arguments {
             holds: 50_000,
             pieces_of_turns: 20,
             svg: "target/bench/growth.svg".into(),
+            tail_svg: "target/bench/tail.svg".into(),
             turns: "target/bin/turns".into(),
             second: "host/target/release/second".into(),
             narrow: "host/target/contest/narrow".into(),
@@ -100,6 +105,7 @@ impl Arguments {
                 "--records" => arguments.records = value.parse().ok().filter(|&n| n > 0)?,
                 "--rounds" => arguments.rounds = value.parse().ok().filter(|&n| n > 0)?,
                 "--svg" => arguments.svg = value.into(),
+                "--tail-svg" => arguments.tail_svg = value.into(),
                 "--turns" => arguments.turns = value.into(),
                 "--second" => arguments.second = value.into(),
                 "--narrow" => arguments.narrow = value.into(),

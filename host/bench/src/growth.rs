@@ -1,7 +1,6 @@
 //! How the cost grows with each number of a shape, and with the arrivals in a
 //! bucket.
 
-use std::fs;
 use std::io;
 
 use schedule::script::shape;
@@ -67,12 +66,7 @@ pub fn run(arguments: &Arguments) -> io::Result<()> {
         unit: "nanoseconds",
         panels,
     };
-    if let Some(directory) = arguments.svg.parent() {
-        fs::create_dir_all(directory)?;
-    }
-    fs::write(&arguments.svg, picture.svg())?;
-    println!(" picture: {}", arguments.svg.display());
-    Ok(())
+    picture.write(&arguments.svg)
 }
 
 /// All calendars are as long; increments go over a quarter of them.
@@ -122,7 +116,7 @@ fn measure(arguments: &Arguments, &(value, model): &(u32, Model)) -> Measured {
     let count = (holds / model.holds).max(1);
     let runs: Vec<Run> = (0..count as u64).map(|run| model.run(run)).collect();
     let (mut entry, mut library) = hold::engines(model.shape);
-    hold::check_lines(&runs, &mut entry, &mut library);
+    hold::check_lines("the hold model", &runs, &mut entry, &mut library);
     let draws: Vec<Draws> = (0..count as u64).map(|run| model.draws(run)).collect();
     let pairs = count * model.holds;
     let [pair, narrow] = best(

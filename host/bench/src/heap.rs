@@ -4,7 +4,10 @@ use std::cmp::{Ordering, Reverse};
 use std::collections::BinaryHeap;
 use std::time::{Duration, Instant};
 
-use crate::hold_model::{fold, Draws, Model};
+use schedule::script::arrival;
+use second::{Arrival, Record};
+
+use crate::hold_model::{fold, Draws, Model, Starts};
 use crate::timing::keep;
 
 /// An arrival with its call's number, the fields the pool keeps.
@@ -18,8 +21,24 @@ pub struct Pending {
 }
 
 impl Pending {
+    /// Before it has its number.
+    fn new(arrival: Arrival) -> Self {
+        Self {
+            time: arrival.time,
+            ticket: 0,
+            path: arrival.path,
+            order: arrival.order,
+            distance: arrival.distance,
+        }
+    }
+
     fn key(&self) -> (u32, u32) {
         (self.time, self.ticket)
+    }
+
+    /// A use of what is no key.
+    fn rest(&self) -> u64 {
+        u64::from(self.path + self.order + self.distance)
     }
 }
 
@@ -50,20 +69,18 @@ pub struct Heap {
 }
 
 impl Heap {
+    fn with_capacity(arrivals: usize) -> Self {
+        Self {
+            heap: BinaryHeap::with_capacity(arrivals),
+            ticket: 0,
+        }
+    }
+
     /// With the first arrivals of a run.
     pub fn filled(model: &Model, run: &Draws) -> Self {
-        let mut heap = Self {
-            heap: BinaryHeap::with_capacity(model.pending),
-            ticket: 0,
-        };
+        let mut heap = Self::with_capacity(model.pending);
         for &time in &run.times {
-            heap.put(Pending {
-                time,
-                ticket: 0,
-                path: 7,
-                order: 1,
-                distance: 3,
-            });
+            heap.put(Pending::new(arrival(time)));
         }
         heap
     }
@@ -82,9 +99,28 @@ impl Heap {
     /// Uses all that is left; how much that is.
     pub fn keep_all(&self) -> usize {
         let left = self.heap.iter();
-        let left = left.map(|Reverse(it)| it.path + it.order + it.distance);
-        keep(left.map(u64::from).sum());
+        keep(left.map(|Reverse(it)| it.rest()).sum());
         self.heap.len()
+    }
+
+    /// The fold of the times taken, behind those before.
+    fn replay(&mut self, starts: &[Record], mut sum: u64) -> u64 {
+        let mut rest = 0;
+        for &start in starts {
+            match start {
+                Record::EnqueueStart { arrival, .. } => self.put(Pending::new(arrival)),
+                Record::DequeueStart { .. } => {
+                    if let Some(taken) = self.take() {
+                        sum = fold(sum, taken.time);
+                        rest += taken.rest();
+                    }
+                }
+                Record::Open(_) => self.heap.clear(),
+                Record::Step { .. } => {}
+            }
+        }
+        keep(rest);
+        sum
     }
 }
 
@@ -105,6 +141,23 @@ pub fn hold(model: &Model, runs: &[Draws]) -> (Vec<Duration>, u64) {
         elapsed.push(start.elapsed());
         assert_eq!(heap.keep_all(), model.pending);
     }
+    keep(sum);
+    (elapsed, sum)
+}
+
+/// How long the holding of each run takes, start by start, and the fold of the times
+/// taken.
+pub fn by_starts(model: &Model, runs: &[Starts]) -> (Vec<Duration>, u64) {
+    let mut heap = Heap::with_capacity(model.shape.nodes as usize);
+    let mut elapsed = Vec::new();
+    let mut sum = 0;
+    for run in runs {
+        heap.replay(&run.filling, 0);
+        let start = Instant::now();
+        sum = heap.replay(&run.holding, sum);
+        elapsed.push(start.elapsed());
+    }
+    heap.keep_all();
     keep(sum);
     (elapsed, sum)
 }

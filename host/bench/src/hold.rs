@@ -129,7 +129,7 @@ fn contest(arguments: &Arguments, model: &Model) -> Times {
     let tbb = || tbb::hold(&arguments.tbb, model, count, threads);
     let is_alone = model.shape.workers == 1;
 
-    check_lines(&runs, &mut entry, &mut library);
+    check_lines("the hold model", &runs, &mut entry, &mut library);
     check_times(&runs, by_turns(model, &runs).1);
     if is_alone {
         check_times(&runs, heap::hold(model, &draws).1);
@@ -178,18 +178,18 @@ pub fn engines(shape: Shape) -> (BatchEntry, Program) {
 }
 
 /// Both print the same.
-pub fn check_lines(runs: &[Run], entry: &mut BatchEntry, library: &mut Program) {
+pub fn check_lines(name: &str, runs: &[Run], entry: &mut BatchEntry, library: &mut Program) {
     for run in runs {
         for batch in [&run.filling, &run.holding] {
             let (ours, others) = (entry.lines(&batch.bytes), library.lines(&batch.bytes));
-            assert_same_lines("the hold model", &ours, &others);
+            assert_same_lines(name, &ours, &others);
         }
     }
 }
 
 /// The same times in the same order as in the batches. Heaps take them as one
 /// worker does.
-fn check_times(runs: &[Run], others: u64) {
+pub fn check_times(runs: &[Run], others: u64) {
     let times = runs.iter().flat_map(|run| &run.taken);
     let ours = times.fold(0, |sum, &time| fold(sum, time));
     assert_eq!(ours, others, "another order of times");

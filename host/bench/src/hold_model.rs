@@ -3,12 +3,12 @@
 
 use schedule::script::{put, take, turn};
 use schedule::Random;
-use second::{Refusal, Response, Shape};
+use second::{Record, Refusal, Response, Shape};
 
 use crate::recorder::{Batch, Recorder};
 
-/// A pool with so many arrivals. Times do not go round, so a run ends where the
-/// calendar does, and another one begins.
+/// A pool with so many arrivals. Times do not go round, and behind the span of the
+/// buckets all lie in one; so a run ends there, and another one begins.
 #[derive(Clone, Copy)]
 pub struct Model {
     pub shape: Shape,
@@ -33,11 +33,26 @@ pub struct Run {
     pub taken: Vec<u32>,
 }
 
+/// The same for one worker that does each call in one go: all records but the turns.
+pub struct Starts {
+    pub filling: Vec<Record>,
+    pub holding: Vec<Record>,
+}
+
+impl Run {
+    pub fn starts(&self) -> Starts {
+        Starts {
+            filling: self.filling.starts(),
+            holding: self.holding.starts(),
+        }
+    }
+}
+
 impl Model {
-    /// As many holds as the calendar has room for; they move the earliest time by
+    /// As many holds as the span has room for; they move the earliest time by
     /// half the spread in as many holds as there are arrivals.
     pub fn new(shape: Shape, pending: usize, spread: u32) -> Self {
-        let room = f64::from(shape.time_limit() - spread) / (f64::from(spread) / 2.0);
+        let room = f64::from(shape.span() - spread) / (f64::from(spread) / 2.0);
         Self {
             shape,
             pending,
@@ -65,9 +80,9 @@ impl Model {
         }
     }
 
-    /// The time of an arrival that is put back.
+    /// The time of an arrival that is put back, at most the last of the span.
     pub fn later(&self, time: u32, increment: u32) -> u32 {
-        (time + increment).min(self.shape.time_limit() - 1)
+        (time + increment).min(self.shape.span() - 1)
     }
 
     pub fn run(&self, seed: u64) -> Run {

@@ -5,7 +5,7 @@ use std::time::{Duration, Instant};
 use second::Record;
 use wubraken::{Arrival, Pool, Put, Refusal, Step, Take};
 
-use crate::hold_model::{fold, latest_first, Draws, Model, Run};
+use crate::hold_model::{fold, latest_first, Draws, Model, Run, Starts};
 use crate::shapes::of_wrapper;
 use crate::timing::keep;
 
@@ -38,13 +38,7 @@ fn replay(pool: &mut Pool, records: &[Record], mut sum: u64) -> u64 {
                 pool.dequeue(worker.into()).expect("the worker is idle");
             }
             Record::EnqueueStart { worker, arrival } => {
-                let arrival = Arrival {
-                    time: arrival.time,
-                    path: arrival.path,
-                    order: arrival.order,
-                    distance: arrival.distance,
-                };
-                match pool.enqueue(worker.into(), arrival) {
+                match pool.enqueue(worker.into(), arrival_of_wrapper(arrival)) {
                     Ok(_) | Err(Refusal::NoNode) => {}
                     Err(refusal) => panic!("{refusal}"),
                 }
@@ -83,6 +77,50 @@ pub fn by_calls(model: &Model, runs: &[Draws]) -> (Vec<Duration>, u64) {
     }
     keep(sum);
     (elapsed, sum)
+}
+
+/// How long the holding of each run takes, each start and its turns in one go; and
+/// the fold of the times taken.
+pub fn by_starts(model: &Model, runs: &[Starts]) -> (Vec<Duration>, u64) {
+    let mut pool = open(model);
+    let mut elapsed = Vec::new();
+    let mut sum = 0;
+    for run in runs {
+        replay_starts(&mut pool, &run.filling, 0);
+        let start = Instant::now();
+        sum = replay_starts(&mut pool, &run.holding, sum);
+        elapsed.push(start.elapsed());
+    }
+    keep(sum);
+    (elapsed, sum)
+}
+
+fn replay_starts(pool: &mut Pool, starts: &[Record], mut sum: u64) -> u64 {
+    for &start in starts {
+        match start {
+            Record::EnqueueStart { worker, arrival } => {
+                put(pool, worker.into(), arrival_of_wrapper(arrival));
+            }
+            Record::DequeueStart { worker } => {
+                let take = pool.take(worker.into(), u64::MAX);
+                if let Take::Took(taken) = take.expect("the worker is idle") {
+                    sum = fold(sum, taken.time);
+                }
+            }
+            Record::Open(shape) => pool.reopen(of_wrapper(shape)).expect("it fits"),
+            Record::Step { .. } => {}
+        }
+    }
+    sum
+}
+
+fn arrival_of_wrapper(arrival: second::Arrival) -> Arrival {
+    Arrival {
+        time: arrival.time,
+        path: arrival.path,
+        order: arrival.order,
+        distance: arrival.distance,
+    }
 }
 
 pub fn open(model: &Model) -> Pool {

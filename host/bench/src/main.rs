@@ -16,6 +16,7 @@ mod schedules;
 mod shapes;
 mod single_calls;
 mod svg;
+mod tail;
 mod tbb;
 mod threads;
 mod timing;
@@ -64,6 +65,7 @@ fn run(arguments: &Arguments) -> io::Result<()> {
             Part::NarrowCalls => programs::run_narrow(&arguments.narrow, arguments.rounds)?,
             Part::SingleCalls => single_calls::run(arguments),
             Part::Growth => growth::run(arguments)?,
+            Part::Tail => tail::run(arguments)?,
         }
     }
     Ok(())

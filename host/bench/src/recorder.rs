@@ -50,6 +50,11 @@ impl Recorder {
         }
     }
 
+    /// Turns written since the last cut.
+    pub fn turns(&self) -> usize {
+        self.batch.turns
+    }
+
     /// What was written since the last time.
     pub fn cut(&mut self) -> Batch {
         std::mem::take(&mut self.batch)
@@ -57,6 +62,13 @@ impl Recorder {
 }
 
 impl Batch {
+    /// All records but the turns.
+    pub fn starts(&self) -> Vec<Record> {
+        let records = self.records.iter();
+        let starts = records.filter(|record| !matches!(record, Record::Step { .. }));
+        starts.copied().collect()
+    }
+
     /// The same batch again and again, up to about so many records.
     pub fn repeated(&self, records: usize) -> Self {
         let times = (records / self.records.len()).max(1);

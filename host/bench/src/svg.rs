@@ -1,6 +1,9 @@
 //! A picture of curves in panels, both axes logarithmic.
 
 use std::fmt::Write;
+use std::fs;
+use std::io;
+use std::path::Path;
 
 pub struct Picture {
     pub title: &'static str,
@@ -30,7 +33,17 @@ const MARGINS: [f64; 4] = [64.0, 24.0, 8.0, 44.0];
 const COLOURS: [&str; 4] = ["#1f77b4", "#d62728", "#2ca02c", "#9467bd"];
 
 impl Picture {
-    pub fn svg(&self) -> String {
+    /// Writes it to a file and says so.
+    pub fn write(&self, path: &Path) -> io::Result<()> {
+        if let Some(directory) = path.parent() {
+            fs::create_dir_all(directory)?;
+        }
+        fs::write(path, self.svg())?;
+        println!(" picture: {}", path.display());
+        Ok(())
+    }
+
+    fn svg(&self) -> String {
         let rows = (self.panels.len() + COLUMNS - 1) / COLUMNS;
         let (width, height) = (WIDTH * COLUMNS as f64, TOP + HEIGHT * rows as f64);
         let mut svg = format!(

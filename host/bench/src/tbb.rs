@@ -18,7 +18,7 @@ pub fn hold(
         model.pending as u64,
         model.holds as u64,
         model.spread.into(),
-        model.shape.time_limit().into(),
+        model.shape.span().into(),
         runs as u64,
         threads as u64,
     ];

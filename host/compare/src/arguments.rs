@@ -16,8 +16,8 @@ of them then held by another; for 4 the takes whose arrival had been in the pool
 all through another take; for 5 the answers, and those of alike arrivals.
 
 Files written by hand, cut files and files with wrong marks always run, and
-random files of some seeds: small histories, damaged ones and three long ones a
-seed.
+random files of some seeds, with times of all 32 bits: small histories, damaged
+ones and three long ones a seed.
 
 options:
   --seeds FROM..TO   runs these seeds, TO excluded, in place of 0..16

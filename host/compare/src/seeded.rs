@@ -1,7 +1,7 @@
 //! The random turn files of a seed.
 
 use schedule::script::{put_arrival, take, turn};
-use schedule::{write, write_damaged, Generator, Options, Random};
+use schedule::{times, write, write_damaged, Generator, Options, Random};
 use second::{Answer, Arrival, Program, Record, Response, Shape};
 
 use crate::inputs::Input;
@@ -141,7 +141,7 @@ fn start(random: &mut Random, shape: Shape, worker: u8) -> Record {
         return take(worker);
     }
     let arrival = Arrival {
-        time: random.below(shape.time_limit()),
+        time: times::any(random, shape),
         path: random.between(0, Arrival::MAX_PATH),
         order: random.between(0, Arrival::MAX_ORDER),
         distance: random.between(1, Arrival::MAX_DISTANCE),

@@ -174,7 +174,7 @@ fn ends(line: &str) -> bool {
 }
 
 /// Fourteen calls at once, for hundreds of records: still quick, also where
-/// there is no order.
+/// there is no order. (Of what is altered in 300 such files, three fifths show.)
 #[test]
 fn many_workers() {
     let options = Options {
@@ -183,7 +183,7 @@ fn many_workers() {
         shape: Some(shape(14, 24, 2, 3)),
     };
     let (mut altered, mut noticed) = (0, 0);
-    for seed in 0..30 {
+    for seed in 0..100 {
         let mut bytes = Vec::new();
         schedule::write(seed, 800, options, &mut bytes).unwrap();
         let sample = Sample::of_file(bytes);

@@ -20,7 +20,8 @@ options:
   --workers N    1 to {} (default 3)
   --nodes N      how many arrivals the pool has room for, 1 to {} (default 12)
   --order N      no reflections beyond this order, 0 to {GREATEST_ORDER} (default 2)
-  --span MS      no arrivals after so many milliseconds, 1 to {} (default 100)
+  --span MS      how many milliseconds the buckets cover, 1 to {} (default 100);
+                 whatever comes later shares the last bucket
   --help         prints this text
 ",
         Shape::MAX_WORKERS,

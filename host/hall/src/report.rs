@@ -59,8 +59,15 @@ fn push_account(text: &mut String, shape: Shape, trace: &Trace, overtaken: usize
     );
     let _ = writeln!(
         text,
-        "refusals: {} too far or too late (5, 6), {} without a free node (12: that worker takes first)",
-        trace.out_of_reach, trace.no_node
+        "refusals: {} too far (5), {} without a free node (12: that worker takes first)",
+        trace.too_far, trace.no_node
+    );
+    let span = shape.buckets * shape.width;
+    let is_late = |taken: &&Taken| u64::from(taken.time) >= span;
+    let _ = writeln!(
+        text,
+        "tail: {} came after the span of {span} samples, from the last bucket; no time is too late",
+        trace.taken().iter().filter(is_late).count()
     );
     let _ = writeln!(
         text,

@@ -30,8 +30,8 @@ pub struct Trace {
     pub nodes: BTreeSet<u64>,
     /// How often a put took the current bucket back.
     pub epochs: u64,
-    /// Reflections after the last bucket (6), or too far (5): left out.
-    pub out_of_reach: usize,
+    /// Reflections that are too far (5): left out.
+    pub too_far: usize,
     /// Puts that found no free node (12).
     pub no_node: usize,
 }

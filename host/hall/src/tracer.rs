@@ -154,8 +154,9 @@ impl<'a> Host<'a> {
                 self.begin(worker, ticket, Some(arrival));
                 Ok(())
             }
-            Err(Refusal::BadArrival | Refusal::TooLate) => {
-                self.trace.out_of_reach += 1;
+            // Of its fields only the distance can be outside its limits.
+            Err(Refusal::BadArrival) => {
+                self.trace.too_far += 1;
                 Ok(())
             }
             // A take makes room; waiting might not, if all workers wait.

@@ -3,7 +3,7 @@
 use std::collections::HashMap;
 use std::iter::successors;
 
-use hall::{trace, Arguments, Call, Event, Image, Trace};
+use hall::{trace, Arguments, Call, Event, Hall, Image, Trace};
 use order::{find_order, Answer, End, Kind};
 use wubraken::{Arrival, Shape, Taken};
 
@@ -11,18 +11,21 @@ fn run(arguments: Arguments) -> Trace {
     trace(&arguments.job()).unwrap()
 }
 
-/// Few and many workers and nodes, with several orders of turns.
+/// Milliseconds: all but the tail is empty, some is behind, nothing is.
+const SPANS: [u64; 3] = [1, 100, 1_000];
+
+/// Few and many workers and nodes, with several orders of turns and several spans.
 fn runs() -> Vec<Trace> {
     let mut runs = Vec::new();
     for workers in [1, 2, 3, 8, 64] {
         for nodes in [1, 5, 12, 500] {
-            for seed in 0..5 {
+            for seed in 0..6 {
                 runs.push(run(Arguments {
                     seed,
                     workers,
                     nodes,
                     order: 3,
-                    ..Arguments::default()
+                    span: SPANS[seed as usize % 3],
                 }));
             }
         }
@@ -36,31 +39,51 @@ fn sorted<A: Into<Arrival>>(arrivals: Vec<A>) -> Vec<Arrival> {
     arrivals
 }
 
-/// Whatever the order of turns, it is the same hall.
+/// The arrivals of all images up to an order, by their paths.
+fn arrivals(hall: Hall, order: u32) -> Vec<Arrival> {
+    let images = (0..1 << 15).map(Image::from_path);
+    let images = images.filter(|image| image.order() <= order);
+    images.map(|image| hall.arrival(image)).collect()
+}
+
+/// Whatever the order of turns and the span, it is the same hall: every image up to the
+/// order, 1, 6, 18 and 38 of them, and none is too far or too late.
 #[test]
-fn each_arrival_put_is_taken_exactly_once() {
-    let reference = run(Arguments {
-        workers: 1,
-        nodes: 500,
-        order: 3,
-        ..Arguments::default()
-    });
-    let expected = sorted(reference.put());
-    assert!(expected.len() > 25);
+fn each_image_is_put_and_taken_exactly_once() {
+    let expected = arrivals(Arguments::default().job().hall, 3);
+    assert_eq!(expected.len(), 63);
     for trace in runs() {
         assert_eq!(sorted(trace.put()), expected);
         assert_eq!(sorted(trace.taken()), expected);
+        assert_eq!(trace.too_far, 0);
     }
+}
+
+/// In a hall of 400 metres the images 3 and 4 times forward lie at 1,580 and 1,590 metres,
+/// that 4 times backward at 1,610: with those mirrored sideways, 7 of the 129 up to order
+/// 4. Two of them are reflected from one that is near enough, and tried.
+#[test]
+fn all_but_what_is_too_far_is_taken() {
+    let mut job = Arguments::default().job();
+    job.hall.size[0] = 40_000;
+    job.order = 4;
+    let mut expected = arrivals(job.hall, job.order);
+    assert_eq!(expected.len(), 1 + 6 + 18 + 38 + 66);
+    expected.retain(|arrival| arrival.distance <= Arrival::MAX_DISTANCE);
+    assert_eq!(expected.len(), 129 - 7);
+    let trace = trace(&job).unwrap();
+    assert_eq!(sorted(trace.taken()), expected);
+    assert_eq!(trace.too_far, 2);
 }
 
 #[test]
 fn one_worker_takes_in_the_order_of_time() {
-    for order in [0, 2, 6] {
+    for (order, span) in [(0, 1), (2, 1), (2, 100), (6, 100), (6, 1_000)] {
         let trace = run(Arguments {
             workers: 1,
             nodes: Shape::MAX_NODES,
             order,
-            span: 1_000,
+            span,
             ..Arguments::default()
         });
         assert_eq!(trace.no_node, 0);

@@ -24,8 +24,8 @@ pub fn cases() -> Vec<(String, Script)> {
         ("fresh take, then put at 5", fresh_take_then_put_at_5()),
         ("fresh put at 15", fresh_put_at_15()),
         ("fresh put at 5, then take", fresh_put_at_5_then_take()),
-        ("last time", last_time()),
-        ("time past the last", time_past_the_last()),
+        ("puts at 19 and 20", puts_at_19_and_20()),
+        ("puts in the tail, then takes", puts_in_the_tail()),
         ("four puts", four_puts(1)),
         ("four puts at one time", four_puts(0)),
         ("distances out of range", distances_out_of_range()),
@@ -60,12 +60,23 @@ pub fn fresh_put_at_5_then_take() -> Script {
     fresh().stored(0, 5, 5).taken(0, 7, &took(5))
 }
 
-pub fn last_time() -> Script {
-    fresh().put(0, 19)
+/// Two widths end between them; the last bucket goes on.
+pub fn puts_at_19_and_20() -> Script {
+    fresh().put(0, 19).put(1, 20)
 }
 
-pub fn time_past_the_last() -> Script {
-    fresh().refused(put(0, 20), 6).refused(put(0, u32::MAX), 6)
+/// The last time there is, the first one past two widths, and one in bucket 0. Each
+/// of the first two puts leaves current alone, and the second stops before the first.
+pub fn puts_in_the_tail() -> Script {
+    fresh()
+        .stored(0, u32::MAX, 4)
+        .stored(0, 20, 5)
+        .stored(0, 5, 5)
+        .taken(1, 7, &took(5))
+        // Past bucket 0 by 8, 9 and 12; its search stops at the other node.
+        .taken(1, 10, &took(20))
+        .taken(1, 7, &took(u32::MAX))
+        .taken(1, 3, "empty")
 }
 
 /// Each put walks past those stored before it, so many samples earlier.

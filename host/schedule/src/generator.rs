@@ -6,7 +6,7 @@ use second::{Answer, Arrival, Program, Reclamation, Record, Shape, Worker};
 
 use crate::phase::Phase;
 use crate::script::{put_arrival, shape, take, turn};
-use crate::shapes;
+use crate::{shapes, times};
 
 /// What a schedule may hold.
 #[derive(Clone, Copy, Default)]
@@ -98,7 +98,10 @@ impl Generator {
         }
         let worker = self.random.below(256) as u8;
         match self.random.below(4) {
-            0 => put_arrival(worker, self.arrival(0)),
+            0 => {
+                let time = self.random.draw() as u32;
+                put_arrival(worker, self.arrival(time))
+            }
             1 => take(worker),
             2 => turn(worker),
             _ => Record::Open(shapes::outside_limits(&mut self.random)),
@@ -187,23 +190,18 @@ impl Generator {
     fn refused_record(&mut self) -> Record {
         let shape = self.program.shape();
         let some = self.random.below(shape.workers) as u8;
-        let time = self.random.below(shape.time_limit());
-        match self.random.below(10) {
+        let time = times::any(&mut self.random, shape);
+        match self.random.below(8) {
             0 => Record::Open(shapes::outside_limits(&mut self.random)),
             1 => Record::Open(shapes::too_large(&mut self.random)),
             2 => self.no_such_worker(time),
             3 => self.bad_arrival(some, time),
-            4 => self.late_arrival(some),
-            5 => {
+            4 => {
                 let busy = self.one_worker(Worker::is_busy).unwrap_or(some);
                 self.bad_arrival(busy, time)
             }
+            5 => self.start_on(some, time),
             6 => {
-                let busy = self.one_worker(Worker::is_busy).unwrap_or(some);
-                self.late_arrival(busy)
-            }
-            7 => self.start_on(some, time),
-            8 => {
                 let busy = self.one_worker(Worker::is_busy).unwrap_or(some);
                 self.start_on(busy, time)
             }
@@ -224,16 +222,13 @@ impl Generator {
             self.random
                 .choose(&[workers, workers + 1, Shape::MAX_WORKERS, 128, 255]) as u8;
         match self.random.below(4) {
-            0 => self.start_on(beyond, time),
-            1 => self.bad_arrival(beyond, time),
-            2 => self.late_arrival(beyond),
+            0 | 1 => self.start_on(beyond, time),
+            2 => self.bad_arrival(beyond, time),
             _ => turn(beyond),
         }
     }
 
     fn bad_arrival(&mut self, worker: u8, time: u32) -> Record {
-        let limit = self.program.shape().time_limit();
-        let time = if self.random.one_in(4) { limit } else { time };
         let mut arrival = self.arrival(time);
         if self.random.one_in(3) {
             arrival.order = self.random.between(Arrival::MAX_ORDER + 1, 255);
@@ -241,12 +236,6 @@ impl Generator {
             arrival.distance = self.random.choose(&[0, Arrival::MAX_DISTANCE + 1, 65_535]);
         }
         put_arrival(worker, arrival)
-    }
-
-    fn late_arrival(&mut self, worker: u8) -> Record {
-        let limit = self.program.shape().time_limit();
-        let time = self.random.choose(&[limit, limit + 1, u32::MAX]);
-        put_arrival(worker, self.arrival(time))
     }
 
     fn start_on(&mut self, worker: u8, time: u32) -> Record {

@@ -7,6 +7,7 @@ pub mod lent;
 pub mod orders;
 pub mod script;
 pub mod stored;
+pub mod times;
 
 mod damage;
 mod generator;

@@ -1,40 +1,56 @@
 //! The orders that catch an engine out, as scripts. Each has a beginning, up to
 //! where a wrong engine goes astray, and a right ending.
 
-use crate::script::{put, took, Script};
+use second::Arrival;
+
+use crate::script::{arrival, put, put_arrival, took, Script};
 
 /// Every order with its right ending, by name.
 pub fn cases() -> Vec<(&'static str, Script)> {
     vec![
         ("a node of a higher epoch", sent_back()),
+        ("the same in the tail", sent_back_after(FAR)),
         ("a node stood on", stood_on_rests()),
         ("a marked node", marked_stays_in_use()),
         ("linked below current", stored_after_lowering()),
         ("a stale advance", stale_advance_fails()),
+        ("a take in the tail", take_in_the_tail()),
     ]
 }
 
 /// One bucket with 10 and 20; worker 0 reads current and pauses; 12 and then 15
 /// are stored; worker 1 takes 10 and 12; worker 0 comes to 15.
 pub fn paused_before_15() -> Script {
+    paused_after(0)
+}
+
+/// So many samples later 20 is the last time there is.
+const FAR: u32 = u32::MAX - 20;
+
+/// The same, with every time so many samples later: still in the one bucket.
+fn paused_after(samples: u32) -> Script {
     Script::open(2, 4, 1, 100)
-        .stored(0, 10, 5)
-        .stored(0, 20, 6)
+        .stored(0, samples + 10, 5)
+        .stored(0, samples + 20, 6)
         .take(0)
         .turns(0, 1)
-        .stored(1, 12, 7)
-        .stored(1, 15, 8)
-        .taken(1, 8, &took(10))
-        .taken(1, 8, &took(12))
+        .stored(1, samples + 12, 7)
+        .stored(1, samples + 15, 8)
+        .taken(1, 8, &took(samples + 10))
+        .taken(1, 8, &took(samples + 12))
         .turns(0, 1)
 }
 
 /// The taker reads current again before it takes 15.
 pub fn sent_back() -> Script {
-    paused_before_15()
+    sent_back_after(0)
+}
+
+fn sent_back_after(samples: u32) -> Script {
+    paused_after(samples)
         .turns(0, 2)
-        .end(0, 7, &took(15))
-        .taken(1, 7, &took(20))
+        .end(0, 7, &took(samples + 15))
+        .taken(1, 7, &took(samples + 20))
         .taken(1, 3, "empty")
 }
 
@@ -118,4 +134,29 @@ pub fn take_set_into_the_past() -> Script {
         .stored(0, 3, 6)
         .end(1, 5, &took(7))
         .taken(0, 7, &took(3))
+}
+
+/// Worker 1's take has come to the first of two at 1,000, in the last bucket; 5 is stored
+/// before it. The take answers 1,000, and the next ones 5, the other 1,000 and the last.
+pub fn take_in_the_tail() -> Script {
+    let from = |time, distance| Arrival {
+        distance,
+        ..arrival(time)
+    };
+    Script::open(2, 4, 2, 10)
+        .begin(put_arrival(0, from(u32::MAX, 3)))
+        .end(0, 4, "stored 1")
+        .begin(put_arrival(1, from(1_000, 5)))
+        .end(1, 5, "stored 2")
+        .begin(put_arrival(0, from(1_000, 1)))
+        .end(0, 6, "stored 3")
+        .take(1)
+        .turns(1, 5)
+        .begin(put_arrival(0, from(5, 1_024)))
+        .end(0, 5, "stored 5")
+        .end(1, 5, "took 1000 7 1 671088")
+        .taken(0, 7, "took 5 7 1 16")
+        .taken(0, 10, "took 1000 7 1 16777216")
+        .taken(0, 7, "took 4294967295 7 1 1864135")
+        .taken(0, 3, "empty")
 }

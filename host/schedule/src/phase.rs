@@ -3,6 +3,8 @@
 use random::Random;
 use second::{stage, Shape, Worker};
 
+use crate::times;
+
 /// How the next worker is chosen.
 enum Pattern {
     Uniform,
@@ -20,13 +22,17 @@ enum Pattern {
 
 /// How times are chosen.
 enum Times {
+    /// In all buckets, with no tail.
+    Within,
     Any,
     Same(u32),
     /// A few neighbouring times.
     Close(u32),
-    /// First and last times of buckets.
+    /// First and last times of buckets, of the last one with its tail or without.
     Edges,
-    /// Each lower than the one before, down to 0 and again.
+    /// Around the last bucket's borders.
+    Borders,
+    /// Each lower than the one before, through the tail down to 0, and again.
     Falling(u32),
 }
 
@@ -62,12 +68,14 @@ impl Phase {
             5 | 6 => Pattern::Gather(random.choose(&GATHERED)),
             _ => Pattern::RoundRobin(0),
         };
-        let time = random.below(shape.time_limit());
-        let times = match random.below(6) {
-            0 => Times::Any,
-            1 => Times::Same(time),
-            2 | 3 => Times::Close(time),
-            4 => Times::Edges,
+        let time = times::any(random, shape);
+        let times = match random.below(10) {
+            0 => Times::Within,
+            1..=3 => Times::Any,
+            4 => Times::Same(time),
+            5 => Times::Close(time),
+            6 => Times::Edges,
+            7 => Times::Borders,
             _ => Times::Falling(time),
         };
         Self {
@@ -129,21 +137,31 @@ impl Phase {
         }
     }
 
-    /// The time of the next put, before the shape's limit.
+    /// The time of the next put.
     pub fn time(&mut self, random: &mut Random, shape: Shape) -> u32 {
-        let last = shape.time_limit() - 1;
         match &mut self.times {
-            Times::Any => random.between(0, last),
+            Times::Within => times::within(random, shape),
+            Times::Any => times::any(random, shape),
             Times::Same(time) => *time,
-            Times::Close(time) => (*time + random.below(3)).min(last),
-            Times::Edges => {
-                let first = random.below(shape.buckets) * shape.width;
-                random.choose(&[first, first + shape.width - 1])
-            }
+            Times::Close(time) => time.saturating_add(random.below(3)),
+            Times::Edges => edge(random, shape),
+            Times::Borders => times::near_a_border(random, shape),
             Times::Falling(time) => {
-                *time = time.checked_sub(1).unwrap_or(last);
+                *time = times::lower(*time, shape);
                 *time
             }
         }
+    }
+}
+
+/// The first or last time of a bucket; of the last one also the end of the span.
+fn edge(random: &mut Random, shape: Shape) -> u32 {
+    let bucket = random.below(shape.buckets);
+    let first = bucket * shape.width;
+    let last = first + shape.width - 1;
+    if bucket + 1 == shape.buckets {
+        random.choose(&[first, last, u32::MAX])
+    } else {
+        random.choose(&[first, last])
     }
 }

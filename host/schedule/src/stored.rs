@@ -67,10 +67,11 @@ fn worked_example(script: Script) -> Script {
 }
 
 /// As many workers as records are lent, and refused records up to the end of the first piece, where the last worker's put is cut;
-/// their lines fill the buffer once before. A take that began before gets the put's arrival.
+/// their lines fill the buffer once before. The time that is cut has four different bytes and lies far behind the widths of both
+/// buckets. A take that began before gets the arrival that is put next, where they end; another take gets the late one.
 fn across_the_cut(script: Script) -> Script {
     let late = Arrival {
-        time: 109_517,
+        time: 2_309_737_967,
         path: 65_535,
         order: 63,
         distance: 1_024,
@@ -90,10 +91,12 @@ fn across_the_cut(script: Script) -> Script {
     script
         .begin(put_arrival(63, late))
         .end(63, 4, "stored 2")
-        .end(0, 9, "took 109517 65535 63 16")
+        .stored(1, 131_070, 5)
+        .end(0, 10, &took(131_070))
+        .taken(63, 7, "took 2309737967 65535 63 16")
 }
 
-/// No such worker, an order or a time too high, a worker with a call in progress.
+/// No such worker, an order too high, no distance at the last time there is, a worker with a call in progress.
 fn refused_put(number: usize, late: Arrival) -> (Record, u8) {
     let (worker, arrival, refusal) = match number % 4 {
         0 => (64, late, 4),
@@ -101,12 +104,13 @@ fn refused_put(number: usize, late: Arrival) -> (Record, u8) {
         2 => (
             1,
             Arrival {
-                time: 131_070,
+                time: u32::MAX,
+                distance: 0,
                 ..late
             },
-            6,
+            5,
         ),
-        _ => (0, arrival(5), 9),
+        _ => (0, arrival(131_070), 9),
     };
     (put_arrival(worker, arrival), refusal)
 }

@@ -10,7 +10,8 @@ use observer::{Before, Observer};
 use schedule::lent::Memory;
 use schedule::script::shape;
 use schedule::{Generator, Options};
-use second::{Record, Records, Response, LENT_RECORDS, LENT_WORDS};
+use second::layout::{field, node_at, NODE_WORDS};
+use second::{Answer, Program, Record, Records, Response, Shape, LENT_RECORDS, LENT_WORDS};
 
 /// Runs a schedule under the eyes of an observer, draining before each opening
 /// and at the end.
@@ -107,12 +108,122 @@ fn schedules_hold_every_answer() {
     schedule::write(7, 30_000, Options::default(), &mut input).unwrap();
     let kinds = kinds_of_lines(&input);
     for kind in [
-        "open", "begun", "on", "stored", "took", "empty", "no 1", "no 2", "no 4", "no 5", "no 6",
-        "no 9", "no 10", "no 12",
+        "open", "begun", "on", "stored", "took", "empty", "no 1", "no 2", "no 4", "no 5", "no 9",
+        "no 10", "no 12",
     ] {
         assert!(kinds.get(kind) >= Some(&5), "{kind}: {kinds:?}");
     }
+    assert_eq!(kinds.len(), 13, "{kinds:?}");
     assert_eq!(kinds.values().sum::<usize>(), 30_000);
+}
+
+/// What a put's time is, by the shape; each is to occur.
+fn kinds_of_time(shape: Shape, time: u32) -> impl Iterator<Item = &'static str> {
+    let time = i64::from(time);
+    let first = i64::from((shape.buckets - 1) * shape.width);
+    let behind = i64::from(shape.buckets * shape.width);
+    let is_near = |border: i64| (border - 1..=border + 1).contains(&time);
+    let kinds = [
+        ("before the last bucket", time < first),
+        ("in the last bucket's width", first <= time && time < behind),
+        ("in the tail", behind <= time),
+        (
+            "near the last bucket's borders, or behind",
+            is_near(first) || behind - 1 <= time,
+        ),
+        ("a sample before the last bucket", time == first - 1),
+        ("the last bucket's first", time == first),
+        ("the last bucket's second", time == first + 1),
+        ("a sample before the tail", time == behind - 1),
+        ("the tail's first", time == behind),
+        ("the tail's second", time == behind + 1),
+        ("near 2^16", is_near(1 << 16)),
+        ("near 2^24", is_near(1 << 24)),
+        ("near 2^31", is_near(1 << 31)),
+        ("near 2^32", is_near(1 << 32)),
+    ];
+    kinds.into_iter().filter(|kind| kind.1).map(|kind| kind.0)
+}
+
+/// Whether a node in use has this time.
+fn is_in_use(program: &Program, time: u32) -> bool {
+    let shape = program.shape();
+    let first = node_at(shape.buckets as usize, 0);
+    program.store()[first..shape.store_words()]
+        .chunks_exact(NODE_WORDS)
+        .any(|node| node[field::RECLAMATION] == 1 && node[field::TIME] == time.into())
+}
+
+/// Calls `see` with each put, the pool before it, and the answer.
+fn each_put(mut see: impl FnMut(&Program, u32, Answer)) {
+    for seed in 0..20 {
+        let mut generator = Generator::new(seed, Options::default());
+        for _ in 0..20_000 {
+            let record = generator.propose();
+            let before = match record {
+                Record::EnqueueStart { .. } => Some(generator.program().clone()),
+                _ => None,
+            };
+            let answer = generator.apply(record);
+            if let (Record::EnqueueStart { arrival, .. }, Some(before)) = (record, before) {
+                see(&before, arrival.time, answer);
+            }
+        }
+    }
+}
+
+/// Of the puts that begin, most lie near the last bucket's borders or in the tail, and
+/// a fifth at least in the tail, in the last bucket before it, and in the buckets before
+/// that. Each kind of time occurs, and so do equal times in the tail and a fall from the
+/// tail to the buckets before the last.
+#[test]
+fn times_of_every_kind_begin() {
+    let mut counts: BTreeMap<&str, usize> = BTreeMap::new();
+    let (mut puts, mut earlier) = (0, None);
+    each_put(|before, time, answer| {
+        if answer.is_err() {
+            return;
+        }
+        puts += 1;
+        let shape = before.shape();
+        for kind in kinds_of_time(shape, time) {
+            *counts.entry(kind).or_default() += 1;
+        }
+        let is_tail = |time| time >= shape.buckets * shape.width;
+        if is_tail(time) && is_in_use(before, time) {
+            *counts.entry("equal in the tail").or_default() += 1;
+        }
+        if earlier.map_or(false, is_tail) && time < (shape.buckets - 1) * shape.width {
+            *counts.entry("fallen from the tail").or_default() += 1;
+        }
+        earlier = Some(time);
+    });
+    println!("{puts}: {counts:?}");
+    assert_eq!(counts.len(), 16, "{counts:?}");
+    assert!(counts.values().all(|&count| count > 100), "{counts:?}");
+    for kind in [
+        "before the last bucket",
+        "in the last bucket's width",
+        "in the tail",
+    ] {
+        assert!(5 * counts[kind] > puts, "{kind}: {counts:?}");
+    }
+    assert!(2 * counts["near the last bucket's borders, or behind"] > puts);
+}
+
+/// What refuses other puts refuses those of late times, too (1 before an opening).
+#[test]
+fn late_puts_are_refused_as_others() {
+    let mut refused: BTreeMap<u8, usize> = BTreeMap::new();
+    each_put(|before, time, answer| {
+        let shape = before.shape();
+        if let (true, Err(refusal)) = (time >= shape.buckets * shape.width, answer) {
+            *refused.entry(refusal.number()).or_default() += 1;
+        }
+    });
+    let numbers: Vec<u8> = refused.keys().copied().collect();
+    assert_eq!(numbers, [1, 4, 5, 9, 12]);
+    assert!(refused.values().all(|&count| count >= 10), "{refused:?}");
 }
 
 /// Every outcome of every stage occurs, the failing swaps too.

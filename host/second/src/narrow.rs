@@ -16,7 +16,7 @@ use crate::response::{Answer, Refusal, Response};
 use crate::shape::{Arrival, Shape};
 use crate::worker::Worker;
 
-/// Starts a put and goes on with it (refusals 1 to 6, 9, 11 and 12).
+/// Starts a put and goes on with it (refusals 1 to 5, 9, 11 and 12).
 pub fn narrow_enqueue_start(
     shape: Shape,
     store: &mut [u64],

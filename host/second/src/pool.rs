@@ -14,7 +14,7 @@ pub fn open(shape: Shape, store: &mut [u64], workers: &mut [Worker]) -> Answer {
     Ok(Response::Open)
 }
 
-/// Starts a put (refusals 1 to 6, 9, 11 and 12).
+/// Starts a put (refusals 1 to 5, 9, 11 and 12).
 pub fn enqueue_start(
     shape: Shape,
     store: &mut [u64],

@@ -34,7 +34,7 @@ pub enum Refusal {
     FieldOutOfRange = 3,
     NoSuchWorker = 4,
     ArrivalOutOfRange = 5,
-    TimePastLastBucket = 6,
+    // 6 is not given since Q-1.
     UnknownMark = 7,
     RecordCut = 8,
     WorkerBusy = 9,

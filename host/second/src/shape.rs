@@ -8,7 +8,7 @@ pub struct Shape {
     pub workers: u32,
     pub nodes: u32,
     pub buckets: u32,
-    /// Samples of time in one bucket.
+    /// Samples of time in a bucket; the last one takes all later times, too.
     pub width: u32,
 }
 
@@ -31,14 +31,16 @@ impl Shape {
         node_at(self.buckets as usize, self.nodes as usize)
     }
 
-    /// Times below this have a bucket, for a shape within its limits.
-    pub fn time_limit(self) -> u32 {
+    /// The samples that the buckets would cover if each were one width long, for a
+    /// shape within its limits; later times lie in the last one.
+    pub fn span(self) -> u32 {
         self.buckets * self.width
     }
 
-    /// The bucket of a time, for a shape within its limits.
+    /// The bucket of a time, for a shape within its limits: the last one for the
+    /// whole tail.
     pub fn bucket_of(self, time: u32) -> u32 {
-        time / self.width
+        (time / self.width).min(self.buckets - 1)
     }
 }
 
@@ -57,7 +59,7 @@ impl Arrival {
     pub const MAX_ORDER: u32 = 63;
     pub const MAX_DISTANCE: u32 = 1_024;
 
-    /// Refusal 5 is the opposite of this; the time is refusal 6's matter.
+    /// Refusal 5 is the opposite of this; every time has a bucket.
     pub fn is_in_range(self) -> bool {
         self.path <= Self::MAX_PATH
             && self.order <= Self::MAX_ORDER

@@ -15,9 +15,6 @@ impl Pool<'_> {
         if !arrival.is_in_range() {
             return Err(Refusal::ArrivalOutOfRange);
         }
-        if arrival.time >= self.shape.time_limit() {
-            return Err(Refusal::TimePastLastBucket);
-        }
         let ticket = self.next_ticket(&record)?;
         let node = self.first_free_node().ok_or(Refusal::NoFreeNode)?;
 

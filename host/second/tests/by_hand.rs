@@ -7,7 +7,7 @@ use schedule::by_hand::{self, ENERGIES};
 use schedule::script::shape;
 use schedule::Script;
 use second::layout::{field, CURRENT};
-use second::{energy, word, Arrival, Reclamation};
+use second::{energy, word, Arrival, Reclamation, Worker};
 
 fn fresh() -> Lent {
     Lent::open(shape(2, 4, 2, 10))
@@ -45,10 +45,25 @@ fn fresh_put_at_5_then_take() {
     assert_eq!(lent.current(), (0, 1));
 }
 
+/// 19, 20 and the last time there is; of 20 also the rest of the put.
 #[test]
-fn last_time_begins_and_the_next_is_6() {
-    Lent::play(&by_hand::last_time());
-    Lent::play(&by_hand::time_past_the_last());
+fn times_19_and_20_begin_in_bucket_1() {
+    let lent = Lent::play(&by_hand::puts_at_19_and_20());
+    let buckets = [0, 1].map(|worker: usize| lent.workers[worker].bucket);
+    assert_eq!(buckets, [1, 1]);
+    for time in [20, u32::MAX] {
+        let lent = Lent::play(&Script::open(2, 4, 2, 10).put(0, time));
+        let expected = Worker {
+            stage: 1,
+            bucket: 1,
+            ticket: 1,
+            ..Worker::default()
+        };
+        assert_eq!(lent.workers[0], expected);
+    }
+    let mut lent = Lent::play(&Script::open(2, 4, 2, 10).stored(0, 20, 4));
+    assert_eq!(lent.times(1), [20]);
+    assert_eq!(lent.current(), (0, 0));
 }
 
 #[test]

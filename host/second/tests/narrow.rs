@@ -175,17 +175,18 @@ fn a_limit_used_up_is_an_answer() {
     assert_eq!(lent.narrow(1, Call::Turn, 4), EMPTY);
 }
 
-/// Whole calls in the smallest and the largest shape, at the last time.
+/// Whole calls in the smallest and the largest shape, at the last time and where the
+/// buckets would end.
 #[test]
 fn calls_run_to_their_end_at_the_limits() {
     for shape in [shape(1, 1, 1, 1), shape(64, 4_096, 256, 65_535)] {
         let mut lent = Lent::open(shape);
         let worker = shape.workers as usize - 1;
-        let last = shape.time_limit() - 1;
-        for round in 0..3 {
-            let put = Call::Put(arrival(last));
+        let times = [shape.span() - 1, shape.span(), u32::MAX];
+        for (round, time) in (0..).zip(times) {
+            let put = Call::Put(arrival(time));
             assert_eq!(lent.narrow(worker, put, u64::MAX), stored(3 * round + 1));
-            assert_eq!(lent.narrow(worker, Call::Take, u64::MAX), took(last.into()));
+            assert_eq!(lent.narrow(worker, Call::Take, u64::MAX), took(time.into()));
             assert_eq!(lent.narrow(worker, Call::Take, u64::MAX), EMPTY);
         }
     }

@@ -5,87 +5,12 @@
 
 mod common;
 
+use common::noted::Noted;
 use common::*;
-use order::{History, Kind};
-use schedule::script::{put, take, turn};
-use schedule::{orders, to_the_end, Script};
+use schedule::orders;
+use schedule::script::{put, turn};
 use second::layout::{field, CURRENT};
-use second::{word, Answer, Record, Response};
-
-/// A pool that writes down its calls; of an arrival a take shows its ticket.
-struct Noted {
-    lent: Lent,
-    now: usize,
-    history: History<u64>,
-}
-
-impl Noted {
-    /// Opened and led by a script, which must print its lines.
-    fn play(script: &Script) -> Self {
-        let mut noted = Self {
-            lent: Lent::open(opening(script)),
-            now: 0,
-            history: History::default(),
-        };
-        for (record, line) in steps(script) {
-            assert_eq!(printed(noted.apply(record)), line);
-        }
-        noted
-    }
-
-    fn apply(&mut self, record: Record) -> Answer {
-        self.now += 1;
-        let answer = self.lent.apply(record);
-        match (record, answer) {
-            (Record::EnqueueStart { worker, arrival }, Ok(Response::Begun(ticket))) => {
-                let kind = Kind::Put(arrival.time, ticket);
-                self.history.begin(worker.into(), ticket, kind, self.now);
-            }
-            (Record::DequeueStart { worker }, Ok(Response::Begun(ticket))) => {
-                let kind = Kind::Take;
-                self.history.begin(worker.into(), ticket, kind, self.now);
-            }
-            (Record::Step { worker }, Ok(response)) => self.note(worker.into(), response),
-            _ => {}
-        }
-        answer
-    }
-
-    /// Writes down the end of a worker's call.
-    fn note(&mut self, worker: usize, response: Response) {
-        let answer = match response {
-            Response::Stored(ticket) => order::Answer::Stored(ticket),
-            Response::Took { .. } => order::Answer::Took(self.ticket_in_own_node(worker)),
-            Response::Empty => order::Answer::Empty,
-            _ => return,
-        };
-        self.history.end(worker, self.now, answer);
-    }
-
-    fn ticket_in_own_node(&mut self, worker: usize) -> u64 {
-        let node = self.lent.workers[worker].own as usize;
-        *self.lent.node_word(node, field::TICKET)
-    }
-
-    /// Turns to the end of a call.
-    fn finish(&mut self, worker: u8) -> Answer {
-        to_the_end(1_000, ON, || self.apply(turn(worker))).1
-    }
-
-    fn take_whole(&mut self, worker: u8) -> Answer {
-        self.apply(take(worker)).unwrap();
-        self.finish(worker)
-    }
-
-    fn store_whole(&mut self, worker: u8, time: u32) {
-        self.apply(put(worker, time)).unwrap();
-        assert!(matches!(self.finish(worker), Ok(Response::Stored(_))));
-    }
-
-    fn is_a_queue(&self) -> bool {
-        self.history.has_order()
-    }
-}
+use second::{word, Response};
 
 fn paused_before_15() -> Noted {
     let mut pool = Noted::play(&orders::paused_before_15());

@@ -66,9 +66,10 @@ fn refusal_1_at_every_limit() {
 fn the_limits_themselves_open() {
     for shape in [shape(1, 1, 1, 1), shape(64, 4_096, 256, 65_535)] {
         let mut lent = Lent::open(shape);
-        lent.store_whole(0, shape.time_limit() - 1);
-        assert_eq!(lent.put(0, shape.time_limit()), refused(6));
-        assert_eq!(lent.take_whole(0), took(shape.time_limit() as u64 - 1));
+        for time in [shape.span() - 1, shape.span(), u32::MAX] {
+            lent.store_whole(0, time);
+            assert_eq!(lent.take_whole(0), took(time.into()));
+        }
     }
 }
 
@@ -133,11 +134,16 @@ fn refusal_5_by_each_field() {
             time: 20,
             ..base
         },
+        Arrival {
+            order: 64,
+            time: u32::MAX,
+            ..base
+        },
     ] {
         assert_eq!(lent.put_arrival(0, arrival), refused(5));
     }
     let largest = Arrival {
-        time: 19,
+        time: u32::MAX,
         path: 65_535,
         order: 63,
         distance: 1_024,
@@ -145,7 +151,7 @@ fn refusal_5_by_each_field() {
     assert_eq!(lent.put_arrival(0, largest), begun(1));
     lent.finish(0).1.unwrap();
     let expected = Response::Took {
-        time: 19,
+        time: 4_294_967_295,
         path: 65_535,
         order: 63,
         distance: 1_024,
@@ -240,7 +246,6 @@ fn provoke(number: u8, lent: &mut Lent, call: &mut (usize, Arrival)) {
         3 => lent.store[LAST_ALLOCATED] = 4,
         4 => call.0 = 2,
         5 => call.1.distance = 0,
-        6 => call.1.time = 20,
         9 => lent.workers[0].stage = 7,
         10 => lent.workers[0].stage = 0,
         11 => {
@@ -258,8 +263,20 @@ fn provoke(number: u8, lent: &mut Lent, call: &mut (usize, Arrival)) {
     }
 }
 
-/// Tries every set of conditions; the lowest number must be the answer.
+/// Tries every set of conditions; the lowest number must be the answer, whatever the
+/// time of an arrival.
 fn lowest_wins(numbers: &[u8], stage: u64, entry: fn(&mut Lent, usize, Arrival) -> Answer) {
+    for time in [5, 20, u32::MAX] {
+        lowest_wins_at(time, numbers, stage, entry);
+    }
+}
+
+fn lowest_wins_at(
+    time: u32,
+    numbers: &[u8],
+    stage: u64,
+    entry: fn(&mut Lent, usize, Arrival) -> Answer,
+) {
     for set in 0..1u32 << numbers.len() {
         let chosen: Vec<u8> = (0..numbers.len())
             .filter(|i| set >> i & 1 == 1)
@@ -267,7 +284,7 @@ fn lowest_wins(numbers: &[u8], stage: u64, entry: fn(&mut Lent, usize, Arrival) 
             .collect();
         let mut lent = Lent::open(shape(2, 4, 2, 10));
         lent.workers[0] = record_at(stage);
-        let mut call = (0, arrival(5));
+        let mut call = (0, arrival(time));
         // The shape last: the others look at the layout.
         for &number in chosen.iter().rev() {
             provoke(number, &mut lent, &mut call);
@@ -282,11 +299,9 @@ fn lowest_wins(numbers: &[u8], stage: u64, entry: fn(&mut Lent, usize, Arrival) 
 
 #[test]
 fn the_lowest_number_wins() {
-    lowest_wins(
-        &[1, 2, 3, 4, 5, 6, 9, 11, 12],
-        0,
-        |lent, worker, arrival| lent.put_arrival(worker, arrival),
-    );
+    lowest_wins(&[1, 2, 3, 4, 5, 9, 11, 12], 0, |lent, worker, arrival| {
+        lent.put_arrival(worker, arrival)
+    });
     lowest_wins(&[1, 2, 3, 4, 9, 11], 0, |lent, worker, _| lent.take(worker));
     lowest_wins(&[1, 2, 3, 4, 10, 11], 7, |lent, worker, _| {
         lent.turn(worker)
@@ -295,11 +310,9 @@ fn the_lowest_number_wins() {
 
 #[test]
 fn the_lowest_number_wins_in_narrow_calls() {
-    lowest_wins(
-        &[1, 2, 3, 4, 5, 6, 9, 11, 12],
-        0,
-        |lent, worker, arrival| lent.narrow(worker, Call::Put(arrival), 0),
-    );
+    lowest_wins(&[1, 2, 3, 4, 5, 9, 11, 12], 0, |lent, worker, arrival| {
+        lent.narrow(worker, Call::Put(arrival), 0)
+    });
     lowest_wins(&[1, 2, 3, 4, 9, 11], 0, |lent, worker, _| {
         lent.narrow(worker, Call::Take, 0)
     });

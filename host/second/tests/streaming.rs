@@ -198,8 +198,23 @@ fn the_fields_are_little_endian_and_whole() {
         PU\x00\x00\x00\x00\x00\x00\x00\x40\x00\x04\
         PU\x00\x00\x00\x00\x00\x00\x00\x00\x01\x04\
         PU\x00\x00\x00\x00\x01\x00\x00\x00\x01\x00";
-    // 256 * 65,535 = 0x00FF_FF00; the last time is 0x00FF_FEFF.
-    let expected = "open\nbegun 1\nno 6\nno 5\nno 5\nno 6\n";
+    // Worker 0 is busy after the first put; an order and a distance too high come first.
+    let expected = "open\nbegun 1\nno 9\nno 5\nno 5\nno 9\n";
+    assert_eq!(lines(&input[..]), expected);
+
+    // One bucket, so that 5 and 7 turns are needed.
+    let mut input = b"OP\x01\x02\x00\x01\x00\xFF\xFF\
+        PU\x00\x04\x03\x02\x01\x05\x06\x07\x08\x01"
+        .to_vec();
+    input.extend(b"TU\x00".repeat(5));
+    input.extend(b"TA\x00");
+    input.extend(b"TU\x00".repeat(7));
+    // 0x0102_0304, 0x0605, 7, and 2^24 / 264² = 240.7.
+    let expected = format!(
+        "open\nbegun 1\n{}stored 1\nbegun 2\n{}took 16909060 1541 7 240\n",
+        "on\n".repeat(4),
+        "on\n".repeat(6)
+    );
     assert_eq!(lines(&input[..]), expected);
 }
 

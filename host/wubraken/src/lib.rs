@@ -50,6 +50,9 @@
 //! }
 //! ```
 //!
+//! Times run to 2^32 − 1: the last bucket takes all that comes behind the others, too
+//! (`examples/tail.rs`).
+//!
 //! [`Pool::run_batch`] works through a batch, a piece of a turn file, in one call.
 //! Threads that share a pool lock it for a step, or for a call
 //! (`examples/threads.rs`).

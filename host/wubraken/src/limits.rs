@@ -57,29 +57,26 @@ impl Shape {
 }
 
 impl Arrival {
-    /// The first field outside its limits, of the shape or else of the arrival, if
-    /// there is one; then the pool refuses by [`Refusal::BadShape`],
-    /// [`Refusal::BadArrival`] or [`Refusal::TooLate`].
+    /// The first field outside its limits, if there is one; then the pool refuses
+    /// by [`Refusal::BadArrival`]. The time may be any number.
     ///
     /// ```
-    /// use wubraken::{Arrival, Shape};
+    /// use wubraken::Arrival;
     ///
-    /// let shape = Shape { workers: 2, nodes: 100, buckets: 16, width: 48 };
-    /// let arrival = Arrival { time: 768, path: 7, order: 1, distance: 3 };
-    /// let outside = arrival.check(&shape).unwrap_err();
-    /// assert_eq!(outside.to_string(), "time is 768, and must be 0 to 767");
+    /// let arrival = Arrival { time: u32::MAX, path: 7, order: 1, distance: 3 };
+    /// assert!(arrival.check().is_ok());
+    ///
+    /// let outside = Arrival { order: 64, ..arrival }.check().unwrap_err();
+    /// assert_eq!(outside.to_string(), "order is 64, and must be 0 to 63");
     /// ```
-    pub fn check(&self, shape: &Shape) -> Result<(), OutsideLimits> {
-        shape.check()?;
+    pub fn check(&self) -> Result<(), OutsideLimits> {
         let check = |field, value: u32, least, most: u32| {
             let limits = (least, most.into());
             within(field, value.into(), limits, Refusal::BadArrival)
         };
         check("path", self.path, 0, Self::MAX_PATH)?;
         check("order", self.order, 0, Self::MAX_ORDER)?;
-        check("distance", self.distance, 1, Self::MAX_DISTANCE)?;
-        let last = shape.buckets * shape.width - 1;
-        within("time", self.time.into(), (0, last), Refusal::TooLate)
+        check("distance", self.distance, 1, Self::MAX_DISTANCE)
     }
 }
 

@@ -176,7 +176,7 @@ impl<S: AsMut<[u64]>, T: AsMut<[Worker]>> Pool<S, T> {
     }
 
     /// A worker begins to put an arrival in: the call's ticket, or refusal 1 to
-    /// 6, 9, 11 or 12. It goes on by [`Pool::step`] or [`Pool::run`].
+    /// 5, 9, 11 or 12. It goes on by [`Pool::step`] or [`Pool::run`].
     #[inline]
     pub fn enqueue(&mut self, worker: u64, arrival: Arrival) -> Result<u64, Refusal> {
         let start = call!(
@@ -229,7 +229,7 @@ impl<S: AsMut<[u64]>, T: AsMut<[Worker]>> Pool<S, T> {
     /// opening (in other memory a list may lead in a circle). A limit that is used up
     /// leaves the call in progress.
     ///
-    /// A start that is refused (1 to 6, 9, 11 or 12) has begun nothing. A turn behind
+    /// A start that is refused (1 to 5, 9, 11 or 12) has begun nothing. A turn behind
     /// it can be refused too: by 11, where no epoch is left, or by 3 in damaged
     /// memory. Then the call stays in progress; [`Pool::in_progress`] tells which.
     ///

@@ -27,7 +27,7 @@ pub enum Refusal {
     NoWorker = 4,
     /// Path, order or distance is outside its limits: [`Arrival::check`] says which.
     BadArrival = 5,
-    /// The time is past the last bucket.
+    /// A reserved number, not given since Q-1: every time has a bucket.
     TooLate = 6,
     /// A turn file has two letters that begin no record.
     UnknownMark = 7,
@@ -83,7 +83,7 @@ impl fmt::Display for Refusal {
             Self::OutOfRange => "the memory is out of range; lend it as the pool left it, or open the pool again",
             Self::NoWorker => "there is no such worker; the first is 0, and the shape says how many there are",
             Self::BadArrival => return limits_of_an_arrival(f),
-            Self::TooLate => "the time is past the last bucket; it must be below buckets times width",
+            Self::TooLate => "not given since Q-1; every time has a bucket",
             Self::UnknownMark => "the turn file has an unknown mark; records begin with OP, PU, TA or TU",
             Self::CutRecord => "the turn file ends inside a record; hand in the rest of it, too",
             Self::Busy => "the worker has a call in progress; step it to its end first",

@@ -12,7 +12,8 @@ pub struct Shape {
     pub nodes: u64,
     /// 1 to [`Shape::MAX_BUCKETS`].
     pub buckets: u64,
-    /// 1 to [`Shape::MAX_WIDTH`]: samples of time in one bucket.
+    /// 1 to [`Shape::MAX_WIDTH`]: samples of time in one bucket. The last bucket
+    /// takes all later times, too.
     pub width: u64,
 }
 
@@ -43,13 +44,30 @@ impl Shape {
             words => Some(words as usize),
         }
     }
+
+    /// The bucket of a time; none if the shape is outside its limits. The last
+    /// bucket has all times from (buckets − 1) × width on, so its list grows with
+    /// the arrivals that come late.
+    ///
+    /// ```
+    /// use wubraken::Shape;
+    ///
+    /// let shape = Shape { workers: 1, nodes: 4, buckets: 2, width: 10 };
+    /// let buckets = [9, 10, 19, 20, u32::MAX].map(|time| shape.bucket_of(time));
+    /// assert_eq!(buckets, [Some(0), Some(1), Some(1), Some(1), Some(1)]);
+    /// assert_eq!(Shape { width: 0, ..shape }.bucket_of(5), None);
+    /// ```
+    pub fn bucket_of(self, time: u32) -> Option<u64> {
+        self.check().ok()?;
+        Some((u64::from(time) / self.width).min(self.buckets - 1))
+    }
 }
 
 /// An arrival to put in. [`Arrival::check`] says what is outside its limits.
 #[repr(C)]
 #[derive(Clone, Copy, Debug, Default, PartialEq, Eq, Hash)]
 pub struct Arrival {
-    /// In samples, below buckets × width.
+    /// In samples, 0 to 2^32 − 1. [`Shape::bucket_of`] says where it lies.
     pub time: u32,
     /// 0 to [`Arrival::MAX_PATH`].
     pub path: u32,

@@ -209,7 +209,7 @@ fn any_memory_at_all() {
         }
         // By stage 3, in the midst of a batch.
         assert!(left_the_ranges > 0);
-        let expected = "begun, empty, no 1, no 10, no 11, no 12, no 2, no 3, no 4, no 5, no 6, no 9, on, open, stored, took";
+        let expected = "begun, empty, no 1, no 10, no 11, no 12, no 2, no 3, no 4, no 5, no 9, on, open, stored, took";
         let seen: Vec<String> = seen.into_iter().collect();
         assert_eq!(seen.join(", "), expected);
     });

@@ -3,7 +3,10 @@
 
 mod common;
 
+use std::collections::BTreeSet;
+
 use common::both::Both;
+use common::draw::{any_arrival, any_memory};
 use common::guarded::GARBAGE_RECORD;
 use common::lent::Call;
 use common::seeds::on_seeds;
@@ -49,7 +52,7 @@ fn check_narrow(random: &mut Random, memory: &Memory, damaged: Field) {
     let shape = translate::shape_back(memory.shape);
     let lent = Both::with_spare(memory, 2, 1);
     for worker in (0..=shape.workers).chain([u64::MAX]) {
-        for call in Call::narrow_of_worker(worker, ARRIVAL, 0) {
+        for call in Call::narrow_of_worker(worker, any_arrival(random, shape), 0) {
             let is_refused = lent.clone().call(shape, call).number == 3;
             assert_eq!(is_refused, looks_at(call, damaged), "{call:?} {damaged:?}");
             // The second program says how far it goes.
@@ -69,7 +72,7 @@ fn walk(random: &mut Random, lent: &mut Both, shape: Shape) -> u32 {
     for _ in 0..12 {
         let worker = random.draw() % (shape.workers + 1);
         let turns = random.below(MOST_TURNS).into();
-        let calls = Call::narrow_of_worker(worker, ARRIVAL, turns);
+        let calls = Call::narrow_of_worker(worker, any_arrival(random, shape), turns);
         // Mostly turns.
         let call = calls[random.choose(&[0, 1, 2, 2, 2])];
         done += u32::from(lent.call(shape, call).kind != kind::REFUSED);
@@ -181,6 +184,33 @@ fn damage_all_over() {
             let mut lent = Both::with_spare(&memory, 2, 1);
             walk(random, &mut lent, translate::shape_back(shape));
         }
+    });
+}
+
+/// 6 is not given since Q-1: not in memory that is sound, damaged or too short, of small
+/// shapes or of none, and at any time; all that a start or turn can be refused by are given.
+#[test]
+fn no_call_answers_6() {
+    on_seeds("no 6", |random| {
+        let mut given = BTreeSet::new();
+        for _ in 0..5 * MEMORIES {
+            let small = small_shape(random);
+            let memory = any_memory(random, small);
+            let lent = Both::new(&memory.store, &memory.table);
+            let shape = translate::shape_back(small);
+            let width = random.choose(&[shape.width, shape.width, shape.width, 0]);
+            for worker in 0..=shape.workers {
+                let arrival = any_arrival(random, shape);
+                let turns = random.below(MOST_TURNS).into();
+                let narrow = Call::narrow_of_worker(worker, arrival, turns);
+                for call in Call::of_worker(worker, arrival).into_iter().chain(narrow) {
+                    let answer = lent.clone().call(Shape { width, ..shape }, call);
+                    given.insert(answer.number);
+                }
+            }
+        }
+        let all = [0, 1, 2, 3, 4, 5, 9, 10, 11, 12];
+        assert_eq!(given, BTreeSet::from(all));
     });
 }
 

@@ -3,6 +3,9 @@
 #[path = "../examples/batches.rs"]
 #[allow(dead_code)]
 mod batches;
+#[path = "../examples/tail.rs"]
+#[allow(dead_code)]
+mod tail;
 #[path = "../examples/threads.rs"]
 mod threads;
 
@@ -12,6 +15,13 @@ use wubraken::{Pool, Shape, Stop};
 #[test]
 fn threads_take_what_they_have_put() {
     threads::main().unwrap();
+}
+
+/// 700 is in the 15th millisecond, and 20 seconds are behind all 16.
+#[test]
+fn the_tail_is_taken_in_its_order() {
+    let expected = vec![(5, 0), (700, 14), (960_000, 15)];
+    assert_eq!(tail::run(), Ok(expected));
 }
 
 /// Among them files that end by 7 and by 8.

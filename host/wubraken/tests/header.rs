@@ -145,6 +145,16 @@ fn texts_of_refusals_are_the_same() {
     assert!(HEADER.contains("default:\n        return \"no refusal has this number\";"));
 }
 
+/// What the wrapper says of it is compared above.
+#[test]
+fn number_6_is_reserved() {
+    assert!(HEADER.contains("WUBRAKEN_TOO_LATE = 6,     /* not given since Q-1 */\n"));
+    for list in HEADER.split("Refusals").skip(1) {
+        let (list, _) = list.split_once("*/").unwrap();
+        assert!(!list.contains('6'), "{list}");
+    }
+}
+
 #[test]
 fn words_to_lend_by_macro() {
     let words = format!("({HEADS} + (buckets) + {NODE_WORDS} * (nodes))\n");

@@ -86,7 +86,7 @@ fn check_names_the_field_of_a_shape() {
     }
 }
 
-/// What is outside by the check is what the pool refuses.
+/// What is outside by the check is what the pool refuses, at whatever time.
 #[test]
 fn check_names_the_field_of_an_arrival() {
     let pool = Pool::new(shape(1, 1, 2, 10)).unwrap();
@@ -102,35 +102,65 @@ fn check_names_the_field_of_an_arrival() {
         Arrival::MAX_ORDER,
         Arrival::MAX_DISTANCE,
     ];
-    let check = |fields: [u32; 4], said: Option<(&str, Refusal)>| {
+    let check = |fields: [u32; 4], said: Option<&str>| {
         let refused = pool.clone().enqueue(0, arrival(fields)).err();
-        let outside = arrival(fields).check(&pool.shape()).err();
-        assert_eq!(refused, said.map(|(_, refusal)| refusal), "{fields:?}");
-        assert_eq!(outside.map(|it| (it.field, it.refusal)), said);
+        let outside = arrival(fields).check().err();
+        assert_eq!(refused, said.map(|_| Refusal::BadArrival), "{fields:?}");
+        assert_eq!(outside.map(|it| it.field), said);
+        assert_eq!(outside.map(|it| it.refusal), refused);
     };
-    check(good, None);
-    check([0, 0, 0, 1], None);
     let names = ["time", "path", "order", "distance"];
-    let mut late = good;
-    late[0] += 1;
-    for place in 1..4 {
-        let said = Some((names[place], Refusal::BadArrival));
-        for (from, value) in [(good, good[place] + 1), (late, u32::MAX)] {
-            let mut fields = from;
-            fields[place] = value;
-            check(fields, said);
+    for time in [0, 19, 20, 1 << 31, u32::MAX] {
+        let mut good = good;
+        good[0] = time;
+        check(good, None);
+        check([time, 0, 0, 1], None);
+        check([time, 0, 0, 0], Some("distance"));
+        for place in 1..4 {
+            for value in [good[place] + 1, u32::MAX] {
+                let mut fields = good;
+                fields[place] = value;
+                check(fields, Some(names[place]));
+            }
         }
     }
-    check([0, 0, 0, 0], Some(("distance", Refusal::BadArrival)));
-    check(late, Some(("time", Refusal::TooLate)));
-    let none = Shape {
-        width: 0,
-        ..pool.shape()
-    };
-    assert_eq!(
-        arrival(late).check(&none).unwrap_err().refusal,
-        Refusal::BadShape
-    );
+}
+
+/// By the wrapper, and by the start of a put; each bucket is worked out by hand.
+#[test]
+fn buckets_of_times() {
+    for (buckets, width, expected) in [
+        (2, 10, &[(0, 0), (9, 0), (10, 1), (19, 1), (20, 1)][..]),
+        (1, 1, &[(0, 0), (1, 0), (65_536, 0)]),
+        (3, 7, &[(6, 0), (7, 1), (13, 1), (14, 2), (20, 2), (21, 2)]),
+        (256, 1, &[(254, 254), (255, 255), (256, 255), (512, 255)]),
+        (
+            256,
+            65_535,
+            &[
+                (65_534, 0),
+                (65_535, 1),
+                (16_711_424, 254),
+                (16_711_425, 255),
+                (16_776_960, 255),
+                (4_294_901_760, 255),
+            ],
+        ),
+    ] {
+        let shape = shape(1, 1, buckets, width);
+        let last = [(u32::MAX, buckets - 1)];
+        for &(time, bucket) in expected.iter().chain(&last) {
+            let mut pool = Pool::new(shape).unwrap();
+            assert_eq!(pool.enqueue(0, Arrival { time, ..ARRIVAL }), Ok(1));
+            assert_eq!(pool.table()[0].bucket, bucket, "{time} of {shape:?}");
+            assert_eq!(shape.bucket_of(time), Some(bucket), "{time} of {shape:?}");
+        }
+    }
+    for shape in shapes() {
+        let has_buckets = is_within_limits(shape);
+        assert_eq!(shape.bucket_of(0), has_buckets.then_some(0), "{shape:?}");
+        assert_eq!(shape.bucket_of(u32::MAX).is_some(), has_buckets);
+    }
 }
 
 /// 1 comes first, however much or little is lent.
@@ -160,7 +190,7 @@ fn too_short_by_one_or_all() {
 }
 
 /// Opens each corner of the limits and lets its first and last workers put into
-/// and take from the first and last times.
+/// and take from the first and last times, with the tail and without.
 #[test]
 fn corners_of_the_limits() {
     on_seeds("corners", |random| {
@@ -169,13 +199,13 @@ fn corners_of_the_limits() {
             let (words, records) = (shape.words().unwrap(), shape.workers as usize);
             let mut lent = Both::garbage(words + spare, records + spare);
             assert_eq!(lent.call(shape, Call::Open).kind, kind::OPEN);
-            let last = (shape.buckets * shape.width - 1) as u32;
+            let span = (shape.buckets * shape.width) as u32;
             let mut ended = 0;
             // Two takes may walk through all the buckets, in two turns each.
             for _ in 0..1_200 {
                 let worker = random.choose(&[0, shape.workers - 1]);
                 let arrival = Arrival {
-                    time: random.choose(&[0, last]),
+                    time: random.choose(&[0, span - 1, span, u32::MAX]),
                     path: random.choose(&[0, Arrival::MAX_PATH]),
                     order: random.choose(&[0, Arrival::MAX_ORDER]),
                     distance: random.choose(&[1, Arrival::MAX_DISTANCE]),
@@ -195,13 +225,6 @@ fn corners_of_the_limits() {
                 ended += u32::from(ends.contains(&answer.kind));
             }
             assert!(ended > 0, "{shape:?}");
-            let late = Arrival {
-                time: last.wrapping_add(1),
-                ..ARRIVAL
-            };
-            for call in [Call::Enqueue(0, late), Call::NarrowEnqueue(0, late, 9)] {
-                assert_eq!(lent.call(shape, call).number, 6);
-            }
             for worker in [shape.workers, 1 << 32, u64::MAX] {
                 for call in every_call(worker).into_iter().skip(1) {
                     assert_eq!(lent.call(shape, call).number, 4, "{call:?}");

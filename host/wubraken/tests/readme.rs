@@ -2,9 +2,10 @@
 //! the others there too, or, with what they show a part of, as examples.
 
 const README: &str = include_str!("../../../README.md");
-const EXAMPLES: [&str; 2] = [
+const EXAMPLES: [&str; 3] = [
     include_str!("../examples/threads.rs"),
     include_str!("../examples/batches.rs"),
+    include_str!("../examples/tail.rs"),
 ];
 
 /// The blocks of a text that begin with this mark.

@@ -44,7 +44,7 @@ fn a_new_pool_of_absurd_size_lends_nothing() {
     }
 }
 
-/// Each is a call that gives just this refusal.
+/// Each is a call that gives just this refusal; [`TooLate`](Refusal::TooLate) has none.
 #[test]
 fn every_refusal_by_name() {
     let mut pool = open();
@@ -59,11 +59,6 @@ fn every_refusal_by_name() {
         ..ARRIVAL
     };
     assert_eq!(pool.enqueue(0, far), Err(Refusal::BadArrival));
-    let late = Arrival {
-        time: 20,
-        ..ARRIVAL
-    };
-    assert_eq!(pool.enqueue(0, late), Err(Refusal::TooLate));
     assert_eq!(pool.step(0), Err(Refusal::Idle));
     assert_eq!(pool.enqueue(0, ARRIVAL), Ok(1));
     assert_eq!(pool.dequeue(0), Err(Refusal::Busy));
@@ -111,6 +106,35 @@ fn numbers_and_sentences_of_refusals() {
     for number in [0, 13, u64::MAX, 1 << 32 | 1] {
         assert_eq!(Refusal::from_number(number), None);
     }
+}
+
+/// The number stays, and says that nobody gets it.
+#[test]
+fn number_6_is_reserved() {
+    assert_eq!(Refusal::from_number(6), Some(Refusal::TooLate));
+    let text = Refusal::TooLate.to_string();
+    assert!(
+        text.starts_with("refused by 6: not given since Q-1"),
+        "{text}"
+    );
+}
+
+/// At the last bucket's first time, at the end of its width, behind that, and at the
+/// last time there is.
+#[test]
+fn times_in_the_tail_are_taken_in_their_order() {
+    let mut pool = Pool::new(shape(1, 4, 2, 10)).unwrap();
+    let times = [u32::MAX, 10, 20, 19];
+    for (ticket, time) in (1..).zip(times) {
+        let arrival = Arrival { time, ..ARRIVAL };
+        assert_eq!(pool.put(0, arrival, u64::MAX), Ok(Put::Stored(ticket)));
+        assert_eq!(pool.table()[0].bucket, 1);
+    }
+    for time in [10, 19, 20, u32::MAX] {
+        let taken = Taken { time, ..TAKEN };
+        assert_eq!(pool.take(0, u64::MAX), Ok(Take::Took(taken)));
+    }
+    assert_eq!(pool.take(0, u64::MAX), Ok(Take::Empty));
 }
 
 /// What comes out after [`ARRIVAL`] was put in.
@@ -307,7 +331,7 @@ fn an_arrival_that_does_not_fit() {
         ..TAKEN
     };
     assert_eq!(pool.take(0, u64::MAX), Ok(Take::Took(taken)));
-    assert!(Arrival::from(taken).check(&SHAPE).is_err());
+    assert!(Arrival::from(taken).check().is_err());
 }
 
 /// A put and a take of one worker, in whatever memory.

@@ -11,9 +11,9 @@ use mathlib.Core.Path.{_≡_, refl}
 use mathlib.Core.List.{List}
 use mathlib.Core.Bool.{false}
 use mathlib.Core.Logic.{_≢_}
-use Prim.Native.Nat.{ℕ, _*_, _<_, _≤_}
+use Prim.Native.Nat.{ℕ, _<_, _≤_}
 use lib.ListN.{length}
-use borrow.Author.Tests.{not-false, ltb-false, leb-false, leb-true, eqb-false, eqb-true, not-true}
+use borrow.Author.Tests.{not-false, ltb-true, ltb-false, leb-false, leb-true, eqb-false, eqb-true, not-true}
 use Rattle.arrival.specs.declared.Shape.{Shape}
 use Rattle.arrival.specs.declared.Arrival.{Arrival}
 use Rattle.arrival.specs.declared.Worker.{Worker}
@@ -46,7 +46,7 @@ pub record EnqueueAccepted (sh : Shape) (s : List ℕ) (t : List Worker) (i : �
   pub order : a .order ≤ 63
   pub some-distance : 1 ≤ a .distance
   pub distance : a .distance ≤ 1024
-  pub time : a .time < sh .buckets * sh .width
+  pub time : a .time < 4294967296
   pub idle : worker t i .stage ≡ 0
   pub ticket : started sh s ≢ 4294967295
   pub node : firstFree sh s t ≢ sh .nodes
@@ -84,24 +84,25 @@ pub record EnqueuePassed (sh : Shape) (s : List ℕ) (t : List Worker) (i : ℕ)
   pub order : a .order ≤ 63
   pub some-distance : 1 ≤ a .distance
   pub distance : a .distance ≤ 1024
-  pub time : a .time < sh .buckets * sh .width
+  pub time : a .time < 4294967296
   pub idle : worker t i .stage ≡ 0
   pub ticket : started sh s ≢ 4294967295
   pub node : firstFree sh s t ≢ sh .nodes
 
 pub enqueue-passed : (sh : Shape) (s : List ℕ) (t : List Worker) (i : ℕ) (a : Arrival)
-    → firstOf (enqueueOwn sh a (worker t i) (noTicket sh s) (noNode sh s t)) ≡ 0 → EnqueuePassed sh s t i a
+    → firstOf (enqueueOwn a (worker t i) (noTicket sh s) (noNode sh s t)) ≡ 0 → EnqueuePassed sh s t i a
 enqueue-passed sh s t i a e =
-    let (five, (six, (nine, (eleven, (twelve, last))))) = first-none (enqueueOwn sh a (worker t i) (noTicket sh s) (noNode sh s t)) refl e in
+    let (five, (nine, (eleven, (twelve, last)))) = first-none (enqueueOwn a (worker t i) (noTicket sh s) (noNode sh s t)) refl e in
     let (p, far) = parts _ _ (not-false _ five) in
-    let (path, order) = parts _ _ p in
+    let (p, order) = parts _ _ p in
+    let (time, path) = parts _ _ p in
     let (some-distance, distance) = parts _ _ far in
     record {
       path = leb-true _ _ path;
       order = leb-true _ _ order;
       some-distance = leb-true _ _ some-distance;
       distance = leb-true _ _ distance;
-      time = leb-false _ _ six;
+      time = ltb-true _ _ time;
       idle = eqb-true _ _ (not-false _ nine);
       ticket = eqb-false _ _ eleven;
       node = eqb-false _ _ twelve;
@@ -121,7 +122,7 @@ step-passed sh s w e =
 pub enqueue-accepted : (sh : Shape) (s : List ℕ) (t : List Worker) (i : ℕ) (a : Arrival) → enqueueRefusal sh s t i a ≡ 0 → EnqueueAccepted sh s t i a
 unfolding enqueueRefusal
 enqueue-accepted sh s t i a e =
-    let (z, own) = first-parts (memoryOf sh s t i) (enqueueOwn sh a (worker t i) (noTicket sh s) (noNode sh s t)) refl e in
+    let (z, own) = first-parts (memoryOf sh s t i) (enqueueOwn a (worker t i) (noTicket sh s) (noNode sh s t)) refl e in
     let P = enqueue-passed sh s t i a own in
     record {
       usable = memory-accepted sh s t i z;

@@ -6,14 +6,15 @@
 --     first-front     whatever comes behind, what the first has is the answer
 --     first-above     the answer is above what the numbers rise from
 --     first-none      where there is none, no test holds
+--     first-lacks     a number that no test has is never the answer
 use mathlib.Core.Path.{_≡_, refl, sym, ap, _∙_}
 use mathlib.Core.List.{List, [], _∷_, _++_, append-nil}
-use mathlib.Core.Bool.{Bool, true, false, cond, _&&_}
+use mathlib.Core.Bool.{Bool, true, false, cond, not, _&&_}
 use mathlib.Core.Logic.{_≢_}
 use Prim.Native.Nat.{ℕ, _<_, _≤_}
 use native.Mathlib.Omega.{arith}
 use lib.Dec.{eqb, ltb}
-use borrow.Author.Tests.{eqb-true, eqb-false, ltb-true, ne-eqb}
+use borrow.Author.Tests.{eqb-true, eqb-false, ltb-true, ne-eqb, not-true}
 use Rattle.laws.specs.Tests.{parts}
 use Rattle.calendar.specs.rules.Refusals.{firstOf}
 
@@ -85,3 +86,17 @@ none-of k (x ∷ xs) r e = go (x .1) refl e (λ z. none-of (x .0) xs (r .1) z)
 
 pub first-none : (xs : List (ℕ × Bool)) → rises 0 xs ≡ true → firstOf xs ≡ 0 → None xs
 first-none xs up e = none-of 0 xs (by-numbers 0 xs up) e
+
+-- none of the numbers is n
+abbrev pub lacks : ℕ → List (ℕ × Bool) → Bool
+lacks n [] = true
+lacks n (x ∷ xs) = not (eqb (x .0) n) && lacks n xs
+
+pub first-lacks : (n : ℕ) (xs : List (ℕ × Bool)) → n ≢ 0 → lacks n xs ≡ true → firstOf xs ≢ n
+first-lacks n [] some e z = omega (arith, some)
+first-lacks n (x ∷ xs) some e z = let (other, rest) = parts (not (eqb (x .0) n)) (lacks n xs) e in go (x .1) (eqb-false (x .0) n (not-true _ other)) z
+    (first-lacks n xs some rest)
+  where
+    go : (b : Bool) → x .0 ≢ n → cond b (x .0) (firstOf xs) ≡ n → firstOf xs ≢ n → ⊥
+    go true other z rest = other z
+    go false other z rest = rest z

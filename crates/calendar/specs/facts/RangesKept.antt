@@ -9,7 +9,6 @@ use mathlib.Core.Bool.{Bool, true, false, cond, _&&_}
 use mathlib.Core.Logic.{_≢_, inl}
 use Prim.Native.Nat.{ℕ, _+_, _*_, _-_, _/_, _%_, _≤_, _<_}
 use native.Mathlib.Omega.{arith}
-use native.Mathlib.Nat.{mul-le-mul}
 use lib.Dec.{eqb}
 use borrow.Author.Tests.{eqb-false, eq-eqb}
 use Rattle.arrival.specs.declared.Shape.{Shape}
@@ -113,7 +112,7 @@ pub enqueue-ranged : (sh : Shape) (s : List ℕ) (t : List Worker) (i : ℕ) (a 
 unfolding enqueueStart
 enqueue-ranged sh s t i a A = (
   record { current = I .current; started = omega (arith, A .ticket, I .started); last = isNode; heads = I .heads; nodes = λ n l. go n l (eqb x n) refl },
-  enqueue-record sh s x a (worker t i) r isNode (A .usable .lent .limits .some-width) (A .time) (omega (arith, A .ticket, I .started)),
+  enqueue-record sh s x a (worker t i) r isNode (A .usable .lent .limits .some-bucket) (omega (arith, A .ticket, I .started)),
 )
   where
     x : ℕ
@@ -128,9 +127,6 @@ enqueue-ranged sh s t i a A = (
     r : RecordRanges sh (worker t i)
     r = A .usable .table i (A .usable .exists)
 
-    small : a .time < 4294967296
-    small = omega (arith, A .time, mul-le-mul (A .usable .lent .limits .buckets) (A .usable .lent .limits .width))
-
     isNode : firstFree sh s t < sh .nodes
     isNode = first-free-node sh s t (I .last) (A .node)
 
@@ -141,7 +137,7 @@ enqueue-ranged sh s t i a A = (
     go n l true e = let o = I .nodes n l in
         record {
           next = o .next;
-          time = small;
+          time = A .time;
           ticket = omega (arith, A .ticket, I .started);
           path = A .path;
           order = A .order;

@@ -10,7 +10,7 @@ use mathlib.Core.Path.{_≡_, refl, sym, _∙_, subst}
 use mathlib.Core.List.{List, []}
 use mathlib.Core.Bool.{Bool, true, false, _&&_}
 use mathlib.Core.Logic.{_≢_}
-use Prim.Native.Nat.{ℕ, _+_, _*_, _-_, _/_, _%_, _≤_, _<_}
+use Prim.Native.Nat.{ℕ, _+_, _-_, _/_, _%_, _≤_, _<_}
 use native.Mathlib.Omega.{arith}
 use lib.Dec.{leb}
 use lib.ListN.{length}
@@ -91,16 +91,16 @@ put-stage sh w k r lo hi z =
     (λ p q. absurd (omega arith))
 
 -- ── a start ──
-pub enqueue-record : (sh : Shape) (s : List ℕ) (n : ℕ) (a : Arrival) (w : Worker) → RecordRanges sh w → n < sh .nodes → 1 ≤ sh .width
-    → a .time < sh .buckets * sh .width → started sh s < 4294967295 → RecordRanges sh (enqueueStart sh s n a w .worker)
+pub enqueue-record : (sh : Shape) (s : List ℕ) (n : ℕ) (a : Arrival) (w : Worker) → RecordRanges sh w → n < sh .nodes → 1 ≤ sh .buckets
+    → started sh s < 4294967295 → RecordRanges sh (enqueueStart sh s n a w .worker)
 unfolding enqueueStart
-enqueue-record sh s n a w r isNode wide early few = record {
+enqueue-record sh s n a w r isNode some few = record {
   stage = omega arith;
   kind = omega arith;
   enqueues = λ p q. absurd (omega arith);
   dequeues = λ p q. absurd (omega arith);
   own = isNode;
-  bucket = bucket-below sh (a .time) wide early;
+  bucket = bucket-below sh (a .time) some;
   further = λ p. absurd (omega arith);
   left = r .left;
   right = r .right;

@@ -1,5 +1,5 @@
 -- The starred cases (docs/RULES.md, cases by hand), as one table under one theorem: computed, entry by entry.
---     Case                                       a history after an opening, its responses, and current at its end
+--     Case                                       a history after an opening, its responses, and current and worker 0's bucket at its end
 --     two-workers, arrival, turns, put, take     what the cases are made of
 --     table                                      the thirteen cases
 --     lent                                       the memory they are run on
@@ -21,7 +21,7 @@ use Rattle.arrival.specs.Energy.{energyOf}
 use Rattle.laws.specs.Counting.{every}
 use Rattle.laws.specs.Lists.{wordsFrom}
 use Rattle.calendar.specs.rules.Layout.{address, read, write, current, currentWord}
-use Rattle.calendar.specs.rules.Ranges.{blank, storeInRange, tableInRange}
+use Rattle.calendar.specs.rules.Ranges.{blank, worker, storeInRange, tableInRange}
 use Rattle.calendar.specs.rules.Reclaim.{isFree, firstFreeOf, firstFree}
 use Rattle.calendar.specs.rules.Opening.{openStore, openTable}
 use Rattle.calendar.specs.rules.Starts.{enqueueStart, dequeueStart}
@@ -32,13 +32,15 @@ use Rattle.calendar.specs.rules.Steps.{no-step, step}
 use Rattle.calendar.specs.rules.Refusals.{openRefusal, enqueueRefusal, dequeueRefusal, stepRefusal}
 use Rattle.calendar.specs.rules.Operations.{Memory, open-pool, act, run, responses}
 
--- A case: a history after an opening, the responses that it gets, and current's bucket and epoch at its end.
+-- A case: a history after an opening, the responses that it gets, and at its end current's bucket and epoch, and the bucket in
+-- worker 0's record, in which its call works or last worked.
 pub record Case : Type 0 where
   pub shape : Shape
   pub history : List Action
   pub gives : List Response
   pub bucket : ℕ
   pub epoch : ℕ
+  pub works-in : ℕ
 
 unfoldable pub two-workers : Shape
 two-workers = record { workers = 2; nodes = 4; buckets = 2; width = 10 }
@@ -79,7 +81,7 @@ four-begun = Begun 1 ∷ Begun 2 ∷ Begun 3 ∷ Begun 4 ∷ Refused 9 ∷ []
 pub table : List Case
 table =
     -- fresh, take: 5 turns, empty, current (1, 0)
-    record { shape = two-workers; history = take 0 5; gives = Begun 1 ∷ (ons 4 ++ (Empty ∷ [])); bucket = 1; epoch = 0 }
+    record { shape = two-workers; history = take 0 5; gives = Begun 1 ∷ (ons 4 ++ (Empty ∷ [])); bucket = 1; epoch = 0; works-in = 1 }
     -- then put at 5: 5 turns, current (0, 1)
     ∷ record {
       shape = two-workers;
@@ -87,11 +89,12 @@ table =
       gives = (Begun 1 ∷ (ons 4 ++ (Empty ∷ []))) ++ stored 2 4;
       bucket = 0;
       epoch = 1;
+      works-in = 1;
     }
     -- fresh, put at 15: 4 turns
-    ∷ record { shape = two-workers; history = put 0 (arrival 15 3) 4; gives = stored 1 3; bucket = 0; epoch = 0 }
+    ∷ record { shape = two-workers; history = put 0 (arrival 15 3) 4; gives = stored 1 3; bucket = 0; epoch = 0; works-in = 1 }
     -- fresh, put at 5: 5 turns
-    ∷ record { shape = two-workers; history = put 0 (arrival 5 3) 5; gives = stored 1 4; bucket = 0; epoch = 1 }
+    ∷ record { shape = two-workers; history = put 0 (arrival 5 3) 5; gives = stored 1 4; bucket = 0; epoch = 1; works-in = 0 }
     -- then take: 7 turns, gives 5
     ∷ record {
       shape = two-workers;
@@ -99,10 +102,11 @@ table =
       gives = stored 1 4 ++ (Begun 2 ∷ (ons 6 ++ (Took 5 7 1 3 1864135 ∷ [])));
       bucket = 0;
       epoch = 1;
+      works-in = 0;
     }
-    -- time 19 begins, 20 is 6
-    ∷ record { shape = two-workers; history = Enqueue 0 (arrival 19 3) ∷ []; gives = Begun 1 ∷ []; bucket = 0; epoch = 0 }
-    ∷ record { shape = two-workers; history = Enqueue 0 (arrival 20 3) ∷ []; gives = Refused 6 ∷ []; bucket = 0; epoch = 0 }
+    -- time 19 begins, and so does 20, in bucket 1 both
+    ∷ record { shape = two-workers; history = Enqueue 0 (arrival 19 3) ∷ []; gives = Begun 1 ∷ []; bucket = 0; epoch = 0; works-in = 1 }
+    ∷ record { shape = two-workers; history = Enqueue 0 (arrival 20 3) ∷ []; gives = Begun 1 ∷ []; bucket = 0; epoch = 0; works-in = 1 }
     -- four puts begin on four workers, a start on one of them is 9
     ∷ record {
       shape = four-workers;
@@ -110,6 +114,7 @@ table =
       gives = four-begun;
       bucket = 0;
       epoch = 0;
+      works-in = 0;
     }
     -- then all turns of each worker: stored after 5, 6, 7 and 8; a put is 12
     ∷ record {
@@ -118,6 +123,7 @@ table =
       gives = four-begun ++ ends 1 4 ++ ends 2 5 ++ ends 3 6 ++ ends 4 7 ++ (Refused 12 ∷ []);
       bucket = 0;
       epoch = 4;
+      works-in = 0;
     }
     -- and so with two workers, one put after the other
     ∷ record {
@@ -126,6 +132,7 @@ table =
       gives = stored 1 3 ++ stored 2 4 ++ stored 3 4 ++ stored 4 4 ++ (Refused 12 ∷ []);
       bucket = 0;
       epoch = 0;
+      works-in = 1;
     }
     -- distance 1 gives 16,777,216, 5 gives 671,088, 1,024 gives 16
     ∷ record {
@@ -134,6 +141,7 @@ table =
       gives = stored 1 4 ++ (Begun 2 ∷ (ons 6 ++ (Took 5 7 1 1 16777216 ∷ [])));
       bucket = 0;
       epoch = 1;
+      works-in = 0;
     }
     ∷ record {
       shape = two-workers;
@@ -141,6 +149,7 @@ table =
       gives = stored 1 4 ++ (Begun 2 ∷ (ons 6 ++ (Took 5 7 1 5 671088 ∷ [])));
       bucket = 0;
       epoch = 1;
+      works-in = 0;
     }
     ∷ record {
       shape = two-workers;
@@ -148,6 +157,7 @@ table =
       gives = stored 1 4 ++ (Begun 2 ∷ (ons 6 ++ (Took 5 7 1 1024 16 ∷ [])));
       bucket = 0;
       epoch = 1;
+      works-in = 0;
     }
     ∷ []
 
@@ -164,6 +174,7 @@ Holds c = let m = open-pool (c .shape) lent .memory in
     (open-pool (c .shape) lent .response ≡ Opened)
     × (responses (c .shape) m (c .history) ≡ c .gives)
     × (current (c .shape) (run (c .shape) m (c .history) .store) ≡ currentWord (c .bucket) (c .epoch))
+    × (worker (run (c .shape) m (c .history) .table) 0 .bucket ≡ c .works-in)
 
 pub All : List Case → Type 0
 All [] = Unit {0}
@@ -175,20 +186,26 @@ unfolding All Holds table lent two-workers four-workers arrival turns ons put en
     step-5 step-6 step-7 walk step-8 step-9 step-10 step-11 step-12 step-13 no-step step openRefusal enqueueRefusal dequeueRefusal stepRefusal open-pool act
     run responses lower bucketOf energyOf
 starred-cases = (
-  (refl, refl, refl),
+  (refl, refl, refl, refl),
   (
-    (refl, refl, refl),
+    (refl, refl, refl, refl),
     (
-      (refl, refl, refl),
+      (refl, refl, refl, refl),
       (
-        (refl, refl, refl),
+        (refl, refl, refl, refl),
         (
-          (refl, refl, refl),
+          (refl, refl, refl, refl),
           (
-            (refl, refl, refl),
+            (refl, refl, refl, refl),
             (
-              (refl, refl, refl),
-              ((refl, refl, refl), ((refl, refl, refl), ((refl, refl, refl), ((refl, refl, refl), ((refl, refl, refl), ((refl, refl, refl), tt)))))),
+              (refl, refl, refl, refl),
+              (
+                (refl, refl, refl, refl),
+                (
+                  (refl, refl, refl, refl),
+                  ((refl, refl, refl, refl), ((refl, refl, refl, refl), ((refl, refl, refl, refl), ((refl, refl, refl, refl), tt)))),
+                ),
+              ),
             ),
           ),
         ),

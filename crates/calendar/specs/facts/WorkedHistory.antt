@@ -39,7 +39,7 @@ start = open-pool one-bucket lent .memory
 unfoldable pub seen : Ledger
 seen = ledger one-bucket start history new
 
--- five calls, all finished: put 3 ended when three calls had started, take 2 after it
+-- five calls, all finished: take 2 and put 3 both ended when three calls had started
 pub answers :
     (seen .started ≡ 5)
     × (seen .response 1 ≡ Stored 1)

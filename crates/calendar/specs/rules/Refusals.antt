@@ -1,6 +1,6 @@
 -- The refusals by number, and which of them each operation gets.
 --     badShape, short, tooShort, outOfRange, noWorker     1 to 4: of the memory, and of the worker's number
---     badArrival, tooLate                                 5 and 6: of an arrival
+--     badArrival                                          5: of an arrival (6 is not given since Q-1)
 --     busy, idle, noTicket, noEpoch, noNode               9 to 12: of the worker's record and of the store
 --     firstOf                                             the first number whose test applies
 --     lengthTests, fieldTests, memoryTests                1 and 2; 3 and 4; both
@@ -12,7 +12,7 @@
 -- Assumes nothing.
 use mathlib.Core.List.{List, [], _∷_, _++_}
 use mathlib.Core.Bool.{Bool, cond, not, _&&_, _||_}
-use Prim.Native.Nat.{ℕ, _*_}
+use Prim.Native.Nat.{ℕ}
 use lib.Dec.{eqb, leb, ltb}
 use lib.ListN.{length}
 use Rattle.arrival.specs.declared.Shape.{Shape}
@@ -21,7 +21,7 @@ use Rattle.arrival.specs.declared.Worker.{Worker}
 use Rattle.arrival.specs.declared.Action.{Action}
 use Rattle.arrival.specs.declared.Action.the-variants.{Enqueue, Dequeue, Step}
 use Rattle.calendar.specs.rules.Layout.{layout, started, epochIn}
-use Rattle.calendar.specs.rules.Ranges.{shapeInRange, pathInRange, orderInRange, distanceInRange, storeInRange, tableInRange, worker}
+use Rattle.calendar.specs.rules.Ranges.{shapeInRange, pathInRange, orderInRange, distanceInRange, small, storeInRange, tableInRange, worker}
 use Rattle.calendar.specs.rules.Reclaim.{inProgress, firstFree}
 use Rattle.calendar.specs.rules.EnqueueSteps.{currentHolds}
 
@@ -44,13 +44,9 @@ outOfRange sh s t = not (storeInRange sh s && tableInRange sh t)
 abbrev pub noWorker : Shape → ℕ → Bool
 noWorker sh i = leb (sh .workers) i
 
--- 5: path, order or distance out of range
+-- 5: path, order or distance out of range. (Or the time, which for a caller is a number of 32 bits: in these rules it may be any.)
 abbrev pub badArrival : Arrival → Bool
-badArrival a = not (pathInRange (a .path) && orderInRange (a .order) && distanceInRange (a .distance))
-
--- 6: time past the last bucket
-abbrev pub tooLate : Shape → Arrival → Bool
-tooLate sh a = leb (sh .buckets * sh .width) (a .time)
+badArrival a = not (small (a .time) && pathInRange (a .path) && orderInRange (a .order) && distanceInRange (a .distance))
 
 -- 9: start on a worker with a call in progress
 abbrev pub busy : Worker → Bool
@@ -87,14 +83,14 @@ abbrev pub memoryTests : Shape → Bool → Bool → ℕ → List (ℕ × Bool)
 memoryTests sh isShort isOut i = lengthTests sh isShort ++ fieldTests sh isOut i
 
 -- of a put, before a node is looked for: `spent` says that no ticket is left; and then, `none` that no node is free
-abbrev pub earlyOwn : Shape → Arrival → Worker → Bool → List (ℕ × Bool)
-earlyOwn sh a w spent = (5, badArrival a) ∷ (6, tooLate sh a) ∷ (9, busy w) ∷ (11, spent) ∷ []
+abbrev pub earlyOwn : Arrival → Worker → Bool → List (ℕ × Bool)
+earlyOwn a w spent = (5, badArrival a) ∷ (9, busy w) ∷ (11, spent) ∷ []
 
 abbrev pub lateOwn : Bool → List (ℕ × Bool)
 lateOwn none = (12, none) ∷ []
 
-abbrev pub enqueueOwn : Shape → Arrival → Worker → Bool → Bool → List (ℕ × Bool)
-enqueueOwn sh a w spent none = earlyOwn sh a w spent ++ lateOwn none
+abbrev pub enqueueOwn : Arrival → Worker → Bool → Bool → List (ℕ × Bool)
+enqueueOwn a w spent none = earlyOwn a w spent ++ lateOwn none
 
 -- of a take
 abbrev pub dequeueOwn : Worker → Bool → List (ℕ × Bool)
@@ -106,7 +102,7 @@ stepOwn sh s w = (10, idle w) ∷ (11, noEpoch sh s w) ∷ []
 
 -- by the action, of its worker's record w
 abbrev pub ownTests : Shape → List ℕ → Bool → Action → Worker → List (ℕ × Bool)
-ownTests sh s none (Enqueue i a) w = enqueueOwn sh a w (noTicket sh s) none
+ownTests sh s none (Enqueue i a) w = enqueueOwn a w (noTicket sh s) none
 ownTests sh s none (Dequeue i) w = dequeueOwn w (noTicket sh s)
 ownTests sh s none (Step i) w = stepOwn sh s w
 
@@ -117,7 +113,7 @@ abbrev pub memoryOf : Shape → List ℕ → List Worker → ℕ → List (ℕ �
 memoryOf sh s t i = memoryTests sh (tooShort sh s t) (outOfRange sh s t) i
 
 abbrev pub enqueueTests : Shape → List ℕ → List Worker → ℕ → Arrival → List (ℕ × Bool)
-enqueueTests sh s t i a = memoryOf sh s t i ++ enqueueOwn sh a (worker t i) (noTicket sh s) (noNode sh s t)
+enqueueTests sh s t i a = memoryOf sh s t i ++ enqueueOwn a (worker t i) (noTicket sh s) (noNode sh s t)
 
 abbrev pub dequeueTests : Shape → List ℕ → List Worker → ℕ → List (ℕ × Bool)
 dequeueTests sh s t i = memoryOf sh s t i ++ dequeueOwn (worker t i) (noTicket sh s)

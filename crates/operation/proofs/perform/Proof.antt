@@ -12,7 +12,7 @@ start-enqueue-requires : tie.Need-start-enqueue-requires
 start-enqueue-requires c κs =
     let A = c .before .before .before .before .before .pre .0 in (
       A .laid,
-      (A .words .started, A .words .last, c .before .before .before .before .before .pre .1, A .limits .some-width, A .limits .width),
+      (A .words .started, A .words .last, c .before .before .before .before .before .pre .1, A .limits .some-bucket, A .limits .some-width),
     )
 
 enum-told : tie.Need-enum-told

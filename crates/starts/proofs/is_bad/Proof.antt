@@ -1,4 +1,6 @@
--- `starts::is_bad` tests an arrival's path, order and distance. Assumes nothing.
+-- `starts::is_bad` tests an arrival's path, order and distance: its time is in range by its type. Assumes nothing.
+use native.Mathlib.Omega.{arith}
+use borrow.Author.Tests.{lt-ltb}
 use borrow.Author.Needs.{needs}
 use Rattle.starts.proofs.is_bad.Statement.{statement}
 use Rattle.starts.proofs.is_bad.Tie as tie
@@ -23,7 +25,12 @@ distance-in-range-requires c κs = search needs
 
 returns : tie.Need-returns
 returns c =
-    rw (c .before .before .before .before .path-in-range .ensures, c .before .before .order-in-range .ensures, c .distance-in-range .ensures)
+    rw (
+      lt-ltb (c .before .before .before .before .before .before .args .arrival .time) 4294967296 (omega arith),
+      c .before .before .before .before .path-in-range .ensures,
+      c .before .before .order-in-range .ensures,
+      c .distance-in-range .ensures,
+    )
 
 pub is-bad-spec : {M : Type 1} → statement M
 is-bad-spec =

@@ -1,4 +1,4 @@
--- `starts::start_enqueue` is refused by 5, 6, 9, 11 or 12, or begins on the first free node. Assumes nothing.
+-- `starts::start_enqueue` is refused by 5, 9, 11 or 12, or begins on the first free node. Assumes nothing.
 use mathlib.Core.Path.{_∙_}
 use native.Mathlib.Omega.{arith}
 use Rattle.starts.specs.LocalStart.{at-early, at-full, at-begun}
@@ -42,7 +42,7 @@ begin-enqueue-requires : tie.Need-begin-enqueue-requires
 begin-enqueue-requires c κs =
     let e = c .before .before .before .first-free .ensures .1 in
     let d = c .before .if2 .left in
-    let p = c .before .before .before .before .before .before .before .before .before .before .pre in (p .0, (p .1 .0, omega arith, p .1 .3))
+    let p = c .before .before .before .before .before .before .before .before .before .before .pre in (p .0, (p .1 .0, omega arith, p .1 .3, p .1 .4))
 
 same-length-3 : tie.Need-same-length-3
 same-length-3 c = search needs

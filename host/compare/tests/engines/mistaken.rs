@@ -31,10 +31,12 @@ pub enum Mistake {
     StoredUnlinked,
     /// A take answers another path.
     OtherPath,
+    /// The tail goes round: the last bucket is followed by the first.
+    TailGoesRound,
 }
 
 impl Mistake {
-    pub const ALL: [Self; 11] = [
+    pub const ALL: [Self; 12] = [
         Self::PassOver,
         Self::FreeWhenMarked,
         Self::FreeWhenTaken,
@@ -46,6 +48,7 @@ impl Mistake {
         Self::TakeMarked,
         Self::StoredUnlinked,
         Self::OtherPath,
+        Self::TailGoesRound,
     ];
 }
 
@@ -81,7 +84,20 @@ impl Engine {
                 let response = self.memory.turn(worker)?;
                 Ok(self.spoil(worker, before.unwrap_or_default(), response))
             }
+            Record::EnqueueStart { worker, arrival } => {
+                let response = self.memory.apply(record)?;
+                self.spoil_start(worker.into(), arrival.time);
+                Ok(response)
+            }
             other => self.memory.apply(other),
+        }
+    }
+
+    /// Makes the mistake after the start of a put.
+    fn spoil_start(&mut self, worker: usize, time: u32) {
+        if self.mistake == Mistake::TailGoesRound {
+            let shape = self.memory.shape;
+            self.memory.workers[worker].bucket = (time / shape.width % shape.buckets).into();
         }
     }
 

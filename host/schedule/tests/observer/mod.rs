@@ -250,7 +250,8 @@ struct Lists {
 }
 
 impl Lists {
-    /// Walks every list; keys must rise and times fit their bucket.
+    /// Walks every list; keys must rise and times fit their bucket: it has `width`
+    /// samples, and the last one all that come later.
     fn read(program: &Program) -> Self {
         let shape = program.shape();
         let mut lists = Self {
@@ -258,13 +259,18 @@ impl Lists {
             unmarked: Vec::new(),
         };
         for bucket in 0..shape.buckets {
+            let first = u64::from(bucket * shape.width);
+            let behind = match bucket + 1 == shape.buckets {
+                true => 1 << 32,
+                false => first + u64::from(shape.width),
+            };
             let mut next = word::successor(program.store()[head_at(bucket as usize)]);
             let mut last = None;
             while next != u64::from(shape.nodes) {
                 let words = node(program, next);
                 let key = (words[field::TIME], words[field::TICKET]);
                 assert!(last < Some(key), "a list out of order");
-                assert_eq!(key.0 / u64::from(shape.width), bucket.into());
+                assert!((first..behind).contains(&key.0), "{key:?} in {bucket}");
                 lists.linked += 1;
                 if !word::is_marked(words[field::LINK]) {
                     lists.unmarked.push(key.1);

@@ -2,6 +2,7 @@
 //! nothing and that the spare words and records are never changed.
 #![allow(dead_code)]
 
+pub mod noted;
 pub mod program;
 
 use std::ops::{Deref, DerefMut};
@@ -40,21 +41,20 @@ pub fn stored(ticket: u64) -> Answer {
 
 pub fn refused(number: u8) -> Answer {
     use Refusal::*;
-    let all = [
-        ShapeOutsideLimits,
-        MemoryTooShort,
-        FieldOutOfRange,
-        NoSuchWorker,
-        ArrivalOutOfRange,
-        TimePastLastBucket,
-        UnknownMark,
-        RecordCut,
-        WorkerBusy,
-        WorkerIdle,
-        CountExhausted,
-        NoFreeNode,
-    ];
-    let refusal = all[usize::from(number) - 1];
+    let refusal = match number {
+        1 => ShapeOutsideLimits,
+        2 => MemoryTooShort,
+        3 => FieldOutOfRange,
+        4 => NoSuchWorker,
+        5 => ArrivalOutOfRange,
+        7 => UnknownMark,
+        8 => RecordCut,
+        9 => WorkerBusy,
+        10 => WorkerIdle,
+        11 => CountExhausted,
+        12 => NoFreeNode,
+        _ => panic!("no refusal is {number}"),
+    };
     assert_eq!(refusal.number(), number);
     Err(refusal)
 }
@@ -224,14 +224,20 @@ impl Lent {
 
     /// Times met from a bucket's head to the end.
     pub fn times(&mut self, bucket: usize) -> Vec<u64> {
-        let mut times = Vec::new();
+        self.keys(bucket).iter().map(|key| key.0).collect()
+    }
+
+    /// Times and tickets, likewise.
+    pub fn keys(&mut self, bucket: usize) -> Vec<(u64, u64)> {
+        let mut keys = Vec::new();
         let mut node = word::successor(*self.head(bucket)) as usize;
         while node != self.shape.nodes as usize {
-            times.push(*self.node_word(node, field::TIME));
-            assert!(times.len() <= self.shape.nodes as usize, "cycle");
+            let time = *self.node_word(node, field::TIME);
+            keys.push((time, *self.node_word(node, field::TICKET)));
+            assert!(keys.len() <= self.shape.nodes as usize, "cycle");
             node = word::successor(*self.node_word(node, field::LINK)) as usize;
         }
-        times
+        keys
     }
 
     /// Makes a call and checks what every call must keep.

@@ -67,6 +67,7 @@ impl Both {
     pub fn call(&mut self, shape: Shape, call: Call) -> raw::Answer {
         CALLS.fetch_add(1, Ordering::Relaxed);
         let answer = Lent::of(self.store.lent(), self.table.lent()).call(shape, call);
+        assert_ne!(answer.number, 6, "{shape:?} {call:?}");
         let expected = translate::answer(self.call_second(shape, call));
         assert_eq!(answer, expected, "{shape:?} {call:?}");
         self.compare(shape, call);

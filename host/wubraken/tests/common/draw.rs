@@ -1,15 +1,16 @@
 //! Arguments and memory at random.
 
 use schedule::lent::{fields, often_small, Memory};
-use schedule::Random;
+use schedule::{times, Random};
 use wubraken::{Arrival, Shape, Worker};
 
 use super::guarded::{GARBAGE, GARBAGE_RECORD};
 use super::translate;
 
-/// Mostly in range; each field sometimes at its bound, past it, or far past it.
+/// At any time. Mostly in range; each other field sometimes at its bound, past it, or
+/// far past it.
 pub fn any_arrival(random: &mut Random, shape: Shape) -> Arrival {
-    let limit = (shape.buckets * shape.width) as u32;
+    let time = times::any(random, translate::shape(shape));
     let mut field = |least: u32, most: u32| match random.below(24) {
         0 => least.wrapping_sub(1),
         1 => most + 1,
@@ -19,7 +20,7 @@ pub fn any_arrival(random: &mut Random, shape: Shape) -> Arrival {
         _ => random.between(least, most),
     };
     Arrival {
-        time: field(0, limit - 1),
+        time,
         path: field(0, Arrival::MAX_PATH),
         order: field(0, Arrival::MAX_ORDER),
         distance: field(1, Arrival::MAX_DISTANCE),
