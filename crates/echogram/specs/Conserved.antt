@@ -1,5 +1,4 @@
 -- Recordings one after the other, refused ones included: the sum of the slots is what was recorded.
---     energyAt                               the energy of recording n, where it is not refused
 --     conserved                              the sum after n recordings is the sum before them and their energies
 --     cleared-conserved                      from a cleared row on, the sum of the slots is the sum of the energies
 --     after-length                           the row keeps its slots
@@ -15,11 +14,8 @@ use lib.Dec.{eqb}
 use lib.ListN.{length}
 use borrow.Author.Tests.{ne-eqb}
 use Rattle.laws.specs.Counting.{sum}
-use Rattle.echogram.specs.Row.{Recording, sumOf, most, recordAnswer, recorded, clearAnswer, cleared, rowAfter, answerAt}
+use Rattle.echogram.specs.Row.{Recording, sumOf, most, recordAnswer, recorded, clearAnswer, cleared, rowAfter, answerAt, energyAt}
 use Rattle.echogram.specs.Recorded.{Accepted, record-accepted, recorded-length, sum-gains, sum-kept, sum-cleared}
-
-abbrev pub energyAt : List ℕ → (ℕ → Recording) → ℕ → ℕ
-energyAt row rs n = cond (eqb (answerAt row rs n) 0) (rs n .energy) 0
 
 -- one recording more
 one-more : (row : List ℕ) (r : Recording) → sumOf (recorded row r) ≡ sumOf row + cond (eqb (recordAnswer row r) 0) (r .energy) 0

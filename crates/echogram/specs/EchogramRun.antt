@@ -12,9 +12,8 @@ use Prim.Native.Nat.{ℕ}
 use lib.ListN.{getD}
 use Rattle.laws.specs.Counting.{sum}
 use Rattle.laws.specs.Lists.{wordsFrom}
-use Rattle.echogram.specs.Row.{Recording, outside, sumOf, recordAnswer, recorded, clearAnswer, cleared, rowAfter, answerAt}
+use Rattle.echogram.specs.Row.{Recording, outside, sumOf, recordAnswer, recorded, clearAnswer, cleared, rowAfter, answerAt, energyAt}
 use Rattle.echogram.specs.Series.{recording, seriesRefusal, SeriesEnd, series}
-use Rattle.echogram.specs.Conserved.{energyAt}
 
 limits :
     (outside 1 1 ≡ false)

@@ -6,6 +6,7 @@
 --     recordTests, recordAnswer, recorded    the refusals in their order; the answer, and the row that a recording leaves
 --     clearAnswer, cleared                   the answer, and the row that clearing leaves
 --     rowAfter, answerAt                     recordings one after the other: the row that the first n leave, and the answer to the next
+--     energyAt                               the energy that the next one adds: all of it, or refused none
 -- Assumes nothing.
 use mathlib.Core.List.{List, [], _∷_}
 use mathlib.Core.Bool.{Bool, cond, _||_}
@@ -72,3 +73,7 @@ rowAfter row rs (suc n) = recorded (rowAfter row rs n) (rs n)
 
 abbrev pub answerAt : List ℕ → (ℕ → Recording) → ℕ → ℕ
 answerAt row rs n = recordAnswer (rowAfter row rs n) (rs n)
+
+-- the energy of recording n, where it is not refused
+abbrev pub energyAt : List ℕ → (ℕ → Recording) → ℕ → ℕ
+energyAt row rs n = cond (eqb (answerAt row rs n) 0) (rs n .energy) 0

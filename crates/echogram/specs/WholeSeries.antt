@@ -20,9 +20,9 @@ use Rattle.laws.specs.Tests.{neither}
 use Rattle.laws.specs.Lists.{wordsFrom, words-at}
 use Rattle.laws.specs.Counting.{sum}
 use Rattle.laws.specs.FirstOf.{Lowest, lowest-of}
-use Rattle.echogram.specs.Row.{outside, sumOf, rowAfter, answerAt}
+use Rattle.echogram.specs.Row.{outside, sumOf, rowAfter, answerAt, energyAt}
 use Rattle.echogram.specs.Series.{inSeries, uneven, seriesTests, seriesRefusal, SeriesEnd, series}
-use Rattle.echogram.specs.Conserved.{energyAt, conserved}
+use Rattle.echogram.specs.Conserved.{conserved}
 
 pub one-length : (times energies answers : List ℕ) → uneven times energies answers ≡ false
     → (length energies ≡ length times) × (length answers ≡ length times)
