@@ -1,6 +1,6 @@
-/* An echogram by itself: a row is cleared, and recorded to one by one and in a
- * series. Prints what is answered, and the slots. It needs no pool, and of the
- * archives only libechogram.a. */
+/* An echogram: a row is cleared, and recorded to one by one, in a series, and as a
+ * pool is drained. Prints what is answered, and the slots. Only the last part needs
+ * a pool, and libwubraken.a beside libechogram.a. */
 #include <inttypes.h>
 #include <stdio.h>
 
@@ -62,6 +62,32 @@ static void series(void)
     print_answer(wubraken_record_series(SLOT_LENGTH, times, 5, energies, 4, answers, 5, row, SLOTS));
 }
 
+/* Two arrivals are put, taken and recorded: 2^24 / 3^2 and 2^24 / 10^2, rounded
+ * down. What no pool has answered, a time of 33 bits, lies past every row. */
+static void from_a_pool(void)
+{
+    static uint64_t store[WUBRAKEN_WORDS(2, 4)];
+    static wubraken_worker table[1];
+    const wubraken_shape shape = {1, 2, 4, 480};
+    const wubraken_arrival late = {1439, 7, 1, 10}, early = {5, 7, 0, 3};
+    wubraken_pool pool;
+    wubraken_answer taken;
+
+    puts("from a pool:");
+    print_answer(wubraken_clear_row(SLOT_LENGTH, row, SLOTS));
+    wubraken_pool_open(&pool, shape, store, WUBRAKEN_WORDS(2, 4), table, 1);
+    wubraken_pool_put(&pool, 0, late, UINT64_MAX);
+    wubraken_pool_put(&pool, 0, early, UINT64_MAX);
+    taken = wubraken_pool_take(&pool, 0, UINT64_MAX);
+    while (taken.kind == WUBRAKEN_TOOK) {
+        print_answer(wubraken_record_taken(SLOT_LENGTH, taken, row, SLOTS));
+        taken = wubraken_pool_take(&pool, 0, UINT64_MAX);
+    }
+    taken.time = (uint64_t)1 << 32;
+    print_answer(wubraken_record_taken(SLOT_LENGTH, taken, row, SLOTS));
+    print_row();
+}
+
 int main(void)
 {
     puts("a slot length outside its limits:");
@@ -69,5 +95,6 @@ int main(void)
     print_row();
     one_by_one();
     series();
+    from_a_pool();
     return 0;
 }

@@ -21,8 +21,8 @@
  *   knows no pool.
  *
  * What the caller owes: a pointer leads to as many elements as its length says,
- * is aligned, and is not null even for a length of 0; the buffers of one call
- * lie apart; nobody else uses them during the call. Nothing more. Any shape,
+ * is aligned, and is not null even for a length of 0; a buffer that is written
+ * lies apart from the others of its call; nobody else uses them during the call. Nothing more. Any shape,
  * length, content and argument may be handed in; an opening, a start, a turn or a
  * recording that cannot be done is refused by a number and changes nothing.
  *
@@ -140,7 +140,7 @@ static inline const char *wubraken_refusal_text(uint64_t number)
     case WUBRAKEN_BAD_SHAPE:
         return "the shape is outside its limits; workers 1 to 64, nodes 1 to 4096, buckets 1 to 256, width 1 to 65535";
     case WUBRAKEN_TOO_SHORT:
-        return "the memory is too short; lend the words that the shape needs, and a record for each worker; to a series as many energies and answers as times";
+        return "the memory is too short: lend the words that the shape needs, and a record for each worker; or the times, energies and answers of a series are not equally many";
     case WUBRAKEN_OUT_OF_RANGE:
         return "the memory is out of range; lend it as the pool left it, or open the pool again";
     case WUBRAKEN_NO_WORKER:
@@ -294,6 +294,17 @@ uint64_t wubraken_clear_row(uint64_t slot_length, uint32_t *row, size_t slots);
  * row, to add it up. Refusals: 13 to 15. */
 uint64_t wubraken_record(uint64_t slot_length, uint32_t time, uint32_t energy,
                          uint32_t *row, size_t slots);
+
+/* Records what a take answered, as it stands. Its energy is at most 2^24. Its time
+ * has 32 bits where only the pool has written to its memory since an opening, and
+ * so it has after an audit; a greater one lies past every row. Refusals: 13 to 15. */
+static inline uint64_t wubraken_record_taken(uint64_t slot_length, wubraken_answer taken,
+                                             uint32_t *row, size_t slots)
+{
+    const uint64_t most = 4294967295u;
+    uint32_t time = (uint32_t)(taken.time < most ? taken.time : most);
+    return wubraken_record(slot_length, time, (uint32_t)taken.energy, row, slots);
+}
 
 /* A series of recordings, one by one, and the answer to each: 0, 14 or 15. It adds
  * up the row once. The three counts must be one number. `times` and `energies` are

@@ -13,9 +13,9 @@ use Rattle.laws.specs.Tests.{by-test}
 unfoldable pub energyOf : ℕ → ℕ
 energyOf d = cond (eqb d 0) 0 (16777216 / (d * d))
 
-at-most : (n d : ℕ) → n ≤ 16777216 → cond (eqb d 0) 0 (n / (d * d)) ≤ 16777216
-at-most n d h = by-test (λ x. x ≤ 16777216) (eqb d 0) (λ _. omega arith) (λ _. omega (arith, div-le-self n (d * d)))
+at-most : (n b d : ℕ) → n ≤ b → cond (eqb d 0) 0 (n / (d * d)) ≤ b
+at-most n b d h = by-test (λ x. x ≤ b) (eqb d 0) (λ _. omega arith) (λ _. omega (arith, div-le-self n (d * d)))
 
 pub energy-most : (d : ℕ) → energyOf d ≤ 16777216
 unfolding energyOf
-energy-most d = at-most _ d (omega arith)
+energy-most d = at-most _ _ d (omega arith)

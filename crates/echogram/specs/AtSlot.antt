@@ -1,5 +1,5 @@
 -- An energy added to a slot, once row and slot length are within their limits: what is left of a recording when its slot is known.
---     addTests, headroomOf                   what refuses it; the headroom that the sum leaves
+--     headroomOf                             the headroom that the sum leaves
 --     addAnswer, addedTo                     the answer, and the row that is left
 --     slot-in-sum                            no slot is above the sum,
 --     sum-decides                            so that of 15 the sum decides
@@ -8,7 +8,7 @@
 --     sum-added                              the sum gains what a slot gains
 -- Assumes nothing.
 use mathlib.Core.Path.{_≡_, refl, sym, ap, _∙_}
-use mathlib.Core.List.{List, [], _∷_}
+use mathlib.Core.List.{List}
 use mathlib.Core.Bool.{Bool, true, false, cond, _||_}
 use Prim.Native.Nat.{ℕ, _+_, _-_, _≤_, _<_}
 use native.Mathlib.Omega.{arith}
@@ -17,17 +17,14 @@ use lib.ListN.{length, getD, length-set}
 use borrow.Author.Tests.{ltb-true, lt-ltb, le-ltb, le-leb, lt-leb}
 use Rattle.laws.specs.Counting.{sum, sum-at, sum-set}
 use Rattle.laws.specs.FirstOf.{firstOf}
-use Rattle.echogram.specs.Row.{added, pastRow, sumOf, most, tooLarge}
-
-abbrev pub addTests : List ℕ → ℕ → ℕ → List (ℕ × Bool)
-addTests row k e = (14, pastRow row k) ∷ (15, tooLarge row k e) ∷ []
+use Rattle.echogram.specs.Row.{added, sumOf, most, tooLarge, slotTests}
 
 -- what energies must stay below to fit: 0 where the sum is already above 2^32 − 1
 unfoldable pub headroomOf : List ℕ → ℕ
 headroomOf row = 4294967296 - sumOf row
 
 unfoldable pub addAnswer : List ℕ → ℕ → ℕ → ℕ
-addAnswer row k e = firstOf (addTests row k e)
+addAnswer row k e = firstOf (slotTests row k e)
 
 unfoldable pub addedTo : List ℕ → ℕ → ℕ → List ℕ
 addedTo row k e = cond (eqb (addAnswer row k e) 0) (added row k e) row

@@ -9,11 +9,10 @@ use mathlib.Core.Path.{_≡_, refl}
 use mathlib.Core.List.{List, [], _∷_}
 use mathlib.Core.Bool.{true, false}
 use Prim.Native.Nat.{ℕ}
-use lib.ListN.{getD}
 use Rattle.laws.specs.Counting.{sum}
 use Rattle.laws.specs.Lists.{wordsFrom}
 use Rattle.echogram.specs.Row.{Recording, outside, sumOf, recordAnswer, recorded, clearAnswer, cleared, rowAfter, answerAt, energyAt}
-use Rattle.echogram.specs.Series.{recording, seriesRefusal, SeriesEnd, series}
+use Rattle.echogram.specs.Series.{recording, inSeries, seriesRefusal, SeriesEnd, series}
 
 limits :
     (outside 1 1 ≡ false)
@@ -39,9 +38,11 @@ slots :
     × (recordAnswer three (recording 10 4294967295 5) ≡ 14)
     × (recorded three (recording 10 29 4294967289) ≡ 1 ∷ 2 ∷ 4294967292 ∷ [])
     × (recordAnswer three (recording 10 29 4294967290) ≡ 15)
+    × (recorded three (recording 10 29 4294967290) ≡ three)
     × (recordAnswer three (recording 0 0 5) ≡ 13)
+    × (recorded three (recording 0 0 5) ≡ three)
 unfolding three recorded recordAnswer sumOf
-slots = (refl, refl, refl, refl, refl, refl, refl, refl, refl, refl, refl)
+slots = (refl, refl, refl, refl, refl, refl, refl, refl, refl, refl, refl, refl, refl)
 
 -- 2^32 − 2 in the first slot, x in the second
 with : ℕ → List ℕ
@@ -76,7 +77,7 @@ energies : List ℕ
 energies = 5 ∷ 6 ∷ 7 ∷ 4294967290 ∷ 3 ∷ []
 
 abbrev nth : ℕ → Recording
-nth i = recording 10 (getD times i 0) (getD energies i 0)
+nth = inSeries 10 times energies
 
 five :
     (cleared 10 three ≡ 0 ∷ 0 ∷ 0 ∷ [])

@@ -3,12 +3,13 @@
 --     clear-lowest                           of clearing, too, it is the lowest
 --     Limits, limits-of                      what a row that is not outside its limits may count on
 --     Accepted, record-accepted              what a recording that is not refused may count on
+--     refused-unchanged                      refused, the row is unchanged
 --     slot-gains, others-unchanged           the slot gains the energy; every other slot is unchanged, refused or not
---     refused-unchanged, clear-refused       refused, the row is unchanged
---     recorded-length, cleared-length        the row has as many slots as before
+--     recorded-length                        the row has as many slots as before
+--     clear-refused, cleared-length          the same of clearing
 --     sum-gains, sum-kept                    the sum gains the energy; refused, nothing
 --     sum-cleared                            a cleared row has the sum 0
---     refused-13, by-its-slot, slot-left     which answer: outside the limits; within them, by the slot alone; and the row
+--     refused-13, by-its-slot, slot-left     which answer: outside the limits 13; within them what the slot decides, and the row
 --     refused-14                             the slot past the row
 --     full-refused                           where the sum is already above 2^32 − 1 it is 15, even for energy 0
 --     clear-13, when-cleared                 which answer of clearing, and the row
@@ -44,7 +45,7 @@ pub clear-lowest : (slotLength : ℕ) (row : List ℕ) → Lowest (clearAnswer s
 unfolding clearAnswer
 clear-lowest slotLength row = lowest-of ((13, outside slotLength (length row)) ∷ []) refl
 
--- a row within its limits, of slots within theirs
+-- the number of slots and the slot length within their limits
 pub record Limits (slotLength slots : ℕ) : Type 0 where
   pub a-slot : 1 ≤ slots
   pub slots-most : slots ≤ 16384

@@ -3,7 +3,8 @@
 --     outside                                13: the row or the slot length outside its limits
 --     added                                  the row with an energy added to one slot
 --     pastRow, sumOf, most, tooLarge         14: the slot past the row; 15: the slot or the whole sum above 2^32 − 1
---     recordTests, recordAnswer, recorded    the refusals in their order; the answer, and the row that a recording leaves
+--     slotTests, recordTests                 the refusals in their order
+--     recordAnswer, recorded                 the answer, and the row that a recording leaves
 --     clearAnswer, cleared                   the answer, and the row that clearing leaves
 --     rowAfter, answerAt                     recordings one after the other: the row that the first n leave, and the answer to the next
 --     energyAt                               the energy that the next one adds: all of it, or refused none
@@ -48,9 +49,12 @@ most = 4294967295
 abbrev pub tooLarge : List ℕ → ℕ → ℕ → Bool
 tooLarge row k e = ltb most (getD row k 0 + e) || ltb most (sumOf row + e)
 
+-- 14 and 15, of slot k and energy e; 13 comes before them
+abbrev pub slotTests : List ℕ → ℕ → ℕ → List (ℕ × Bool)
+slotTests row k e = (14, pastRow row k) ∷ (15, tooLarge row k e) ∷ []
+
 abbrev pub recordTests : List ℕ → Recording → List (ℕ × Bool)
-recordTests row r =
-    (13, outside (r .slotLength) (length row)) ∷ (14, pastRow row (slotOf r)) ∷ (15, tooLarge row (slotOf r) (r .energy)) ∷ []
+recordTests row r = (13, outside (r .slotLength) (length row)) ∷ slotTests row (slotOf r) (r .energy)
 
 -- 0, or the number of the refusal
 unfoldable pub recordAnswer : List ℕ → Recording → ℕ

@@ -3,7 +3,7 @@
 --     along-none         before the first
 --     grid-serves        the grid stays the row's
 --     next-headroom      the headroom goes on with what is left of it
---     within-headroom    what was recorded was within it
+--     within-headroom    what was recorded was below it
 --     along-more         one more
 --     along-all          after all of them
 -- Assumes nothing.
@@ -11,7 +11,7 @@ use mathlib.Core.Path.{_≡_, refl, sym, ap, subst⁻¹, _∙_}
 use mathlib.Core.List.{List, _++_, append-nil}
 use mathlib.Core.Bool.{false}
 use mathlib.Core.Logic.{_≢_, _⊎_, inl, inr}
-use Prim.Native.Nat.{ℕ, _+_, _-_, _≤_, _<_}
+use Prim.Native.Nat.{ℕ, _+_, _-_, _<_}
 use native.Mathlib.Numerals.{add-one}
 use native.Mathlib.Omega.{arith}
 use lib.ListN.{length, set, drop, length-set}
@@ -49,8 +49,8 @@ unfolding headroomOf
 next-headroom row r free next answer e a (inl (z, n)) = omega (arith, sum-gains row r (sym a ∙ z))
 next-headroom row r free next answer e a (inr (z, n)) = omega (arith, sum-kept row r (λ q. z (a ∙ q)))
 
--- and an energy that was recorded was within it
-pub within-headroom : (row : List ℕ) (r : Recording) → recordAnswer row r ≡ 0 → r .energy ≤ headroomOf row
+-- and an energy that was recorded was below it
+pub within-headroom : (row : List ℕ) (r : Recording) → recordAnswer row r ≡ 0 → r .energy < headroomOf row
 unfolding headroomOf
 within-headroom row r e = omega (arith, record-accepted row r e .sum)
 

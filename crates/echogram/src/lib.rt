@@ -7,9 +7,9 @@ use row::headroom_of;
 use row::is_outside;
 use series::record_each;
 
-pub mod grid;
-pub mod row;
-pub mod series;
+mod grid;
+mod row;
+mod series;
 
 // Clears a row: every slot is 0. The answer is 0, or the number of the refusal.
 #[no_mangle]

@@ -10,19 +10,23 @@ use crate::arguments::Arguments;
 use crate::report::{heading, row, Target};
 use crate::timing::{best, cycles_in_a_millisecond, keep, nanoseconds_each, time, unknown, SHORT};
 
-const SLOTS: [usize; 3] = [100, 1_000, Echogram::MAX_SLOTS];
+const SLOTS: [usize; 4] = [10, 100, 1_000, Echogram::MAX_SLOTS];
 /// A millisecond.
 const SLOT_LENGTH: u32 = 48;
 const RECORDINGS: usize = 100_000;
+/// How many of them are a series.
+const PIECES: [usize; 2] = [RECORDINGS, 16];
 
 pub fn run(arguments: &Arguments) {
     heading(
         "An echogram by series: nanoseconds a recording, ours and the second program's",
-        "(100,000 recordings at random in a cleared row, which is added up once; the second program's\n \
-         loop, by a pointer to a function, carries the sum, too)",
+        "(100,000 recordings at random in a cleared row, which is added up once a series; the second\n \
+         program's loop, by a pointer to a function, carries the sum, too)",
     );
-    for slots in SLOTS {
-        series(arguments, slots);
+    for piece in PIECES {
+        for slots in SLOTS {
+            series(arguments, slots, piece);
+        }
     }
     heading(
         "An echogram by single recordings: nanoseconds, and for one pass over the row",
@@ -34,8 +38,8 @@ pub fn run(arguments: &Arguments) {
     }
 }
 
-fn series(arguments: &Arguments, slots: usize) {
-    let series = Series::draw(slots);
+fn series(arguments: &Arguments, slots: usize, piece: usize) {
+    let series = Series::draw(slots, piece);
     let mut ours = Side::new(&series, slots, record_ours);
     let mut second = Side::new(&series, slots, record_second);
     assert!(ours.run() == second.run(), "the echograms differ");
@@ -44,7 +48,10 @@ fn series(arguments: &Arguments, slots: usize) {
         [&mut || vec![ours.time()], &mut || vec![second.time()]],
     )
     .map(|time| nanoseconds_each(time, RECORDINGS));
-    let (name, ratio) = (format!("{slots} slots"), each[1] / each[0]);
+    let (name, ratio) = (
+        format!("{slots} slots, {piece} a series"),
+        each[1] / each[0],
+    );
     row(&name, each, "ns", ratio, Target::AtLeast(1.0));
 }
 
@@ -52,20 +59,23 @@ fn series(arguments: &Arguments, slots: usize) {
 struct Series {
     times: Vec<u32>,
     energies: Vec<u32>,
+    piece: usize,
 }
 
 impl Series {
-    fn draw(slots: usize) -> Self {
+    fn draw(slots: usize, piece: usize) -> Self {
         let mut random = Random::new(slots as u64);
         let span = SLOT_LENGTH * slots as u32;
         Self {
             times: (0..RECORDINGS).map(|_| random.below(span)).collect(),
             energies: (0..RECORDINGS).map(|_| random.below(10_000)).collect(),
+            piece,
         }
     }
 }
 
-type Record = fn(&Series, &mut [u8], &mut [u32]);
+/// Times, energies, answers and row.
+type Record = fn(&[u32], &[u32], &mut [u8], &mut [u32]);
 
 /// A contestant: who records, and into what.
 struct Side<'a> {
@@ -87,7 +97,16 @@ impl<'a> Side<'a> {
 
     fn time(&mut self) -> Duration {
         self.row.fill(0);
-        time(|| (self.record)(self.series, &mut self.answers, &mut self.row))
+        let (series, record) = (self.series, self.record);
+        let (answers, row) = (&mut self.answers, &mut self.row);
+        let times = series.times.chunks(series.piece);
+        let energies = series.energies.chunks(series.piece);
+        let pieces = times.zip(energies).zip(answers.chunks_mut(series.piece));
+        time(|| {
+            for ((times, energies), answers) in pieces {
+                record(times, energies, answers, row);
+            }
+        })
     }
 
     /// The answers and the row. Every recording is accepted.
@@ -99,32 +118,31 @@ impl<'a> Side<'a> {
     }
 }
 
-fn record_ours(series: &Series, answers: &mut [u8], row: &mut [u32]) {
+fn record_ours(times: &[u32], energies: &[u32], answers: &mut [u8], row: &mut [u32]) {
     Echogram::resume(row, SLOT_LENGTH.into())
-        .record_series(&series.times, &series.energies, answers)
+        .record_series(times, energies, answers)
         .expect("the row is within its limits");
 }
 
 /// By a pointer, so that it is not compiled for this slot length.
-fn record_second(series: &Series, answers: &mut [u8], row: &mut [u32]) {
+fn record_second(times: &[u32], energies: &[u32], answers: &mut [u8], row: &mut [u32]) {
     type RecordSeries =
         fn(u64, &[u32], &[u32], &mut [u8], &mut [u32]) -> Result<(), second::Refusal>;
     let record: RecordSeries = unknown(second::record_series);
-    let (times, energies) = (&series.times, &series.energies);
     record(SLOT_LENGTH.into(), times, energies, answers, row)
         .expect("the row is within its limits");
 }
 
 fn single(arguments: &Arguments, slots: usize) {
-    let times = Series::draw(slots).times;
+    let times = Series::draw(slots, RECORDINGS).times;
     let mut echogram = Echogram::new(slots, SLOT_LENGTH.into()).expect("so many slots will do");
-    let mut summed = vec![1; slots];
+    let summed = vec![1; slots];
     let count = cycles_in_a_millisecond(|| time_single(&mut echogram, &times[..1]));
     let times = &times[..count];
     let each = best(
         SHORT * arguments.rounds,
         [&mut || vec![time_single(&mut echogram, times)], &mut || {
-            vec![time_passes(&mut summed, count)]
+            vec![time_passes(&summed, count)]
         }],
     )
     .map(|time| nanoseconds_each(time, count));
@@ -135,18 +153,15 @@ fn single(arguments: &Arguments, slots: usize) {
 fn time_single(echogram: &mut Echogram, times: &[u32]) -> Duration {
     time(|| {
         for &time in times {
-            echogram.record(time, 1).expect("there is room for it");
+            echogram.record(time, 1).expect("the sum stays small");
         }
     })
 }
 
-fn time_passes(row: &mut [u32], passes: usize) -> Duration {
+fn time_passes(row: &[u32], passes: usize) -> Duration {
     time(|| {
-        for place in 0..passes {
-            // So that no pass is like the one before.
-            let place = place % row.len();
-            row[place] ^= 1;
-            keep(sum(row));
+        for _ in 0..passes {
+            keep(sum(unknown(row)));
         }
     })
 }

@@ -9,8 +9,7 @@ use crate::trace::Trace;
 /// are: so weak slots show, beside strong ones.
 const MOST_MARKS: u64 = 60;
 
-/// From the first slot that is not empty to the last; then the sums, which are the
-/// same unless a recording was refused.
+/// All slots; then the sums, which are the same unless a recording was refused.
 pub fn push_picture(text: &mut String, trace: &Trace) {
     let milliseconds = trace.slot_length / SAMPLES_PER_MILLISECOND;
     let _ = writeln!(
@@ -34,12 +33,10 @@ pub fn push_picture(text: &mut String, trace: &Trace) {
 
 fn push_bars(text: &mut String, row: &[u32], milliseconds: u64) {
     let strongest = row.iter().copied().max().unwrap_or(0);
-    let last = row.iter().rposition(|&energy| energy > 0);
-    let row = &row[..last.map_or(0, |last| last + 1)];
-    let _ = writeln!(text, " slot     ms    energy");
-    for (slot, &energy) in (0..).zip(row).skip_while(|(_, &energy)| energy == 0) {
+    let _ = writeln!(text, " slot     ms     energy");
+    for (slot, &energy) in (0..).zip(row) {
         let (start, bar) = (slot * milliseconds, "#".repeat(marks(energy, strongest)));
-        let line = format!("{slot:>5}{start:>7}{energy:>10} {bar}");
+        let line = format!("{slot:>5}{start:>7} {energy:>10} {bar}");
         let _ = writeln!(text, "{}", line.trim_end());
     }
 }

@@ -84,6 +84,8 @@ fn a_sum_that_is_too_large_is_counted() {
     );
     assert_eq!((trace.past_row, trace.sum_too_large), (0, 377 - 255));
     let text = report(job.shape, &trace);
+    let first = format!("    0      0 4278190080 {}\n", "#".repeat(60));
+    assert!(text.contains(&first), "{text}");
     assert!(text.ends_with(
         "sum of the slots: 4278190080; of the energies taken: 6325010432\n\
          recordings refused: 0 past the row (14), 122 by a sum above 2^32 - 1 (15)\n"
@@ -111,15 +113,18 @@ fn bars_by_hand() {
     let [half, all, tenth, quarter] = [43, 60, 19, 30].map(|marks| "#".repeat(marks));
     let expected = format!(
         "11 slots of 2 ms; bars by the square root of the energy, the strongest slot has 60\n \
-         slot     ms    energy\n    \
-         2      4    500000 {half}\n    \
-         3      6   1000000 {all}\n    \
-         4      8    100000 {tenth}\n    \
-         5     10    250000 {quarter}\n    \
-         6     12         0\n    \
-         7     14       278 ##\n    \
-         8     16       277 #\n    \
-         9     18         1 #\n\
+         slot     ms     energy\n    \
+         0      0          0\n    \
+         1      2          0\n    \
+         2      4     500000 {half}\n    \
+         3      6    1000000 {all}\n    \
+         4      8     100000 {tenth}\n    \
+         5     10     250000 {quarter}\n    \
+         6     12          0\n    \
+         7     14        278 ##\n    \
+         8     16        277 #\n    \
+         9     18          1 #\n   \
+         10     20          0\n\
          sum of the slots: 1850556; of the energies taken: 0\n\
          recordings refused: 0 past the row (14), 0 by a sum above 2^32 - 1 (15)\n"
     );
@@ -135,11 +140,12 @@ fn an_echogram_without_a_recording() {
     job.hall.source = [300, 700, 150];
     let trace = trace(&job).unwrap();
     assert_eq!((trace.taken().len(), trace.past_row), (1, 1));
-    assert_eq!(
-        picture(&trace),
-        "40 slots of 1 ms; bars by the square root of the energy, the strongest slot has 60\n \
-         slot     ms    energy\n\
-         sum of the slots: 0; of the energies taken: 41943\n\
+    let picture = picture(&trace);
+    let lines: Vec<&str> = picture.lines().collect();
+    assert_eq!(lines.len(), 2 + SLOTS + 2);
+    assert!(lines[2..][..SLOTS].iter().all(|line| line.ends_with(" 0")));
+    assert!(picture.ends_with(
+        "sum of the slots: 0; of the energies taken: 41943\n\
          recordings refused: 1 past the row (14), 0 by a sum above 2^32 - 1 (15)\n"
-    );
+    ));
 }

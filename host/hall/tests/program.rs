@@ -68,7 +68,7 @@ fn the_tail_is_counted() {
 
 /// The lines of the slots: number, start in milliseconds, energy, and the bar.
 fn slots(text: &str) -> Vec<(u64, u64, u64, usize)> {
-    let (_, echogram) = text.split_once(" slot     ms    energy\n").unwrap();
+    let (_, echogram) = text.split_once(" slot     ms     energy\n").unwrap();
     let (slots, _) = echogram.split_once("sum of the slots: ").unwrap();
     let parse = |line: &str| {
         let words: Vec<&str> = line.split_whitespace().collect();
@@ -91,7 +91,7 @@ fn taken(text: &str) -> Vec<(u64, u64)> {
 }
 
 /// In the list each energy stands beside its time; in the echogram it is in the slot of
-/// that time. A line for each slot from the first that is not empty to the last.
+/// that time. Each slot has a line.
 ///
 /// 40 slots of a millisecond have 1,920 samples. The last reflection of order 5 comes from
 /// 124 metres, by front and rear wall: 17,353 samples, more than 9 times as many. That of
@@ -116,15 +116,12 @@ fn the_echogram_has_the_energies_of_the_list() {
             sum += energy;
         }
         let slots = slots(&text);
-        assert!([slots.first(), slots.last()]
-            .iter()
-            .all(|slot| slot.unwrap().2 > 0));
-        for &(slot, start, energy, _) in &slots {
-            assert_eq!((start, energy), (slot * milliseconds, row[slot as usize]));
-            row[slot as usize] = 0;
+        assert_eq!(slots.len(), row.len());
+        for (slot, energy) in (0..).zip(row) {
+            let (number, start, printed, _) = slots[slot as usize];
+            assert_eq!((number, start), (slot, slot * milliseconds));
+            assert_eq!(printed, energy);
         }
-        assert_eq!(row, [0; 40]);
-        assert!(slots.windows(2).all(|pair| pair[0].0 + 1 == pair[1].0));
         let sums = format!("sum of the slots: {sum}; of the energies taken: {sum}\n");
         let refused = "recordings refused: 0 past the row (14), 0 by a sum above 2^32 - 1 (15)\n";
         assert!(text.ends_with(&format!("{sums}{refused}")), "{text}");
@@ -139,10 +136,13 @@ fn the_echogram_has_the_energies_of_the_list() {
 #[test]
 fn the_bars_of_the_default_run() {
     let slots = slots(&text(&[]));
-    assert_eq!(slots.len(), 33 - 5 + 1);
-    assert_eq!(slots[..2], [(5, 25, 167_772, 59), (6, 30, 167_772, 59)]);
-    assert_eq!(slots[11 - 5], (11, 55, 176_834, 60));
-    assert_eq!(slots[33 - 5], (33, 165, 4_987, 11));
+    assert_eq!(slots[5..7], [(5, 25, 167_772, 59), (6, 30, 167_772, 59)]);
+    assert_eq!(slots[11], (11, 55, 176_834, 60));
+    assert_eq!(slots[33], (33, 165, 4_987, 11));
+    assert!(slots[..5]
+        .iter()
+        .chain(&slots[34..])
+        .all(|slot| slot.2 == 0));
 }
 
 /// 40 slots of a millisecond have the direct sound, and that by the floor; the 23 others

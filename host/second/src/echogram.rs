@@ -81,7 +81,8 @@ fn sum(row: &[u32]) -> i64 {
 
 /// Divides times by a slot length, by a multiplication each.
 struct Ruler {
-    /// (2^64 - 1) / length, rounded down: a little less than a sample's share of 2^64.
+    /// (2^64 - 1) / length, rounded down: a little less than a sample's share of a slot,
+    /// in parts of which a slot has 2^64.
     share: u64,
 }
 
@@ -94,8 +95,8 @@ impl Ruler {
     }
 
     /// time / length, rounded down. The shares of time + 1 samples are less than
-    /// (time + 1) / length, but by no more than 2^32, which is less than a share. So they
-    /// are at least time / length, and no whole number lies between the two.
+    /// (time + 1) / length slots, but by no more than 2^32 parts, which are less than a
+    /// share. So they are at least time / length, and no whole number lies between the two.
     fn slot_of(&self, time: u32) -> usize {
         let samples = u64::from(time) + 1;
         let shares = u128::from(samples) * u128::from(self.share);

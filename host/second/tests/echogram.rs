@@ -1,5 +1,5 @@
-//! The echogram: its limits, borders and refusals by hand, and what the paper says
-//! of every sequence of recordings on random ones.
+//! The echogram: its limits, borders and refusals by hand; random ones by its rules, U of
+//! docs/RULES.md.
 
 mod common;
 
@@ -561,7 +561,7 @@ fn on_seeds(seeds: Range<u64>, mut run: impl FnMut(&mut Random)) {
     }
 }
 
-/// The lowest number that applies, by the paper's sentences.
+/// The lowest number that applies (U6, U7).
 fn first_refusal(echogram: &Echogram, time: u32, energy: u32) -> Option<u8> {
     let Echogram { slot_length, row } = echogram;
     if row.is_empty() || row.len() > 16_384 || *slot_length == 0 || *slot_length > 4_800 {
@@ -576,8 +576,7 @@ fn first_refusal(echogram: &Echogram, time: u32, energy: u32) -> Option<u8> {
     does_pass.then_some(15)
 }
 
-/// Each recording of a case by itself: the answers, and the row after them. The paper
-/// says what each must do.
+/// Each recording of a case by itself: the answers, and the row after them (U3).
 fn one_by_one(case: &Case) -> (Vec<u8>, Vec<u32>) {
     let mut echogram = Echogram::new(case.slot_length, &case.row);
     let mut answers = Vec::new();
@@ -696,8 +695,7 @@ impl Sequence<'_> {
     }
 }
 
-/// For any sequence of recordings on a cleared row, the sum of the slots equals the sum
-/// of the energies handed to those not refused.
+/// From a clearing on, what the slots hold together is what was recorded (U12).
 #[test]
 fn the_sum_is_conserved() {
     let mut counts = Counts::default();

@@ -9,8 +9,8 @@ use crate::{answer, raw, Refusal, Taken};
 /// clearing on, the sum of the slots is that of the energies recorded. Sums go to
 /// 2^32 − 1, of each slot and of all together.
 ///
-/// The library tests what it is handed by itself, at every call; the wrapper tests
-/// nothing. A call asks `R` once for a slice and works on that one.
+/// The library judges what it is handed, at every call; the wrapper leaves that to it. A
+/// call asks `R` once for a slice and works on that one.
 ///
 /// ```
 /// use wubraken::{Echogram, Refusal};
@@ -54,8 +54,8 @@ impl Echogram {
 }
 
 impl<R> Echogram<R> {
-    /// A row as it is, whatever it holds. One whose sum is above 2^32 − 1 takes
-    /// nothing: each recording is refused by 15, or 14.
+    /// A row as it is, whatever it holds. One within its limits whose sum is above
+    /// 2^32 − 1 takes nothing: each recording is refused by 15, or 14.
     ///
     /// ```
     /// use wubraken::{Echogram, Refusal};

@@ -90,7 +90,7 @@ impl fmt::Display for Refusal {
         write!(f, "refused by {}: ", self.number())?;
         f.write_str(match self {
             Self::BadShape => return limits_of_a_shape(f),
-            Self::TooShort => "the memory is too short; lend the words that the shape needs, and a record for each worker; to a series as many energies and answers as times",
+            Self::TooShort => "the memory is too short: lend the words that the shape needs, and a record for each worker; or the times, energies and answers of a series are not equally many",
             Self::OutOfRange => "the memory is out of range; lend it as the pool left it, or open the pool again",
             Self::NoWorker => "there is no such worker; the first is 0, and the shape says how many there are",
             Self::BadArrival => return limits_of_an_arrival(f),

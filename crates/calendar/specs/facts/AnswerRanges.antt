@@ -1,9 +1,9 @@
--- The values that an answer carries are in their ranges, on any memory: what is out of range is refused by 3. So a taken arrival's time has 32 bits, and its
--- energy is at most 2^24.
+-- The values that an answer carries are in their ranges: of whole calls on any memory, for what is out of range is refused by 3, of narrow ones where the
+-- memory stays in range. So a taken arrival's time has 32 bits, and its energy is at most 2^24.
 --     ValuesInRange                          the values of a response
 --     found-values .. change-values          those of a turn, outcome by outcome
 --     outcome-values                         those of any action that is not refused
---     act-low, open-low                      refusals have numbers to 12
+--     open-low, act-low                      refusals have numbers to 12
 --     unless-values                          refused or done, the values are in their ranges
 --     act-values, open-values                so are those of a start, a turn or an opening
 --     AllInRange, history-values             of a history
@@ -27,7 +27,7 @@ use Rattle.arrival.specs.declared.Request.{Request}
 use Rattle.arrival.specs.declared.Response.{Response}
 use Rattle.arrival.specs.declared.Response.the-variants.{Opened, Begun, On, Stored, Took, Empty, Refused}
 use Rattle.arrival.specs.Energy.{energy-most}
-use Rattle.calendar.specs.rules.Layout.{Write}
+use Rattle.calendar.specs.rules.Layout.{Write, distanceAt}
 use Rattle.calendar.specs.rules.Ranges.{worker}
 use Rattle.calendar.specs.rules.Outcome.{Outcome}
 use Rattle.calendar.specs.rules.Starts.{enqueueStart, dequeueStart}
@@ -58,7 +58,8 @@ module _ (sh : Shape) (s : List ℕ) (store : StoreRanges sh (view sh s)) where
   found-values h (put-found e) = tt
   found-values {v = v} h (take-ends e) =
       let n = store .nodes (v .own) h in
-      (n .time, n .path, n .order, n .distance, energy-most _)
+      let energy = energy-most (distanceAt sh s (v .own)) in
+      (omega (arith, n .time), omega (arith, n .path), omega (arith, n .order), omega (arith, n .distance), omega (arith, energy))
 
   settled-values : {ws : List Write} {v : Worker} {o : Outcome} → v .own < sh .nodes → Settled sh s ws v o → ValuesInRange (o .response)
   settled-values h (at-end e f) = found-values h f

@@ -3,7 +3,7 @@ use mathlib.Core.Path.{_≡_, refl, sym, ap, _∙_}
 use mathlib.Core.List.{List, _++_, append-nil}
 use Prim.Native.Nat.{ℕ, _-_, _≤_}
 use native.Mathlib.Omega.{arith}
-use lib.ListN.{length, drop, replicate, length-set}
+use lib.ListN.{length, set, drop, replicate, length-set}
 use lib.Seq.{drop-length}
 use borrow.Author.Fill.{fill-none, fill-more}
 use borrow.Author.Needs.{needs}
@@ -43,8 +43,10 @@ loop-less c = search needs
 
 loop-again : tie.Need-loop-again Inv-loop μ-loop
 loop-again c =
-    let a = c .before .before .before .before .before .args in
-    (omega arith, simp length-set (c .before .loop .inv .1), cc (c .before .loop .inv .2, fill-more (c .before .loop .k) 0 (a .row .now) (omega arith)))
+    let row = c .before .before .before .before .before .args .row .now in
+    let k = c .before .loop .k in
+    let zeros = ap (λ (u : List ℕ). set u k 0) (c .before .loop .inv .2) ∙ fill-more k 0 row (omega arith) in
+    (omega arith, simp length-set (c .before .loop .inv .1), zeros)
 
 same-length : tie.Need-same-length Inv-loop μ-loop
 same-length c = c .before .loop .inv .1
