@@ -145,6 +145,21 @@ fn the_bars_of_the_default_run() {
         .all(|slot| slot.2 == 0));
 }
 
+/// Each line that the README shows of the default run is printed by it.
+#[test]
+fn the_readme_shows_the_default_run() {
+    let readme = include_str!("../../../README.md");
+    let (_, example) = readme.split_once("\n## An example\n").unwrap();
+    let (example, _) = example.split_once("\n## ").unwrap();
+    let indented = example.lines().filter_map(|line| line.strip_prefix("    "));
+    let shown: Vec<&str> = indented.filter(|line| !line.starts_with("cd ")).collect();
+    assert!(shown.len() > 6 + 2 + 10);
+    let text = text(&[]);
+    for line in shown {
+        assert!(text.lines().any(|printed| printed == line), "{line}");
+    }
+}
+
 /// 40 slots of a millisecond have the direct sound, and that by the floor; the 23 others
 /// come later.
 #[test]
