@@ -14,8 +14,14 @@ const SLOTS: [usize; 4] = [10, 100, 1_000, Echogram::MAX_SLOTS];
 /// A millisecond.
 const SLOT_LENGTH: u32 = 48;
 const RECORDINGS: usize = 100_000;
-/// How many of them are a series.
-const PIECES: [usize; 2] = [RECORDINGS, 16];
+/// How many of them are a series, and in which rows: in a long row a short series is
+/// nothing but the pass that adds it up.
+const PIECES: [(usize, &[usize]); 4] = [
+    (RECORDINGS, &SLOTS),
+    (16, &SLOTS),
+    (4, &[10, 100, 1_000]),
+    (1, &[10, 100, 1_000]),
+];
 
 pub fn run(arguments: &Arguments) {
     heading(
@@ -23,8 +29,8 @@ pub fn run(arguments: &Arguments) {
         "(100,000 recordings at random in a cleared row, which is added up once a series; the second\n \
          program's loop, by a pointer to a function, carries the sum, too)",
     );
-    for piece in PIECES {
-        for slots in SLOTS {
+    for (piece, rows) in PIECES {
+        for &slots in rows {
             series(arguments, slots, piece);
         }
     }
