@@ -1,4 +1,5 @@
-/* Wubraken: a pool of arrivals over memory that the caller lends.
+/* Wubraken: a pool of arrivals over memory that the caller lends, and an echogram
+ * that adds up what was taken.
  *
  * The pool keeps nothing of its own: every call gets the shape, a store of
  * words and a table with one record a worker. A call of a worker begins with
@@ -15,15 +16,19 @@
  *   wubraken_pool_audit, which does so once, and then the narrow calls.
  * - Where many turns are known beforehand, as in a turn file, wubraken_run_batch,
  *   which looks at every field once a batch.
+ * - For an echogram wubraken_clear_row, then wubraken_record, or for many taken
+ *   arrivals at once wubraken_record_series. It is handed a row of its own, and
+ *   knows no pool.
  *
  * What the caller owes: a pointer leads to as many elements as its length says,
- * is aligned, and is not null even for a length of 0; the buffers of one call
- * lie apart; nobody else uses them during the call. Nothing more. Any shape,
- * length, content and argument may be handed in; an opening, a start or a turn
- * that cannot be done is refused by a number and changes nothing.
+ * is aligned, and is not null even for a length of 0; a buffer that is written
+ * lies apart from the others of its call; nobody else uses them during the call. Nothing more. Any shape,
+ * length, content and argument may be handed in; an opening, a start, a turn or a
+ * recording that cannot be done is refused by a number and changes nothing.
  *
- * Link target/staticlib/libwubraken.a, and for wubraken_run_batch
- * target/staticlib/libwubraken_batch.a beside it (x86-64, System V).
+ * Link target/staticlib/libwubraken.a; for wubraken_run_batch
+ * target/staticlib/libwubraken_batch.a, and for an echogram
+ * target/staticlib/libechogram.a (x86-64, System V). None needs another.
  */
 #ifndef WUBRAKEN_H
 #define WUBRAKEN_H
@@ -43,7 +48,9 @@ enum {
     WUBRAKEN_MAX_WIDTH = 65535,
     WUBRAKEN_MAX_PATH = 65535,
     WUBRAKEN_MAX_ORDER = 63,
-    WUBRAKEN_MAX_DISTANCE = 1024
+    WUBRAKEN_MAX_DISTANCE = 1024,
+    WUBRAKEN_MAX_SLOTS = 16384,
+    WUBRAKEN_MAX_SLOT_LENGTH = 4800
 };
 
 /* What a pool is made for; each field is at least 1. Lend wubraken_words(shape)
@@ -109,18 +116,21 @@ enum {
 
 /* Why a call is refused. Of several reasons the lowest number is answered. */
 enum {
-    WUBRAKEN_BAD_SHAPE = 1,    /* a field of the shape is outside its limits */
-    WUBRAKEN_TOO_SHORT = 2,    /* the store or the table is too short for the shape */
-    WUBRAKEN_OUT_OF_RANGE = 3, /* a word of the store or a field of the table is out of its range */
-    WUBRAKEN_NO_WORKER = 4,    /* the shape has no such worker */
-    WUBRAKEN_BAD_ARRIVAL = 5,  /* path, order or distance is outside its limits */
-    WUBRAKEN_TOO_LATE = 6,     /* not given since Q-1 */
-    WUBRAKEN_UNKNOWN_MARK = 7, /* a turn file has two letters that begin no record */
-    WUBRAKEN_CUT_RECORD = 8,   /* a turn file ends inside a record */
-    WUBRAKEN_BUSY = 9,         /* the worker has a call in progress */
-    WUBRAKEN_IDLE = 10,        /* the worker has no call in progress */
-    WUBRAKEN_EXHAUSTED = 11,   /* tickets or epochs are used up: open the pool again */
-    WUBRAKEN_NO_NODE = 12      /* every node is in use or may still be stood on */
+    WUBRAKEN_BAD_SHAPE = 1,     /* a field of the shape is outside its limits */
+    WUBRAKEN_TOO_SHORT = 2,     /* store or table are too short for the shape, or the parts of a series differ in length */
+    WUBRAKEN_OUT_OF_RANGE = 3,  /* a word of the store or a field of the table is out of its range */
+    WUBRAKEN_NO_WORKER = 4,     /* the shape has no such worker */
+    WUBRAKEN_BAD_ARRIVAL = 5,   /* path, order or distance is outside its limits */
+    WUBRAKEN_TOO_LATE = 6,      /* not given since Q-1 */
+    WUBRAKEN_UNKNOWN_MARK = 7,  /* a turn file has two letters that begin no record */
+    WUBRAKEN_CUT_RECORD = 8,    /* a turn file ends inside a record */
+    WUBRAKEN_BUSY = 9,          /* the worker has a call in progress */
+    WUBRAKEN_IDLE = 10,         /* the worker has no call in progress */
+    WUBRAKEN_EXHAUSTED = 11,    /* tickets or epochs are used up: open the pool again */
+    WUBRAKEN_NO_NODE = 12,      /* every node is in use or may still be stood on */
+    WUBRAKEN_BAD_ROW = 13,      /* the row or the slot length is outside its limits */
+    WUBRAKEN_PAST_ROW = 14,     /* the slot of the time lies past the row */
+    WUBRAKEN_SUM_TOO_LARGE = 15 /* the slot or the sum of all slots would pass 2^32 - 1 */
 };
 
 /* What is wrong, and what to do. */
@@ -130,7 +140,7 @@ static inline const char *wubraken_refusal_text(uint64_t number)
     case WUBRAKEN_BAD_SHAPE:
         return "the shape is outside its limits; workers 1 to 64, nodes 1 to 4096, buckets 1 to 256, width 1 to 65535";
     case WUBRAKEN_TOO_SHORT:
-        return "the memory is too short; lend the words that the shape needs, and a record for each worker";
+        return "the memory is too short: lend the words that the shape needs, and a record for each worker; or the times, energies and answers of a series are not equally many";
     case WUBRAKEN_OUT_OF_RANGE:
         return "the memory is out of range; lend it as the pool left it, or open the pool again";
     case WUBRAKEN_NO_WORKER:
@@ -151,6 +161,12 @@ static inline const char *wubraken_refusal_text(uint64_t number)
         return "the tickets or the epochs are used up; open the pool again";
     case WUBRAKEN_NO_NODE:
         return "no node is free; end calls in progress, take arrivals, or open the pool with more nodes";
+    case WUBRAKEN_BAD_ROW:
+        return "the row or the slot length is outside its limits; slots 1 to 16384, slot length 1 to 4800";
+    case WUBRAKEN_PAST_ROW:
+        return "the slot lies past the row; use more slots, or longer ones";
+    case WUBRAKEN_SUM_TOO_LARGE:
+        return "the slot or the sum of all slots would pass 4294967295; clear the row, or go on in another";
     default:
         return "no refusal has this number";
     }
@@ -261,6 +277,44 @@ wubraken_batch_end wubraken_run_batch(wubraken_shape shape,
                                       uint8_t *out, size_t room,
                                       uint64_t *store, size_t words,
                                       wubraken_worker *table, size_t records);
+
+/* An echogram: a lent row of 1 to WUBRAKEN_MAX_SLOTS slots, to which the energies
+ * of taken arrivals are added. A slot has 1 to WUBRAKEN_MAX_SLOT_LENGTH samples; a
+ * time is of slot time / slot_length, rounded down. Nothing but the row is kept, so
+ * hand in the same slot length each time. From a clearing on, the sum of the slots
+ * is that of the energies recorded. It goes to 2^32 - 1: a lent row that is above
+ * takes nothing, not even an energy of 0.
+ *
+ * The answer is 0, or the number of a refusal; then the row is as it was. */
+
+/* Every slot becomes 0. Refusal: 13. */
+uint64_t wubraken_clear_row(uint64_t slot_length, uint32_t *row, size_t slots);
+
+/* Adds an energy to the slot of a time, both any numbers. It looks at the whole
+ * row, to add it up. Refusals: 13 to 15. */
+uint64_t wubraken_record(uint64_t slot_length, uint32_t time, uint32_t energy,
+                         uint32_t *row, size_t slots);
+
+/* Records what a take answered, as it stands. Its energy is at most 2^24. Its time
+ * has 32 bits where only the pool has written to its memory since an opening, and
+ * so it has after an audit; a greater one lies past every row. Refusals: 13 to 15. */
+static inline uint64_t wubraken_record_taken(uint64_t slot_length, wubraken_answer taken,
+                                             uint32_t *row, size_t slots)
+{
+    const uint64_t most = 4294967295u;
+    uint32_t time = (uint32_t)(taken.time < most ? taken.time : most);
+    return wubraken_record(slot_length, time, (uint32_t)taken.energy, row, slots);
+}
+
+/* A series of recordings, one by one, and the answer to each: 0, 14 or 15. It adds
+ * up the row once. The three counts must be one number. `times` and `energies` are
+ * only read, and may be the same. Refusals of the whole series: 2, 13; then the
+ * answers are as they were, too. */
+uint64_t wubraken_record_series(uint64_t slot_length,
+                                const uint32_t *times, size_t times_count,
+                                const uint32_t *energies, size_t energies_count,
+                                uint8_t *answers, size_t answers_count,
+                                uint32_t *row, size_t slots);
 
 /* A pool: a shape and the memory lent to it, which nobody else writes to while
  * the pool is in use. wubraken_pool_open fills it in; memory that came from

@@ -1,4 +1,4 @@
-//! Links the proved library's two archives, from where `rt staticlib` writes them.
+//! Links the proved library's archives, from where `rt staticlib` writes them.
 
 use std::env;
 use std::path::{Path, PathBuf};
@@ -12,7 +12,7 @@ fn main() {
         }
     };
     println!("cargo:rustc-link-search=native={}", directory.display());
-    for name in ["wubraken", "wubraken_batch"] {
+    for name in ["wubraken", "wubraken_batch", "echogram"] {
         let archive = directory.join(format!("lib{}.a", name));
         if !archive.exists() {
             println!(

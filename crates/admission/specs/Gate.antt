@@ -33,8 +33,8 @@ use Rattle.laws.specs.Tests.{neither}
 use Rattle.calendar.specs.rules.Layout.{layout}
 use Rattle.calendar.specs.rules.Ranges.{worker, shapeInRange, storeInRange, tableInRange}
 use Rattle.calendar.specs.facts.RangeFacts.{Limits, limits}
-use Rattle.calendar.specs.rules.Refusals.{firstOf, badShape, short, tooShort, outOfRange, lengthTests, fieldTests, memoryTests, memoryOf, openRefusal}
-use Rattle.calendar.specs.facts.FirstOf.{None, first-append, first-parts, first-none}
+use Rattle.calendar.specs.rules.Refusals.{badShape, short, tooShort, outOfRange, lengthTests, fieldTests, memoryTests, memoryOf, openRefusal}
+use Rattle.laws.specs.FirstOf.{firstOf, None, first-append, first-parts, first-none}
 use Rattle.calendar.specs.facts.Accepted.{Lent, Usable, lent, memory-accepted}
 use Rattle.calendar.specs.facts.RefusalParts.{refusal-first}
 pub use Rattle.calendar.specs.facts.RefusalParts.{ownOf}

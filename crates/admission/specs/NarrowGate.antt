@@ -20,10 +20,10 @@ use Rattle.arrival.specs.declared.Action.{Action}
 use Rattle.arrival.specs.declared.Response.the-variants.{Refused}
 use Rattle.laws.specs.Tests.{parts, neither}
 use Rattle.calendar.specs.rules.Ranges.{shapeInRange, wordsInRange}
-use Rattle.calendar.specs.rules.Refusals.{firstOf, short, tooShort, memoryTests}
+use Rattle.calendar.specs.rules.Refusals.{short, tooShort, memoryTests}
 use Rattle.calendar.specs.rules.Operations.{Memory, actor}
 use Rattle.calendar.specs.rules.NarrowCalls.{recordsInRange, narrowOut, narrowRefusal, narrowAct}
-use Rattle.calendar.specs.facts.FirstOf.{first-append}
+use Rattle.laws.specs.FirstOf.{firstOf, first-append}
 use Rattle.calendar.specs.facts.Accepted.{Lent}
 use Rattle.calendar.specs.facts.RangeFacts.{limits, WordRanges, word-ranges}
 use Rattle.words.specs.Laid.{Laid, laid}

@@ -1,6 +1,5 @@
 -- What is proved of the rules, and the definitions that only proofs use.
 pub mod Places
-pub mod FirstOf
 pub mod Views
 pub mod RangeFacts
 pub mod Accepted
@@ -31,3 +30,4 @@ pub mod WorkedHistory
 pub mod TailHistory
 pub mod OneWord
 pub mod WordsBeyond
+pub mod AnswerRanges

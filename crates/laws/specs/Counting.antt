@@ -5,16 +5,20 @@
 --     every-at, every-all, every-fails       what it tells of each; what tells it; where one fails
 --     every-same                             two tests alike below n
 --     count-three                            three tests of which exactly one holds share the numbers out
+--     sum-more, sum-same, sum-at             of one more; two functions alike below n; no number is above the sum
 --     tally-none, tally-with                 a sum of zeros; a sum with another at one number
+--     sum-set                                the sum of a list with another element
 --     Each, each-of                          a property of each element, by its number; of the one at n
 -- Assumes nothing.
-use mathlib.Core.Path.{_≡_, refl, ap, _∙_, subst}
+use mathlib.Core.Path.{_≡_, refl, sym, ap, _∙_, subst}
 use mathlib.Core.List.{List, [], _∷_}
 use mathlib.Core.Bool.{Bool, true, false, cond, _&&_, and-false}
 use mathlib.Core.Logic.{⊎-elim}
 use Prim.Native.Nat.{ℕ, zero, suc, _+_, _<_, _≤_}
 use lib.Dec.{eqb}
-use lib.ListN.{length, getD}
+use lib.ListN.{length, getD, set}
+use lib.Seq.{getD-set-same, getD-set-other}
+use borrow.Author.Tests.{eq-eqb, ne-eqb}
 use native.Mathlib.Nat.{add-zero, add-suc, suc-add, le-of-suc-le-suc, not-suc-le-zero, eq-or-lt-of-le}
 use native.Mathlib.Numerals.{add-one}
 use native.Mathlib.Decide.{ℕ-discrete}
@@ -81,6 +85,17 @@ count-three zero f g h one = refl
 count-three (suc n) f g h one = omega (arith, one n, count-three n f g h one)
 
 -- ── sums ──
+pub sum-more : (g : ℕ → ℕ) (n : ℕ) → sum g (n + 1) ≡ g n + sum g n
+sum-more g n = rw add-one
+
+pub sum-same : (f g : ℕ → ℕ) (n : ℕ) → ((k : ℕ) → k < n → f k ≡ g k) → sum f n ≡ sum g n
+sum-same f g zero h = refl
+sum-same f g (suc n) h = omega (arith, h n (omega arith), sum-same f g n (λ k l. h k (omega arith)))
+
+pub sum-at : (g : ℕ → ℕ) (n k : ℕ) → k < n → g k ≤ sum g n
+sum-at g zero k h = absurd (not-suc-le-zero h)
+sum-at g (suc n) k h = ⊎-elim (λ q. omega (arith, ap g q)) (λ l. omega (arith, sum-at g n k l)) (eq-or-lt-of-le (le-of-suc-le-suc h))
+
 pub tally-none : {A : Type 0} (f : A → ℕ) (T : ℕ → A) (n : ℕ) → ((j : ℕ) → j < n → f (T j) ≡ 0) → tally f T n ≡ 0
 tally-none f T zero h = refl
 tally-none f T (suc n) h = omega (arith, h n (omega arith), tally-none f T n (λ j l. h j (omega arith)))
@@ -99,6 +114,18 @@ tally-with f T i x (suc n) h = go (ℕ-discrete i n) (tally-with f T i x n)
         → f (cond (eqb i n) x (T n)) + tally f (λ j. cond (eqb i j) x (T j)) n + f (T i) ≡ f (T n) + tally f T n + f x
     go (yes e) ih = omega (arith, ap f (upd-same i n x (T n) e), tally-out f T i x n (omega arith), ap (λ j. f (T j)) e)
     go (no u) ih = omega (arith, ap f (upd-other i n x (T n) u), ih (omega arith))
+
+pub sum-set : (xs : List ℕ) (i x : ℕ) → i < length xs → sum (λ k. getD (set xs i x) k 0) (length xs) + getD xs i 0 ≡ sum (λ k. getD xs k 0) (length xs) + x
+sum-set xs i x h =
+    omega (
+      arith,
+      sum-same (λ k. getD (set xs i x) k 0) (λ k. cond (eqb i k) x (getD xs k 0)) (length xs) (λ k l. at k (ℕ-discrete k i)),
+      tally-with (λ v. v) (λ k. getD xs k 0) i x (length xs) h,
+    )
+  where
+    at : (k : ℕ) → Dec (k ≡ i) → getD (set xs i x) k 0 ≡ cond (eqb i k) x (getD xs k 0)
+    at k (yes e) = rw (e, eq-eqb i i refl) (getD-set-same xs i x 0 h)
+    at k (no u) = getD-set-other xs i k x 0 u ∙ rw (ne-eqb i k (λ e. u (sym e)))
 
 -- ── by their number ──
 -- a property of each element of a list, by its number from k on

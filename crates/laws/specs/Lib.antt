@@ -2,3 +2,4 @@ pub mod Tests
 pub mod Lists
 pub mod Storing
 pub mod Counting
+pub mod FirstOf

@@ -17,3 +17,4 @@ pub mod Walks
 pub mod UnmarkedCounts
 pub mod Worth
 pub mod SumHolds
+pub mod HostAnswers

@@ -38,7 +38,7 @@ use Rattle.calendar.specs.facts.Views.{View, view, itemIn}
 use Rattle.calendar.specs.facts.RangeFacts.{store-tests, table-tests}
 use Rattle.calendar.specs.facts.FirstFree.{first-free-node, first-free-free}
 use Rattle.calendar.specs.facts.Accepted.{Lent, open-accepted, enqueue-accepted, dequeue-accepted, step-accepted}
-use Rattle.calendar.specs.facts.FirstOf.{by-numbers, first-above}
+use Rattle.laws.specs.FirstOf.{by-numbers, first-above}
 use Rattle.calendar.specs.facts.RefusalParts.{testsOf, refusal-first, tests-rise}
 use Rattle.calendar.specs.facts.Changes.{step-is}
 use Rattle.calendar.specs.facts.Untouched.{open-same-size, outcome-said}

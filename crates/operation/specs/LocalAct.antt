@@ -21,7 +21,8 @@ use Rattle.arrival.specs.declared.Action.{Action}
 use Rattle.arrival.specs.declared.Action.the-variants.{Enqueue, Dequeue, Step}
 use Rattle.arrival.specs.declared.Response.the-variants.{Refused}
 use Rattle.calendar.specs.rules.Ranges.{blank, worker}
-use Rattle.calendar.specs.rules.Refusals.{firstOf, ownTests}
+use Rattle.calendar.specs.rules.Refusals.{ownTests}
+use Rattle.laws.specs.FirstOf.{firstOf}
 use Rattle.calendar.specs.rules.Operations.{Memory, Result, unless, perform, actor, outcomeOf, outcome, act}
 use Rattle.calendar.specs.rules.NarrowCalls.{recordsInRange, narrowAct}
 use Rattle.calendar.specs.facts.RangeFacts.{Limits, WordRanges, RecordRanges, table-ranges}

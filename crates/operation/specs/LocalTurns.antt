@@ -26,10 +26,10 @@ use Rattle.arrival.specs.declared.Response.the-variants.{Refused}
 use Rattle.laws.specs.Tests.{never}
 use Rattle.calendar.specs.rules.Layout.{layout, writeAll, started}
 use Rattle.calendar.specs.rules.Ranges.{blank, worker, wordsInRange, recordInRange}
-use Rattle.calendar.specs.rules.Refusals.{firstOf, ownTests, enqueueOwn, dequeueOwn, stepOwn, noTicket}
+use Rattle.calendar.specs.rules.Refusals.{ownTests, enqueueOwn, dequeueOwn, stepOwn, noTicket}
 use Rattle.calendar.specs.rules.Operations.{Memory, outcomeOf}
 use Rattle.calendar.specs.rules.NarrowCalls.{recordsInRange, narrowAct, goesOn, turnsAfter}
-use Rattle.calendar.specs.facts.FirstOf.{first-none}
+use Rattle.laws.specs.FirstOf.{firstOf, first-none}
 use Rattle.calendar.specs.facts.RangeFacts.{Limits, WordRanges, word-tests, RecordRanges, record-ranges, record-tests}
 use Rattle.calendar.specs.facts.Accepted.{Lent}
 use Rattle.calendar.specs.facts.Inside.{length-writeAll}

@@ -13,7 +13,8 @@ use Rattle.arrival.specs.declared.Worker.{Worker}
 use Rattle.calendar.specs.rules.Layout.{epochIn}
 use Rattle.calendar.specs.rules.EnqueueSteps.{currentHolds, step-7}
 use Rattle.calendar.specs.rules.Steps.{rules, no-step, step}
-use Rattle.calendar.specs.rules.Refusals.{firstOf, stepOwn}
+use Rattle.calendar.specs.rules.Refusals.{stepOwn}
+use Rattle.laws.specs.FirstOf.{firstOf}
 use Rattle.calendar.specs.facts.Changes.{step-at}
 use Rattle.words.specs.Done.{Done, done, refused, unlessRefused}
 

@@ -10,8 +10,8 @@ use Rattle.arrival.specs.declared.Shape.{Shape}
 use Rattle.arrival.specs.declared.Arrival.{Arrival}
 use Rattle.arrival.specs.declared.Worker.{Worker}
 use Rattle.calendar.specs.rules.Layout.{started}
-use Rattle.calendar.specs.rules.Refusals.{firstOf, noTicket, earlyOwn, lateOwn, enqueueOwn, dequeueOwn}
-use Rattle.calendar.specs.facts.FirstOf.{first-append}
+use Rattle.calendar.specs.rules.Refusals.{noTicket, earlyOwn, lateOwn, enqueueOwn, dequeueOwn}
+use Rattle.laws.specs.FirstOf.{firstOf, first-append}
 use Rattle.calendar.specs.rules.Starts.{enqueueStart, dequeueStart}
 use Rattle.words.specs.Done.{Done, done, refused, unlessRefused}
 use Rattle.starts.specs.FreeSearch.{firstFreeBelow}

@@ -10,7 +10,8 @@ contestants take turns, and the best of several rounds counts.
 
 options:
   --quick          everything small, only to see that it runs
-  --only PART      one part: schedules, turn, narrow, hold, threads, calls, growth or tail
+  --only PART      one part: schedules, turn, narrow, hold, threads, calls, growth, tail or
+                   echogram
   --records N      records of a schedule       (default 10,000,000)
   --rounds N       rounds of each contest      (default 7)
   --svg PATH       the picture of growth       (default target/bench/growth.svg)
@@ -33,9 +34,10 @@ pub enum Part {
     SingleCalls,
     Growth,
     Tail,
+    Echogram,
 }
 
-const PARTS: [(&str, Part); 8] = [
+const PARTS: [(&str, Part); 9] = [
     ("schedules", Part::Schedules),
     ("turn", Part::InnerTurn),
     ("narrow", Part::NarrowCalls),
@@ -44,6 +46,7 @@ const PARTS: [(&str, Part); 8] = [
     ("calls", Part::SingleCalls),
     ("growth", Part::Growth),
     ("tail", Part::Tail),
+    ("echogram", Part::Echogram),
 ];
 
 #[derive(Clone, Debug)]

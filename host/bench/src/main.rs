@@ -2,6 +2,7 @@
 #![deny(unsafe_code)]
 
 mod arguments;
+mod echogram;
 mod engines;
 mod growth;
 mod heap;
@@ -66,6 +67,7 @@ fn run(arguments: &Arguments) -> io::Result<()> {
             Part::SingleCalls => single_calls::run(arguments),
             Part::Growth => growth::run(arguments)?,
             Part::Tail => tail::run(arguments)?,
+            Part::Echogram => echogram::run(arguments),
         }
     }
     Ok(())

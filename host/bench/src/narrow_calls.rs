@@ -9,7 +9,7 @@ use wubraken::{Pool, Put, Shape, Step, Take, Worker};
 
 use crate::report::{heading, row, Target};
 use crate::shapes::{ARRIVAL, LARGEST, SMALLEST};
-use crate::timing::{best, cycles_in_a_millisecond, nanoseconds_each, time, SHORT};
+use crate::timing::{best, cycles_in_a_millisecond, nanoseconds_each, time, unknown, SHORT};
 
 pub fn run(rounds: usize) {
     heading(
@@ -247,11 +247,4 @@ fn put_start(rounds: usize, workers: u64) -> f64 {
     const COUNT: usize = 10_000;
     let [time] = best(SHORT * rounds, [&mut || vec![starts(COUNT)]]);
     nanoseconds_each(time, COUNT)
-}
-
-/// The same value, which the compiler must not know.
-#[allow(unsafe_code)]
-fn unknown<T: Copy>(value: T) -> T {
-    // SAFETY: a reference is good to read from. (black_box came with Rust 1.66.)
-    unsafe { std::ptr::read_volatile(&value) }
 }

@@ -44,8 +44,13 @@ pub fn nanoseconds_each(time: Duration, count: usize) -> f64 {
 }
 
 /// Uses a result, so that the compiler must have it.
-#[allow(unsafe_code)]
 pub fn keep(value: u64) {
+    unknown(value);
+}
+
+/// The same value, which the compiler must not know.
+#[allow(unsafe_code)]
+pub fn unknown<T: Copy>(value: T) -> T {
     // SAFETY: a reference is good to read from. (black_box came with Rust 1.66.)
-    unsafe { std::ptr::read_volatile(&value) };
+    unsafe { std::ptr::read_volatile(&value) }
 }

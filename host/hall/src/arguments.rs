@@ -1,9 +1,9 @@
 //! The words of the command line.
 
-use wubraken::Shape;
+use wubraken::{Echogram, Shape};
 
-use crate::geometry::{Hall, GREATEST_ORDER};
-use crate::tracer::Job;
+use crate::geometry::{Hall, GREATEST_ORDER, SAMPLES_PER_MILLISECOND};
+use crate::tracer::{Job, SLOTS};
 
 pub fn help() -> String {
     format!(
@@ -13,7 +13,8 @@ usage: hall [options]
 Traces the echoes of a shoebox hall with several workers that share one pool of
 arrivals: each takes the earliest, mirrors its source once more, and puts the
 reflections back. Prints what was taken (time in samples at 48 kHz, path, order,
-distance in metres, energy) and an account. The same options print the same.
+distance in metres, energy), an account, and the echogram, the energies added up by
+time. The same options print the same.
 
 options:
   --seed N       the order of the workers' turns (default 1)
@@ -22,11 +23,15 @@ options:
   --order N      no reflections beyond this order, 0 to {GREATEST_ORDER} (default 2)
   --span MS      how many milliseconds the buckets cover, 1 to {} (default 100);
                  whatever comes later shares the last bucket
+  --slot MS      how many milliseconds a slot of the echogram has, 1 to {}; whatever
+                 comes after {SLOTS} slots is refused, and counted (default: as few as
+                 let all of it fit)
   --help         prints this text
 ",
         Shape::MAX_WORKERS,
         Shape::MAX_NODES,
-        Shape::MAX_WIDTH / WIDTH_PER_MILLISECOND
+        Shape::MAX_WIDTH / WIDTH_PER_MILLISECOND,
+        Echogram::MAX_SLOT_LENGTH / SAMPLES_PER_MILLISECOND
     )
 }
 
@@ -37,6 +42,7 @@ pub struct Arguments {
     pub nodes: u64,
     pub order: u32,
     pub span: u64,
+    pub slot: Option<u64>,
 }
 
 impl Default for Arguments {
@@ -47,13 +53,13 @@ impl Default for Arguments {
             nodes: 12,
             order: 2,
             span: 100,
+            slot: None,
         }
     }
 }
 
 const BUCKETS: u64 = 16;
-/// A millisecond has 48 samples.
-const WIDTH_PER_MILLISECOND: u64 = 48 / BUCKETS;
+const WIDTH_PER_MILLISECOND: u64 = SAMPLES_PER_MILLISECOND / BUCKETS;
 
 impl Arguments {
     /// None for words that make no sense.
@@ -68,13 +74,14 @@ impl Arguments {
                 "--nodes" => arguments.nodes = number,
                 "--order" => arguments.order = u32::try_from(number).ok()?,
                 "--span" => arguments.span = number,
+                "--slot" => arguments.slot = Some(number),
                 _ => return None,
             }
         }
         (arguments.order <= GREATEST_ORDER).then_some(arguments)
     }
 
-    /// The job; the pool judges its shape.
+    /// The job; the pool judges its shape, and the echogram its slots.
     pub fn job(self) -> Job {
         Job {
             hall: CONCERT_HALL,
@@ -86,6 +93,7 @@ impl Arguments {
                 width: self.span.saturating_mul(WIDTH_PER_MILLISECOND),
             },
             seed: self.seed,
+            slot: self.slot,
         }
     }
 }

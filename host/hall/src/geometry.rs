@@ -8,6 +8,7 @@
 use wubraken::Arrival;
 
 pub const SAMPLES_PER_SECOND: f64 = 48_000.0;
+pub const SAMPLES_PER_MILLISECOND: u64 = 48;
 const METRES_PER_SECOND: f64 = 343.0;
 
 /// A hall with two corners at 0 and `size`, and two points inside; centimetres.
@@ -78,6 +79,23 @@ impl Hall {
             order: image.order(),
             distance: metres.round().max(1.0) as u32,
         }
+    }
+
+    /// When the last reflection up to an order arrives. What is too far for a pool is
+    /// left out; what is reflected from it is farther still.
+    pub fn latest(&self, order: u32) -> u32 {
+        let mut images = vec![Image::DIRECT];
+        let mut latest = 0;
+        while let Some(image) = images.pop() {
+            let arrival = self.arrival(image);
+            if arrival.check().is_ok() {
+                latest = latest.max(arrival.time);
+                if image.order() < order {
+                    images.extend(image.reflections());
+                }
+            }
+        }
+        latest
     }
 
     fn metres(&self, image: Image) -> f64 {

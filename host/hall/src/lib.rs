@@ -16,10 +16,13 @@
 //! The report has a star at an arrival x that was taken after a later one, y. By
 //! promises 2 and 4, x's put had not ended when y's take started, or the takes of
 //! both overlap, and x was marked and not yet answered when y's take ended.
+//!
+//! Each arrival that is taken is recorded in an echogram as it is answered.
 #![forbid(unsafe_code)]
 
 mod arguments;
 mod geometry;
+mod picture;
 mod report;
 mod trace;
 mod tracer;
@@ -28,4 +31,4 @@ pub use arguments::{help, Arguments};
 pub use geometry::{Hall, Image, GREATEST_ORDER, SAMPLES_PER_SECOND};
 pub use report::report;
 pub use trace::{Call, Event, Trace};
-pub use tracer::{trace, Job};
+pub use tracer::{trace, Job, SLOTS};

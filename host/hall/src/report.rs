@@ -4,9 +4,10 @@ use std::fmt::Write;
 
 use wubraken::{Shape, Taken};
 
+use crate::picture::push_picture;
 use crate::trace::Trace;
 
-/// The taken list, and the account of the run.
+/// The taken list, the account of the run, and the echogram.
 pub fn report(shape: Shape, trace: &Trace) -> String {
     let mut text = String::from("   time   path order distance    energy\n");
     let mut latest = 0;
@@ -18,6 +19,7 @@ pub fn report(shape: Shape, trace: &Trace) -> String {
         push_arrival(&mut text, arrival, is_overtaken);
     }
     push_account(&mut text, shape, trace, overtaken);
+    push_picture(&mut text, trace);
     text
 }
 

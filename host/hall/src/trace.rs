@@ -34,6 +34,14 @@ pub struct Trace {
     pub too_far: usize,
     /// Puts that found no free node (12).
     pub no_node: usize,
+    /// The slots of the echogram.
+    pub row: Vec<u32>,
+    /// Samples in a slot.
+    pub slot_length: u64,
+    /// Recordings past the row (14): left out.
+    pub past_row: usize,
+    /// Recordings by which the sum would pass 2^32 - 1 (15): left out.
+    pub sum_too_large: usize,
 }
 
 impl Trace {

@@ -1,10 +1,13 @@
 //! The workers, and the host that deals their turns.
 
 use random::Random;
-use wubraken::{Arrival, Pool, Refusal, Shape, Step, Taken};
+use wubraken::{Arrival, Echogram, Pool, Refusal, Shape, Step, Taken};
 
-use crate::geometry::{Hall, Image};
+use crate::geometry::{Hall, Image, SAMPLES_PER_MILLISECOND};
 use crate::trace::{Call, Event, Trace};
+
+/// The echogram has so many.
+pub const SLOTS: usize = 40;
 
 /// What to trace, with which pool.
 #[derive(Clone, Copy, Debug)]
@@ -15,6 +18,20 @@ pub struct Job {
     pub shape: Shape,
     /// Of the order of turns.
     pub seed: u64,
+    /// Milliseconds of a slot of the echogram; none for the fewest that will do.
+    pub slot: Option<u64>,
+}
+
+impl Job {
+    /// Samples in a slot. The fewest milliseconds by which all arrivals fit are 75 at
+    /// most, where the last comes from as far as a pool accepts.
+    fn slot_length(&self) -> u64 {
+        let milliseconds = self.slot.unwrap_or_else(|| {
+            let row_of_milliseconds = SLOTS as u64 * SAMPLES_PER_MILLISECOND;
+            u64::from(self.hall.latest(self.order)) / row_of_milliseconds + 1
+        });
+        milliseconds.saturating_mul(SAMPLES_PER_MILLISECOND)
+    }
 }
 
 /// Traces a hall until nothing is left; a refusal is one that no worker expects.
@@ -30,12 +47,16 @@ pub fn trace(job: &Job) -> Result<Trace, Refusal> {
     }
     // The low half of word 0.
     host.trace.epochs = host.pool.store()[0] & u64::from(u32::MAX);
+    host.trace.slot_length = host.echogram.slot_length();
+    host.trace.row = host.echogram.into_row();
     Ok(host.trace)
 }
 
 struct Host<'a> {
     job: &'a Job,
     pool: Pool,
+    /// Of what was taken so far.
+    echogram: Echogram,
     workers: Vec<Worker>,
     moment: usize,
     /// The last moment at which a worker had something to put.
@@ -73,11 +94,13 @@ impl<'a> Host<'a> {
     /// The direct sound is in the first worker's hand.
     fn new(job: &'a Job) -> Result<Self, Refusal> {
         let pool = Pool::new(job.shape)?;
+        let echogram = Echogram::new(SLOTS, job.slot_length())?;
         let mut workers = vec![Worker::default(); job.shape.workers as usize];
         workers[0].in_hand.push(job.hall.arrival(Image::DIRECT));
         Ok(Self {
             job,
             pool,
+            echogram,
             workers,
             moment: 0,
             had_to_put: 0,
@@ -129,8 +152,21 @@ impl<'a> Host<'a> {
         });
         match event {
             Event::Put(_) => {}
-            Event::Took(taken) => self.reflect(worker, taken),
+            Event::Took(taken) => {
+                self.record(&taken)?;
+                self.reflect(worker, taken);
+            }
             Event::Empty => self.nothing_left |= begun.start > self.had_to_put,
+        }
+        Ok(())
+    }
+
+    /// What the echogram cannot take is counted.
+    fn record(&mut self, taken: &Taken) -> Result<(), Refusal> {
+        match self.echogram.record_taken(taken) {
+            Err(Refusal::PastRow) => self.trace.past_row += 1,
+            Err(Refusal::SumTooLarge) => self.trace.sum_too_large += 1,
+            recorded => recorded?,
         }
         Ok(())
     }

@@ -26,6 +26,7 @@ fn runs() -> Vec<Trace> {
                     nodes,
                     order: 3,
                     span: SPANS[seed as usize % 3],
+                    slot: None,
                 }));
             }
         }

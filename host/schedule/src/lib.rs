@@ -1,8 +1,9 @@
 //! Turn files for the arrival pool, seeded random ones and those written by hand,
-//! and random lent memory.
+//! random lent memory, and random echograms.
 #![forbid(unsafe_code)]
 
 pub mod by_hand;
+pub mod echograms;
 pub mod lent;
 pub mod orders;
 pub mod script;

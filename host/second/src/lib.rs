@@ -7,11 +7,14 @@
 //! [`narrow_step`] do the same, but check only what they need, and can go on with
 //! the call. [`run`] is the streaming turn-file program.
 //!
+//! [`clear_row`], [`record`] and [`record_series`] keep an echogram of what was taken.
+//!
 //! Names of the document and their names here: put is enqueue, take is dequeue,
 //! turn is step, stamp is ticket, standing is the reclamation state, resting is
 //! retired, in use is live, never used is unused, answer is response.
 #![forbid(unsafe_code)]
 
+mod echogram;
 mod energy;
 mod lines;
 mod narrow;
@@ -29,6 +32,7 @@ mod worker;
 pub mod layout;
 pub mod word;
 
+pub use echogram::{clear_row, record, record_series, MAX_SLOTS, MAX_SLOT_LENGTH};
 pub use energy::energy;
 pub use lines::{push_line, Lines};
 pub use narrow::{narrow_dequeue_start, narrow_enqueue_start, narrow_step};

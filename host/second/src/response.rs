@@ -41,6 +41,9 @@ pub enum Refusal {
     WorkerIdle = 10,
     CountExhausted = 11,
     NoFreeNode = 12,
+    EchogramOutsideLimits = 13,
+    SlotPastRow = 14,
+    SumTooLarge = 15,
 }
 
 impl Refusal {

@@ -167,6 +167,15 @@ pub(crate) fn ended(end: raw::BatchEnd) -> BatchEnd {
     }
 }
 
+/// What an echogram answers: 0, or the number of a refusal.
+#[inline]
+pub(crate) fn recorded(number: u64) -> Result<(), Refusal> {
+    match number {
+        0 => Ok(()),
+        number => Err(refusal(number)),
+    }
+}
+
 #[inline]
 fn taken(answer: &raw::Answer) -> Taken {
     Taken {

@@ -5,7 +5,8 @@
 //! the same on memory that only the pool writes to.
 //!
 //! They are unsafe for one reason only: pointers and lengths must be those of
-//! slices that lie apart. [`Pool`](crate::Pool) hands in nothing else.
+//! slices that lie apart, but for two that are only read. [`Pool`](crate::Pool) and
+//! [`Echogram`](crate::Echogram) hand in nothing else.
 
 use crate::{Arrival, Shape, Worker};
 
@@ -161,4 +162,30 @@ extern "C" {
         table: *mut Worker,
         records: usize,
     ) -> BatchEnd;
+
+    /// Clears the row of an echogram: 0, or the refusal's number.
+    pub fn wubraken_clear_row(slot_length: u64, row: *mut u32, slots: usize) -> u64;
+
+    /// Adds an energy to the slot of a time: 0, or the refusal's number.
+    pub fn wubraken_record(
+        slot_length: u64,
+        time: u32,
+        energy: u32,
+        row: *mut u32,
+        slots: usize,
+    ) -> u64;
+
+    /// A series of recordings, with an answer to each: 0, or the number of what
+    /// refuses the whole series.
+    pub fn wubraken_record_series(
+        slot_length: u64,
+        times: *const u32,
+        times_count: usize,
+        energies: *const u32,
+        energies_count: usize,
+        answers: *mut u8,
+        answers_count: usize,
+        row: *mut u32,
+        slots: usize,
+    ) -> u64;
 }

@@ -3,11 +3,11 @@
 use std::error::Error;
 use std::fmt;
 
-use crate::{Arrival, Shape};
+use crate::{Arrival, Echogram, Shape};
 
 /// The reasons, by their numbers. Of several the lowest is answered. What is
-/// refused, a start or a turn, changes nothing; turns before it are done. As
-/// text, a refusal says what to do.
+/// refused, a start, a turn or a recording, changes nothing; turns before it are
+/// done. As text, a refusal says what to do.
 ///
 /// ```
 /// let text = wubraken::Refusal::Busy.to_string();
@@ -19,7 +19,8 @@ use crate::{Arrival, Shape};
 pub enum Refusal {
     /// A field of the shape is outside its limits: [`Shape::check`] says which.
     BadShape = 1,
-    /// The store or the table is too short for the shape.
+    /// The store or the table is too short for the shape; or the times, energies
+    /// and answers of a series are not equally many.
     TooShort = 2,
     /// A word of the store or a field of the table is out of its range.
     OutOfRange = 3,
@@ -41,6 +42,13 @@ pub enum Refusal {
     Exhausted = 11,
     /// Every node is in use or may still be stood on.
     NoNode = 12,
+    /// The row of an echogram or its slot length is outside its limits,
+    /// [`Echogram::MAX_SLOTS`] and [`Echogram::MAX_SLOT_LENGTH`].
+    BadRow = 13,
+    /// The slot of the time lies past the row.
+    PastRow = 14,
+    /// The slot, or the sum of all slots, would pass 2^32 − 1.
+    SumTooLarge = 15,
 }
 
 impl Refusal {
@@ -58,6 +66,9 @@ impl Refusal {
         Refusal::Idle,
         Refusal::Exhausted,
         Refusal::NoNode,
+        Refusal::BadRow,
+        Refusal::PastRow,
+        Refusal::SumTooLarge,
     ];
 
     /// The number that a `no` line prints.
@@ -79,7 +90,7 @@ impl fmt::Display for Refusal {
         write!(f, "refused by {}: ", self.number())?;
         f.write_str(match self {
             Self::BadShape => return limits_of_a_shape(f),
-            Self::TooShort => "the memory is too short; lend the words that the shape needs, and a record for each worker",
+            Self::TooShort => "the memory is too short: lend the words that the shape needs, and a record for each worker; or the times, energies and answers of a series are not equally many",
             Self::OutOfRange => "the memory is out of range; lend it as the pool left it, or open the pool again",
             Self::NoWorker => "there is no such worker; the first is 0, and the shape says how many there are",
             Self::BadArrival => return limits_of_an_arrival(f),
@@ -90,6 +101,9 @@ impl fmt::Display for Refusal {
             Self::Idle => "the worker has no call in progress; begin one first",
             Self::Exhausted => "the tickets or the epochs are used up; open the pool again",
             Self::NoNode => "no node is free; end calls in progress, take arrivals, or open the pool with more nodes",
+            Self::BadRow => return limits_of_a_row(f),
+            Self::PastRow => "the slot lies past the row; use more slots, or longer ones",
+            Self::SumTooLarge => "the slot or the sum of all slots would pass 4294967295; clear the row, or go on in another",
         })
     }
 }
@@ -112,6 +126,15 @@ fn limits_of_an_arrival(f: &mut fmt::Formatter<'_>) -> fmt::Result {
         Arrival::MAX_PATH,
         Arrival::MAX_ORDER,
         Arrival::MAX_DISTANCE
+    )
+}
+
+fn limits_of_a_row(f: &mut fmt::Formatter<'_>) -> fmt::Result {
+    write!(
+        f,
+        "the row or the slot length is outside its limits; slots 1 to {}, slot length 1 to {}",
+        Echogram::MAX_SLOTS,
+        Echogram::MAX_SLOT_LENGTH
     )
 }
 

@@ -3,6 +3,9 @@
 #[path = "../examples/batches.rs"]
 #[allow(dead_code)]
 mod batches;
+#[path = "../examples/echogram.rs"]
+#[allow(dead_code)]
+mod echogram;
 #[path = "../examples/tail.rs"]
 #[allow(dead_code)]
 mod tail;
@@ -22,6 +25,15 @@ fn threads_take_what_they_have_put() {
 fn the_tail_is_taken_in_its_order() {
     let expected = vec![(5, 0), (700, 14), (960_000, 15)];
     assert_eq!(tail::run(), Ok(expected));
+}
+
+/// 2^24 / 10² is 167,772, and comes twice in slot 2, of 960 to 1,439; 2^24 / 18² and
+/// 2^24 / 20² are 51,781 and 41,943, in slot 5; 2^24 / 25² is 26,843, in slot 7. The
+/// last time, 4,900, is of slot 10, past the row.
+#[test]
+fn an_echogram_of_what_was_taken() {
+    let expected = vec![0, 0, 335_544, 0, 0, 93_724, 0, 26_843, 0, 0];
+    assert_eq!(echogram::run(), Ok(expected));
 }
 
 /// Among them files that end by 7 and by 8.

@@ -4,7 +4,7 @@ use std::mem::{align_of, size_of};
 
 use second::layout::{HEADS, NODE_WORDS};
 use wubraken::raw::{kind, stop, Answer, BatchEnd};
-use wubraken::{Arrival, Refusal, Shape, Worker, LINE};
+use wubraken::{Arrival, Echogram, Refusal, Shape, Worker, LINE};
 
 const HEADER: &str = include_str!("../../include/wubraken.h");
 const RAW: &str = include_str!("../src/raw.rs");
@@ -127,6 +127,8 @@ fn numbers_and_limits_are_the_same() {
         ("MAX_PATH", Arrival::MAX_PATH.into()),
         ("MAX_ORDER", Arrival::MAX_ORDER.into()),
         ("MAX_DISTANCE", Arrival::MAX_DISTANCE.into()),
+        ("MAX_SLOTS", Echogram::MAX_SLOTS as u64),
+        ("MAX_SLOT_LENGTH", Echogram::MAX_SLOT_LENGTH),
     ] {
         assert_eq!(enumerator(name), number, "{name}");
     }
@@ -148,7 +150,7 @@ fn texts_of_refusals_are_the_same() {
 /// What the wrapper says of it is compared above.
 #[test]
 fn number_6_is_reserved() {
-    assert!(HEADER.contains("WUBRAKEN_TOO_LATE = 6,     /* not given since Q-1 */\n"));
+    assert!(HEADER.contains("WUBRAKEN_TOO_LATE = 6,      /* not given since Q-1 */\n"));
     for list in HEADER.split("Refusals").skip(1) {
         let (list, _) = list.split_once("*/").unwrap();
         assert!(!list.contains('6'), "{list}");
@@ -204,6 +206,7 @@ fn type_in_rust(kind: &str, is_pointer: bool) -> String {
     };
     let name = match kind {
         "uint64_t" => "u64",
+        "uint32_t" => "u32",
         "uint8_t" => "u8",
         "size_t" => "usize",
         "wubraken_shape" => "Shape",
@@ -235,7 +238,7 @@ fn functions_in_rust() -> Vec<Function> {
 fn functions_are_declared_alike() {
     let functions = functions_in_c();
     assert_eq!(functions, functions_in_rust());
-    assert_eq!(functions.len(), 9);
+    assert_eq!(functions.len(), 12);
 }
 
 /// The handle has a function for each method of a pool that works on it, with the

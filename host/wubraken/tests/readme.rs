@@ -2,10 +2,11 @@
 //! the others there too, or, with what they show a part of, as examples.
 
 const README: &str = include_str!("../../../README.md");
-const EXAMPLES: [&str; 3] = [
+const EXAMPLES: [&str; 4] = [
     include_str!("../examples/threads.rs"),
     include_str!("../examples/batches.rs"),
     include_str!("../examples/tail.rs"),
+    include_str!("../examples/echogram.rs"),
 ];
 
 /// The blocks of a text that begin with this mark.

@@ -8,7 +8,8 @@ use common::{shape, ARRIVAL};
 use schedule::to_the_end;
 use second::layout::{field, node_at, CURRENT, STARTED};
 use second::word::MAX_COUNT;
-use wubraken::{Arrival, BatchEnd, Pool, Put, Refusal, Shape, Step, Stop, Take, Taken, Worker};
+use wubraken::{Arrival, BatchEnd, Echogram, Pool, Put};
+use wubraken::{Refusal, Shape, Step, Stop, Take, Taken, Worker};
 
 const SHAPE: Shape = shape(2, 2, 2, 10);
 
@@ -91,6 +92,14 @@ fn every_refusal_by_name() {
     assert_eq!(pool.dequeue(1), Err(Refusal::OutOfRange));
     assert_eq!(pool.reopen(SHAPE), Ok(()));
     assert_eq!(pool.dequeue(1), Ok(1));
+
+    let mut echogram = Echogram::new(2, 10).unwrap();
+    let mut series = |energies: &[u32]| echogram.record_series(&[0, 0], energies, &mut [0; 2]);
+    assert_eq!(series(&[0, 0, 0]), Err(Refusal::TooShort));
+    assert_eq!(Echogram::new(2, 0).unwrap_err(), Refusal::BadRow);
+    assert_eq!(echogram.record(20, 1), Err(Refusal::PastRow));
+    assert_eq!(echogram.record(19, u32::MAX), Ok(()));
+    assert_eq!(echogram.record(0, 1), Err(Refusal::SumTooLarge));
 }
 
 #[test]
@@ -103,7 +112,7 @@ fn numbers_and_sentences_of_refusals() {
         let sentence = text.strip_prefix(&format!("refused by {number}: "));
         assert!(sentences.insert(sentence.unwrap().to_string()));
     }
-    for number in [0, 13, u64::MAX, 1 << 32 | 1] {
+    for number in [0, 16, u64::MAX, 1 << 32 | 1] {
         assert_eq!(Refusal::from_number(number), None);
     }
 }

@@ -23,9 +23,9 @@ use Rattle.calendar.specs.rules.Ranges.{worker, storeInRange, tableInRan
 use Rattle.calendar.specs.facts.RangeFacts.{Limits, limits, StoreRanges, store-ranges, RecordRanges, table-ranges}
 use Rattle.calendar.specs.facts.Views.{view}
 use Rattle.calendar.specs.rules.Reclaim.{firstFree}
-use Rattle.calendar.specs.rules.Refusals.{badShape, tooShort, noTicket, noEpoch, noNode, firstOf, openTests, memoryOf, enqueueOwn, dequeueOwn, stepOwn}
+use Rattle.calendar.specs.rules.Refusals.{badShape, tooShort, noTicket, noEpoch, noNode, openTests, memoryOf, enqueueOwn, dequeueOwn, stepOwn}
 use Rattle.calendar.specs.rules.Refusals.{openRefusal, enqueueRefusal, dequeueRefusal, stepRefusal}
-use Rattle.calendar.specs.facts.FirstOf.{first-parts, first-none}
+use Rattle.laws.specs.FirstOf.{firstOf, first-parts, first-none}
 
 -- shape and lengths: refusals 1 and 2
 pub record Lent (sh : Shape) (s : List ℕ) (t : List Worker) : Type 0 where

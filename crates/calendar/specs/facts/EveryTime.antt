@@ -28,7 +28,7 @@ use Rattle.calendar.specs.rules.Refusals.{busy, enqueueOwn, openTests, o
 use Rattle.calendar.specs.rules.Operations.{Memory, Result, unless, perform, open-pool, actor, refusal, outcome, act}
 use Rattle.calendar.specs.rules.NarrowCalls.{narrowTests, narrowRefusal, narrowAct, goesOn, turnsAfter, narrowCall}
 use Rattle.calendar.specs.rules.HostHistory.{requested}
-use Rattle.calendar.specs.facts.FirstOf.{lacks, first-lacks}
+use Rattle.laws.specs.FirstOf.{lacks, first-lacks}
 use Rattle.calendar.specs.facts.RefusalParts.{testsOf, refusal-first}
 use Rattle.calendar.specs.facts.Untouched.{outcome-said}
 use Rattle.calendar.specs.facts.Narrow.{narrow-said}

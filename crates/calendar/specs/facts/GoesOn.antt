@@ -17,7 +17,7 @@ use Rattle.calendar.specs.rules.Ranges.{blank, worker}
 use Rattle.calendar.specs.rules.Reclaim.{inProgress}
 use Rattle.calendar.specs.rules.Outcome.{Outcome}
 use Rattle.calendar.specs.rules.Starts.{enqueueStart, dequeueStart}
-use Rattle.calendar.specs.rules.Refusals.{firstOf}
+use Rattle.laws.specs.FirstOf.{firstOf}
 use Rattle.calendar.specs.rules.Operations.{Memory, actor, outcome}
 use Rattle.calendar.specs.rules.NarrowCalls.{narrowRefusal, narrowAct, goesOn}
 use Rattle.calendar.specs.facts.RangeFacts.{RecordRanges}

@@ -24,7 +24,8 @@ use Rattle.arrival.specs.Responses.{said}
 use Rattle.laws.specs.Counting.{every-at}
 use Rattle.laws.specs.Tests.{parts, left-true}
 use Rattle.calendar.specs.rules.Ranges.{blank, wordsInRange, recordInRange, storeInRange, tableInRange, worker}
-use Rattle.calendar.specs.rules.Refusals.{badShape, tooShort, outOfRange, noWorker, firstOf, memoryTests}
+use Rattle.calendar.specs.rules.Refusals.{badShape, tooShort, outOfRange, noWorker, memoryTests}
+use Rattle.laws.specs.FirstOf.{firstOf}
 use Rattle.calendar.specs.rules.Operations.{Memory, unless, perform, actor, refusal, outcome, act}
 use Rattle.calendar.specs.rules.NarrowCalls.{ownInRange, recordsInRange, narrowOut, narrowRefusal, narrowAct}
 use Rattle.calendar.specs.facts.RefusalParts.{ownOf, refusal-first}

@@ -25,12 +25,12 @@ use Rattle.laws.specs.Tests.{parts}
 use Rattle.calendar.specs.rules.Layout.{current, started, lastNode}
 use Rattle.calendar.specs.rules.Ranges.{wordsInRange, recordInRange, tableInRange, worker}
 use Rattle.calendar.specs.rules.Reclaim.{firstFree}
-use Rattle.calendar.specs.rules.Refusals.{badShape, tooShort, noWorker, firstOf, memoryTests}
+use Rattle.calendar.specs.rules.Refusals.{badShape, tooShort, noWorker, memoryTests}
 use Rattle.calendar.specs.rules.Operations.{Memory, actor}
 use Rattle.calendar.specs.rules.NarrowCalls.{ownInRange, recordsInRange, narrowOut, narrowRefusal}
 use Rattle.calendar.specs.facts.RangeFacts.{WordRanges, word-ranges, RecordRanges, record-ranges, table-ranges}
 use Rattle.calendar.specs.facts.Accepted.{Lent, lent}
-use Rattle.calendar.specs.facts.FirstOf.{first-parts, first-behind, first-none}
+use Rattle.laws.specs.FirstOf.{firstOf, first-parts, first-behind, first-none}
 use Rattle.calendar.specs.facts.RefusalParts.{ownOf}
 use Rattle.calendar.specs.facts.Untouched.{SameSize}
 

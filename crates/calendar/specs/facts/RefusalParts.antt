@@ -16,10 +16,10 @@ use Rattle.arrival.specs.declared.Worker.{Worker}
 use Rattle.arrival.specs.declared.Action.{Action}
 use Rattle.arrival.specs.declared.Action.the-variants.{Enqueue, Dequeue, Step}
 use Rattle.calendar.specs.rules.Ranges.{worker}
-use Rattle.calendar.specs.rules.Refusals.{firstOf, noNode, openTests, memoryOf, ownTests}
+use Rattle.calendar.specs.rules.Refusals.{noNode, openTests, memoryOf, ownTests}
 use Rattle.calendar.specs.rules.Refusals.{openRefusal, enqueueRefusal, dequeueRefusal, stepRefusal}
 use Rattle.calendar.specs.rules.Operations.{Memory, actor, refusal}
-use Rattle.calendar.specs.facts.FirstOf.{rises, first-parts, first-behind, first-front}
+use Rattle.laws.specs.FirstOf.{firstOf, rises, first-parts, first-behind, first-front}
 use Rattle.calendar.specs.facts.Accepted.{Usable, memory-accepted}
 
 abbrev pub ownOf : Shape → Memory → Action → List (ℕ × Bool)

@@ -36,7 +36,8 @@ use Rattle.calendar.specs.rules.Opening.{openWord, openStore, openTable}
 use Rattle.calendar.specs.rules.Reclaim.{firstFree}
 use Rattle.calendar.specs.rules.Outcome.{Outcome}
 use Rattle.calendar.specs.rules.Starts.{enqueueStart, dequeueStart}
-use Rattle.calendar.specs.rules.Refusals.{firstOf, openRefusal}
+use Rattle.calendar.specs.rules.Refusals.{openRefusal}
+use Rattle.laws.specs.FirstOf.{firstOf}
 use Rattle.calendar.specs.rules.Operations.{Memory, Result, unless, perform, open-pool, actor, refusal, outcome, act, run}
 use Rattle.calendar.specs.facts.FirstFree.{first-free-node}
 use Rattle.calendar.specs.facts.RangeFacts.{RecordRanges}

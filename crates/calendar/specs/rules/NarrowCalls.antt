@@ -18,7 +18,8 @@ use Rattle.arrival.specs.declared.Action.the-variants.{Enqueue, Dequeue, Step}
 use Rattle.arrival.specs.declared.Response.{Response}
 use Rattle.arrival.specs.declared.Response.the-variants.{Opened, Begun, On, Stored, Took, Empty, Refused}
 use Rattle.calendar.specs.rules.Ranges.{wordsInRange, recordInRange, tableInRange, worker}
-use Rattle.calendar.specs.rules.Refusals.{tooShort, noWorker, noNode, firstOf, memoryTests, ownTests}
+use Rattle.calendar.specs.rules.Refusals.{tooShort, noWorker, noNode, memoryTests, ownTests}
+use Rattle.laws.specs.FirstOf.{firstOf}
 use Rattle.calendar.specs.rules.Operations.{Memory, Result, unless, perform, actor, outcome}
 
 -- the record of worker i, if the shape has one

@@ -2,7 +2,6 @@
 --     badShape, short, tooShort, outOfRange, noWorker     1 to 4: of the memory, and of the worker's number
 --     badArrival                                          5: of an arrival (6 is not given since Q-1)
 --     busy, idle, noTicket, noEpoch, noNode               9 to 12: of the worker's record and of the store
---     firstOf                                             the first number whose test applies
 --     lengthTests, fieldTests, memoryTests                1 and 2; 3 and 4; both
 --     earlyOwn, lateOwn, enqueueOwn, dequeueOwn           an operation's own, behind 1 to 4: a put's, a take's
 --     stepOwn, ownTests                                   a turn's; any action's
@@ -11,10 +10,11 @@
 --     openRefusal, enqueueRefusal .. stepRefusal          the answer: the lowest that applies, or 0
 -- Assumes nothing.
 use mathlib.Core.List.{List, [], _∷_, _++_}
-use mathlib.Core.Bool.{Bool, cond, not, _&&_, _||_}
+use mathlib.Core.Bool.{Bool, not, _&&_, _||_}
 use Prim.Native.Nat.{ℕ}
 use lib.Dec.{eqb, leb, ltb}
 use lib.ListN.{length}
+use Rattle.laws.specs.FirstOf.{firstOf}
 use Rattle.arrival.specs.declared.Shape.{Shape}
 use Rattle.arrival.specs.declared.Arrival.{Arrival}
 use Rattle.arrival.specs.declared.Worker.{Worker}
@@ -66,11 +66,6 @@ noEpoch sh s w = eqb (w .stage) 7 && currentHolds sh s w && eqb (epochIn (w .cur
 -- 12: a put with no free node
 abbrev pub noNode : Shape → List ℕ → List Worker → Bool
 noNode sh s t = eqb (firstFree sh s t) (sh .nodes)
-
--- the first number of a list whose test applies, 0 where none does
-abbrev pub firstOf : List (ℕ × Bool) → ℕ
-firstOf [] = 0
-firstOf (x ∷ xs) = cond (x .1) (x .0) (firstOf xs)
 
 -- Which refusals an operation can get: the memory's first, 2 and 3 as tests that were made of it, and then its own.
 abbrev pub lengthTests : Shape → Bool → List (ℕ × Bool)

@@ -53,6 +53,9 @@ pub fn refused(number: u8) -> Answer {
         10 => WorkerIdle,
         11 => CountExhausted,
         12 => NoFreeNode,
+        13 => EchogramOutsideLimits,
+        14 => SlotPastRow,
+        15 => SumTooLarge,
         _ => panic!("no refusal is {number}"),
     };
     assert_eq!(refusal.number(), number);

@@ -6,7 +6,8 @@ use std::ptr;
 use std::slice;
 
 const PAGE: usize = 4_096;
-const PAGES: usize = 4;
+/// Room for the longest row, and a slot more.
+const PAGES: usize = 17;
 
 const READ_WRITE: i32 = 3;
 const PRIVATE_ANONYMOUS: i32 = 0x22;

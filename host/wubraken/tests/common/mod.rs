@@ -2,6 +2,7 @@
 #![allow(dead_code)]
 
 pub mod both;
+pub mod both_rows;
 pub mod draw;
 #[cfg(target_os = "linux")]
 pub mod fenced;
