@@ -1,7 +1,7 @@
 //! A turn file with every distance.
 
 use second::Arrival;
-use spreading::{energies, FARTHEST};
+use spreading::{energies, MAX_DISTANCE};
 
 use crate::script::{arrival, put_arrival, Script};
 
@@ -16,7 +16,7 @@ pub fn every_distance() -> Script {
         put_arrival(0, arrival)
     };
     let mut script = Script::open(2, 4, 2, 10).refused(put(0), 5);
-    for (distance, energy) in (1..=FARTHEST).zip(energies()) {
+    for (distance, energy) in (1..=MAX_DISTANCE).zip(energies()) {
         // Every put is followed by a take.
         let ticket = 2 * distance - 1;
         script = script
@@ -24,5 +24,5 @@ pub fn every_distance() -> Script {
             .end(0, 5, &format!("stored {ticket}"))
             .taken(1, 7, &format!("took 5 7 1 {energy}"));
     }
-    script.refused(put(FARTHEST + 1), 5)
+    script.refused(put(MAX_DISTANCE + 1), 5)
 }

@@ -8,7 +8,7 @@ pub mod table;
 const ONE_METRE: u64 = 1 << 24;
 
 /// The farthest that an arrival can be, in metres.
-pub const FARTHEST: u64 = 1_024;
+pub const MAX_DISTANCE: u64 = 1_024;
 
 /// Whether a distance has this energy: the greatest whole number that, times the
 /// square of the distance, is at most 2^24. At 0 it is 0.
@@ -32,7 +32,7 @@ pub fn energies() -> Vec<u64> {
         }
         energy
     };
-    (1..=FARTHEST).map(at).collect()
+    (1..=MAX_DISTANCE).map(at).collect()
 }
 
 /// Distances without energy that are easily taken for others: some are near once their
@@ -40,11 +40,11 @@ pub fn energies() -> Vec<u64> {
 pub fn wide_distances() -> Vec<u64> {
     let around = |bit| {
         let power = 1u64 << bit;
-        [power - 1, power, power + 1, power + 3, power + FARTHEST]
+        [power - 1, power, power + 1, power + 3, power + MAX_DISTANCE]
     };
     let mut distances: Vec<u64> = (13..64).flat_map(around).collect();
     // Negative ones.
-    distances.extend([u64::MAX, u64::MAX - 2, u64::MAX - (FARTHEST - 1)]);
+    distances.extend([u64::MAX, u64::MAX - 2, u64::MAX - (MAX_DISTANCE - 1)]);
     // Their squares are 18,532 and 17 modulo 2^32, 17 modulo 2^64, and just past 2^65.
     distances.extend([92_682, 869_476_073, 405_959_429_219_100_393]);
     distances.extend([6_074_001_000, 6_074_001_001]);

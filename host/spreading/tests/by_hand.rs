@@ -1,6 +1,6 @@
 //! Energies worked out by hand.
 
-use spreading::{energies, is_energy, wide_distances, FARTHEST};
+use spreading::{energies, is_energy, wide_distances, MAX_DISTANCE};
 
 const BY_HAND: [(u64, u64); 12] = [
     (1, 16_777_216),
@@ -35,7 +35,7 @@ fn one_energy_a_distance() {
 #[test]
 fn the_energies_of_arrivals() {
     let energies = energies();
-    assert_eq!(energies.len() as u64, FARTHEST);
+    assert_eq!(energies.len() as u64, MAX_DISTANCE);
     for (distance, energy) in (1..).zip(energies) {
         assert!(is_energy(distance, energy), "{energy} at {distance}");
     }
