@@ -4,15 +4,15 @@
 use std::fs;
 use std::process::ExitCode;
 
-use spreading::table::Runs;
+use spreading::table::Pieces;
 
 const HELP: &str = "\
 usage: energy_table FILE..
 
-Looks for stored energies in files: those of consecutive distances side by side,
-as words of 16, 32 or 64 bits, in either order, from any byte on. Ends with status
-0 if no file has any, with 1 at the first that has, with 2 without a file or at one
-that cannot be read.
+Looks for stored energies in files: those of consecutive distances at equal steps of
+up to 16 bytes, as words of 16, 32 or 64 bits, in either order, from any byte on.
+Ends with status 0 if no file has any, with 1 at the first that has, with 2 without
+a file or at one that cannot be read.
 ";
 
 fn main() -> ExitCode {
@@ -25,9 +25,9 @@ fn main() -> ExitCode {
         eprint!("{HELP}");
         return ExitCode::from(2);
     }
-    let runs = Runs::all();
+    let pieces = Pieces::all();
     for file in files {
-        match fs::read(&file).map(|bytes| runs.find(&bytes)) {
+        match fs::read(&file).map(|bytes| pieces.find(&bytes)) {
             Ok(None) => println!("{file}: no table of energies"),
             Ok(Some(found)) => {
                 println!("{file}: {found}");

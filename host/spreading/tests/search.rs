@@ -5,7 +5,7 @@ use std::path::Path;
 use std::process::Command;
 
 use spreading::energies;
-use spreading::table::{words, Runs, WIDTHS};
+use spreading::table::{words, Pieces, STEP, WIDTHS};
 
 /// The energies that fit into words of so many bytes, nearest first or last.
 fn table(width: usize, is_reversed: bool) -> Vec<u64> {
@@ -19,15 +19,15 @@ fn table(width: usize, is_reversed: bool) -> Vec<u64> {
 
 #[test]
 fn a_table_is_found_at_any_byte() {
-    let runs = Runs::all();
+    let pieces = Pieces::all();
     for width in WIDTHS {
         for is_reversed in [false, true] {
             let stored = words(&table(width, is_reversed), width).unwrap();
             for before in 0..9 {
                 let mut bytes = vec![0xA5; before];
                 bytes.extend(&stored);
-                let found = runs.find(&bytes).unwrap();
-                assert_eq!(found.width, width);
+                let found = pieces.find(&bytes).unwrap();
+                assert_eq!(found.step, width);
                 assert_eq!(found.at % width, before % width);
             }
         }
@@ -38,7 +38,7 @@ fn a_table_is_found_at_any_byte() {
 /// many of which are equal, longer pieces.
 #[test]
 fn a_piece_of_a_table_is_found() {
-    let runs = Runs::all();
+    let pieces = Pieces::all();
     for width in WIDTHS {
         for is_reversed in [false, true] {
             let table = table(width, is_reversed);
@@ -46,16 +46,51 @@ fn a_piece_of_a_table_is_found() {
                 let near = |part: &&[u64]| part.iter().all(|&energy| energy >= least);
                 for part in table.windows(length).filter(near) {
                     let bytes = words(part, width).unwrap();
-                    assert!(runs.find(&bytes).is_some(), "{part:?}");
+                    assert!(pieces.find(&bytes).is_some(), "{part:?}");
                 }
             }
         }
     }
 }
 
+/// Each energy with something in front of it: as a field of a record, and as a compiler
+/// writes a constant to the stack.
+#[test]
+fn a_table_with_gaps_is_found() {
+    let pieces = Pieces::all();
+    let with = |front: fn(u32) -> Vec<u8>| {
+        let entries = (1..).zip(energies());
+        let entry = |(distance, energy): (u32, u64)| {
+            [front(distance), (energy as u32).to_le_bytes().to_vec()].concat()
+        };
+        entries.flat_map(entry).collect::<Vec<u8>>()
+    };
+    for (step, bytes) in [
+        (8, with(|distance| distance.to_le_bytes().to_vec())),
+        (
+            9,
+            with(|distance| vec![0x48, 0xC7, 0x44, 0x24, distance as u8 * 8]),
+        ),
+        (
+            12,
+            with(|distance| {
+                [
+                    vec![0x48, 0xC7, 0x84, 0x24],
+                    (distance * 8).to_le_bytes().to_vec(),
+                ]
+                .concat()
+            }),
+        ),
+        (STEP, with(|distance| vec![distance as u8; STEP - 4])),
+    ] {
+        assert_eq!(pieces.find(&bytes).unwrap().step, step);
+    }
+    assert_eq!(pieces.find(&with(|_| vec![0xA5; STEP - 3])), None);
+}
+
 #[test]
 fn other_numbers_are_passed_over() {
-    let runs = Runs::all();
+    let pieces = Pieces::all();
     let energies = energies();
     for width in [4, 8] {
         for other in [
@@ -66,11 +101,11 @@ fn other_numbers_are_passed_over() {
             (0..=1_024).rev().collect(),
         ] {
             let other: Vec<u64> = other;
-            assert_eq!(runs.find(&words(&other, width).unwrap()), None);
+            assert_eq!(pieces.find(&words(&other, width).unwrap()), None);
         }
     }
-    assert_eq!(runs.find(&[0; 1_000]), None);
-    assert_eq!(runs.find(&[]), None);
+    assert_eq!(pieces.find(&[0; 1_000]), None);
+    assert_eq!(pieces.find(&[]), None);
 }
 
 /// The status of the program for a file, and what it prints.
@@ -92,7 +127,8 @@ fn the_program() {
     fs::write(&file, words(&energies(), 4).unwrap()).unwrap();
     let (status, text) = energy_table(&file);
     assert_eq!(status, Some(1), "{text}");
-    let found = ": energies 16777216 to 1048576 in words of 32 bits at byte 0\n";
+    let found =
+        ": energies 16777216 to 1048576 in words of 32 bits, every 4 bytes from byte 0 on\n";
     assert!(text.ends_with(found), "{text}");
 
     fs::remove_file(&file).unwrap();
