@@ -1,4 +1,5 @@
-//! Links the proved library's archives, from where `rt staticlib` writes them.
+//! Links the proved library's archives, from where `rt staticlib` writes them, and tells
+//! the tests which they are.
 
 use std::env;
 use std::path::{Path, PathBuf};
@@ -12,6 +13,7 @@ fn main() {
         }
     };
     println!("cargo:rustc-link-search=native={}", directory.display());
+    let mut archives = Vec::new();
     for name in ["wubraken", "wubraken_batch", "echogram"] {
         let archive = directory.join(format!("lib{}.a", name));
         if !archive.exists() {
@@ -23,5 +25,7 @@ fn main() {
         }
         println!("cargo:rerun-if-changed={}", archive.display());
         println!("cargo:rustc-link-lib=static={}", name);
+        archives.push(archive.display().to_string());
     }
+    println!("cargo:rustc-env=WUBRAKEN_ARCHIVES={}", archives.join(":"));
 }

@@ -1,9 +1,9 @@
-// Stages 1 to 3: the search for own node's key. `energy` is large and has two callers, so it stays a call; the rest is compiled into the turn.
+// Stages 1 to 3: the search for own node's key.
 ghost use mathlib.Core.Path.{_≡_};
 ghost use mathlib.Core.List.{[]};
 ghost use Prim.Native.Nat.{_<_};
-ghost use Rattle.arrival.specs.declared.Response.the-variants.{Took};
-ghost use Rattle.calendar.specs.rules.SearchSteps.{settle, step-1, step-2, step-3};
+ghost use Rattle.arrival.specs.Queue.{taken};
+ghost use Rattle.calendar.specs.rules.SearchSteps.{found, settle, step-1, step-2, step-3};
 ghost use Rattle.words.specs.Done.{done, gives};
 ghost use Rattle.stages.specs.Ready.{Ready, Holds};
 use super::answer;
@@ -25,19 +25,31 @@ use words::replies::Reply;
 use words::word;
 
 // What a take answers: the arrival in its own node, and its energy.
-fn took(x: Item, energy: u64) -> Response
-    ensures { λ r. ⌜ r ≡ Took (x .time) (x .path) (x .order) (x .distance) energy ⌝ }
+fn took(x: Item) -> Response
+    ensures { λ r. ⌜ r ≡ taken x ⌝ }
 {
     Response::Took {
         time: x.time,
         path: x.path,
         order: x.order,
         distance: x.distance,
-        energy,
+        energy: energy(x.distance),
     }
 }
 
-// Right has been set: at the end of the list the search ends in this turn. A put goes to 4, a take answers.
+// The search's end: a put goes to 4, a take answers.
+fn end_search(shape: Shape, w: Worker, store: &[u64]) -> Reply
+    requires { ⌜ Holds shape (now store) (w .own) ⌝ }
+    ensures { λ r. ⌜ gives (now (store .entry)) r ≡ done shape (now (store .entry)) (found shape (now (store .entry)) [] w) ⌝ }
+{
+    if w.kind == 0 {
+        return go_on(4, w);
+    }
+    let x = item_at(shape, w.own, store);
+    answer(w, took(x))
+}
+
+// Right has been set: at the end of the list the search ends in this turn.
 fn settle_right(shape: Shape, w: Worker, store: &[u64]) -> Reply
     requires { ⌜ Holds shape (now store) (w .own) ⌝ }
     ensures { λ r. ⌜ gives (now (store .entry)) r ≡ done shape (now (store .entry)) (settle shape (now (store .entry)) [] w) ⌝ }
@@ -45,12 +57,7 @@ fn settle_right(shape: Shape, w: Worker, store: &[u64]) -> Reply
     if w.right != shape.nodes {
         return go_on(2, w);
     }
-    if w.kind == 0 {
-        return go_on(4, w);
-    }
-    let x = item_at(shape, w.own, store);
-    let level = energy(x.distance);
-    answer(w, took(x, level))
+    end_search(shape, w, store)
 }
 
 pub fn step_1(shape: Shape, mut w: Worker, store: &[u64]) -> Reply
@@ -81,12 +88,7 @@ pub fn step_2(shape: Shape, mut w: Worker, store: &[u64]) -> Reply
         w.right = link / 2;
         settle_right(shape, w, store)
     } else {
-        if w.kind == 0 {
-            return go_on(4, w);
-        }
-        let x = item_at(shape, w.own, store);
-        let level = energy(x.distance);
-        answer(w, took(x, level))
+        end_search(shape, w, store)
     }
 }
 

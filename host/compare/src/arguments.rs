@@ -15,9 +15,9 @@ to say: for 2 and 3 the puts that must be marked when some take ends, and those
 of them then held by another; for 4 the takes whose arrival had been in the pool
 all through another take; for 5 the answers, and those of alike arrivals.
 
-Files written by hand, cut files and files with wrong marks always run, and
-random files of some seeds, with times of all 32 bits: small histories, damaged
-ones and three long ones a seed.
+Files written by hand, a file with every distance, cut files and files with wrong
+marks always run, and random files of some seeds, with times of all 32 bits: small
+histories, damaged ones and three long ones a seed.
 
 options:
   --seeds FROM..TO   runs these seeds, TO excluded, in place of 0..16

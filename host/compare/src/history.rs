@@ -90,7 +90,7 @@ impl<'a> Run<'a> {
             None => ("...".to_string(), "unfinished"),
         };
         let records = format!("{} to {end}", call.start + 1);
-        format!("  {ticket:<5}worker {worker:<4}{kind:<18}records {records:<14}{answer}\n")
+        format!("  {ticket:<5}worker {worker:<4}{kind:<18}records {records:<13} {answer}\n")
     }
 
     /// The calls of every history.

@@ -1,7 +1,8 @@
-//! The turn files that are always run: those written by hand, and broken ones.
+//! The turn files that are always run: those written by hand, one with every distance,
+//! and broken ones.
 
 use schedule::script::{open, put, take, turn};
-use schedule::{by_hand, orders, Script};
+use schedule::{by_hand, distances, orders, Script};
 
 /// One turn file.
 #[derive(Clone, Debug)]
@@ -54,6 +55,15 @@ pub fn by_hand() -> Vec<Input> {
     cases
         .map(|(name, script)| Input::of(name, &script))
         .collect()
+}
+
+/// A put and a take at every distance, the energies known by multiplication.
+pub fn every_distance() -> Vec<Input> {
+    let script = distances::every_distance();
+    vec![Input {
+        is_small: false,
+        ..Input::of("every distance", &script)
+    }]
 }
 
 /// The orders that catch an engine out.

@@ -24,6 +24,7 @@ pub fn groups(seeds: &[u64], records: u64) -> Vec<Group<'_>> {
     vec![
         group("worked example", inputs::worked_example()),
         group("by hand", inputs::by_hand()),
+        group("every distance", inputs::every_distance()),
         group("orders", inputs::orders()),
         group("cut files", inputs::cuts()),
         group("wrong marks", inputs::marks()),

@@ -27,9 +27,10 @@ const FEW: [&str; 4] = ["--seeds", "0..2", "--records", "3000"];
 fn the_second_program_passes() {
     let (status, text) = compare(None, &FEW);
     assert_eq!(status, Some(0), "{text}");
-    assert_eq!(text.lines().count(), 11);
+    assert_eq!(text.lines().count(), 12);
     for line in [
         "worked example      1 files        15 records     1 histories       2 calls in order\n",
+        "every distance      1 files     14339 records\n",
         "every shape         2 files      6000 records\n",
     ] {
         assert!(text.contains(line), "{text}");
@@ -62,6 +63,7 @@ fn fresh_seeds_are_printed() {
 fn wrong_engines_are_refused() {
     for (alter, shown) in [
         ("energy", "  second   took 5 7 1 16777216\n  engine   took 5 7 1 16777215\n"),
+        ("far energy", "wrong: every distance, every distance\nfirst difference at record 9704\n"),
         ("refusal", "first difference at record 42\n  record   PU 2 5 7 1 3\n  second   no 12\n  engine   no 9\n"),
         ("extra", "  record   (no record)\n  second   (no line)\n  engine   on\n"),
         ("short", "  engine   took 5 7 1 1864135 (and no end of the line)\n"),

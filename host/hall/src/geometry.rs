@@ -2,8 +2,8 @@
 //!
 //! The sound of a source reaches a listener by way of some walls as if it came
 //! straight from the source's mirror image behind them. Energy falls with the
-//! square of the distance (the pool's spreading table); what walls and air absorb
-//! is left out.
+//! square of the distance (the pool's spreading); what walls and air absorb is left
+//! out.
 
 use wubraken::Arrival;
 

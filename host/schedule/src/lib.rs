@@ -3,6 +3,7 @@
 #![forbid(unsafe_code)]
 
 pub mod by_hand;
+pub mod distances;
 pub mod echograms;
 pub mod lent;
 pub mod orders;

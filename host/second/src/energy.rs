@@ -1,4 +1,4 @@
-//! The spreading table.
+//! The energy at a distance, from a table of those that an arrival can have.
 
 use crate::shape::Arrival;
 
@@ -13,15 +13,25 @@ const fn energies() -> [u32; ENTRIES] {
     let mut table = [0; ENTRIES];
     let mut i = 0;
     while i < ENTRIES {
-        table[i] = spread(i as u32 + 1);
+        table[i] = spread(i as u64 + 1);
         i += 1;
     }
     table
 }
 
-/// 2^24 / distance², rounded down, for a distance from 1 to the farthest.
-const fn spread(distance: u32) -> u32 {
-    (1 << 24) / (distance * distance)
+/// The greatest whole number that, times the square, is at most 2^24: each bit that can
+/// be in it is, the highest first. For a distance from 1 to the farthest.
+const fn spread(distance: u64) -> u32 {
+    let square = distance * distance;
+    let mut energy = 0;
+    let mut bit = 1 << 24;
+    while bit > 0 {
+        if (energy + bit) * square <= 1 << 24 {
+            energy += bit;
+        }
+        bit >>= 1;
+    }
+    energy as u32
 }
 
 /// The energy at any distance; 0 at 0. Only a narrow call meets distances that
@@ -31,7 +41,7 @@ pub fn energy(distance: u64) -> u32 {
     match distance {
         0 => 0,
         1..=MOST => ENERGY[distance as usize - 1],
-        _ if distance <= FARTHEST => spread(distance as u32),
+        _ if distance <= FARTHEST => spread(distance),
         _ => 0,
     }
 }

@@ -8,6 +8,7 @@ use schedule::script::shape;
 use schedule::Script;
 use second::layout::{field, CURRENT};
 use second::{energy, word, Arrival, Reclamation, Worker};
+use spreading::{is_energy, wide_distances};
 
 fn fresh() -> Lent {
     Lent::open(shape(2, 4, 2, 10))
@@ -82,12 +83,14 @@ fn energies() {
         let mut lent = Lent::play(&by_hand::energy_at(distance, expected));
         assert_eq!(*lent.node_word(0, field::DISTANCE), u64::from(distance));
     }
-    for distance in 1..=1_024u64 {
-        let energy = u64::from(energy(distance));
-        let square = distance * distance;
-        assert!(energy * square <= 1 << 24 && (energy + 1) * square > 1 << 24);
+}
+
+/// In the table, behind it, and where nothing is left.
+#[test]
+fn energies_at_any_distance() {
+    for distance in (0..=4_100).chain(wide_distances()) {
+        assert!(is_energy(distance, energy(distance).into()), "{distance}");
     }
-    assert_eq!(energy(0), 0);
 }
 
 #[test]

@@ -7,7 +7,7 @@ mod common;
 use common::*;
 use schedule::script::shape;
 use second::layout::{field, CURRENT, STARTED};
-use second::{energy, word, Answer, Response, Worker};
+use second::{word, Answer, Response, Worker};
 
 /// A node that there is none of, far away.
 const FAR: u64 = 1 << 40;
@@ -336,19 +336,6 @@ fn a_take_answers_the_words_it_finds() {
             energy: expected,
         };
         assert_eq!(answer, Ok(expected));
-    }
-}
-
-/// 2^24 / distance², rounded down, at every distance that has any energy.
-#[test]
-fn energies_beyond_the_table() {
-    for distance in 1_025..=4_096u64 {
-        let energy = u64::from(energy(distance));
-        let square = distance * distance;
-        assert!(energy * square <= 1 << 24 && (energy + 1) * square > 1 << 24);
-    }
-    for shift in 0..52 {
-        assert_eq!(energy(4_097 << shift), 0);
     }
 }
 

@@ -10,11 +10,11 @@ use common::draw::{any_arrival, any_memory};
 use common::guarded::GARBAGE_RECORD;
 use common::lent::Call;
 use common::seeds::on_seeds;
-use common::{shape, translate, ARRIVAL};
+use common::{translate, ARRIVAL};
 use schedule::lent::{fields, small_shape, Field, Memory, RecordField};
 use schedule::Random;
-use second::layout::{field, node_at, HEADS};
-use wubraken::raw::{self, kind};
+use second::layout::HEADS;
+use wubraken::raw::kind;
 use wubraken::{Shape, Worker};
 
 const MEMORIES: usize = 400;
@@ -278,40 +278,4 @@ fn strike(random: &mut Random, word: &mut u64) {
         2 => *word = random.draw(),
         _ => {}
     }
-}
-
-/// A take answers whatever its node holds; the energy at any distance is
-/// 2^24 / distance², rounded down.
-#[test]
-fn arrivals_past_their_limits() {
-    on_seeds("past their limits", |random| {
-        let shape = shape(1, 2, 2, 10);
-        let mut lent = Both::garbage(shape.words().unwrap(), 1);
-        lent.call(shape, Call::Open);
-        lent.call(shape, Call::NarrowEnqueue(0, ARRIVAL, u64::MAX));
-        let distances = [0, 1, 1_024, 1_025, 2_896, 2_897, 4_095, 4_096, 4_097];
-        let wide = [1 << 32, 1 << 32 | 3, 1 << 48, u64::MAX];
-        for distance in distances.into_iter().chain(wide) {
-            let mut store = lent.store().to_vec();
-            let node = &mut store[node_at(2, 0)..];
-            node[field::DISTANCE] = distance;
-            for word in [field::TIME, field::PATH, field::ORDER] {
-                node[word] = random.choose(&[0, 1 << 16, 1 << 32, u64::MAX]);
-            }
-            let (time, path, order) = (node[field::TIME], node[field::PATH], node[field::ORDER]);
-            let mut lent = Both::new(&store, lent.table());
-            let answer = lent.call(shape, Call::NarrowDequeue(0, u64::MAX));
-            let square = u128::from(distance).pow(2);
-            let expected = raw::Answer {
-                kind: kind::TOOK,
-                time,
-                path,
-                order,
-                distance,
-                energy: (1_u128 << 24).checked_div(square).unwrap_or(0) as u64,
-                ..raw::Answer::default()
-            };
-            assert_eq!(answer, expected);
-        }
-    });
 }

@@ -35,11 +35,13 @@ fn main() -> ExitCode {
 
 fn alter(text: String, how: &str) -> String {
     match how {
-        // The tenth arrival taken is answered empty.
-        "lost" => replace_nth(&text, "took", 10, "empty"),
+        // The tenth arrival taken is answered empty, where there are several openings.
+        "lost" if text.matches("open\n").count() > 1 => replace_nth(&text, "took", 10, "empty"),
         // The third refusal by 12 is another one.
         "refusal" => replace_nth(&text, "no 12", 3, "no 9"),
         "energy" => text.replace("took 5 7 1 16777216\n", "took 5 7 1 16777215\n"),
+        // At 693 to 702 metres.
+        "far energy" => text.replace("took 5 7 1 34\n", "took 5 7 1 35\n"),
         "extra" => text + "on\n",
         "short" => match text.strip_suffix('\n') {
             Some(short) => short.to_string(),

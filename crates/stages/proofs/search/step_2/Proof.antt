@@ -2,7 +2,7 @@
 use mathlib.Core.Path.{_∙_}
 use Rattle.arrival.specs.Keys.{lower-keys}
 use Rattle.calendar.specs.rules.Layout.{itemAt}
-use Rattle.calendar.specs.rules.SearchSteps.{found, step-2}
+use Rattle.calendar.specs.rules.SearchSteps.{step-2}
 use borrow.Author.Tests.{eq-eqb, ne-eqb}
 use Rattle.stages.specs.Ready.{holds}
 use borrow.Author.Needs.{needs}
@@ -37,39 +37,12 @@ add-w c = search needs
 settle-right-requires : tie.Need-settle-right-requires
 settle-right-requires c κs = holds _ _ _ (c .before .before .before .before .before .before .before .before .before .pre .0)
 
-go-on-requires-2 : tie.Need-go-on-requires-2
-go-on-requires-2 c κs = search needs
+end-search-requires : tie.Need-end-search-requires
+end-search-requires c κs = holds _ _ _ (c .before .before .before .before .before .before .before .before .pre .0)
 
 returns-2 : tie.Need-returns-2
-unfolding step-2 found
-returns-2 c =
-    let a = c .before .before .before .before .before .before .before .before .before .before .before .args in
-    rw (
-      ← c .before .before .before .before .before .before .before .before .get-cell .ensures,
-      ne-eqb _ _ (c .before .before .before .before .before .before .before .if1 .left),
-      ← (c .before .before .before .before .is-lower .ensures ∙ lower-keys (itemAt (a .shape) (a .store .now) (a .w .right))
-          (itemAt (a .shape) (a .store .now) (a .w .own)) _ _
-          (c .before .before .before .before .before .before .key-at .ensures) (c .before .before .before .before .before .key-at2 .ensures)),
-      c .before .before .before .if2 .left,
-      eq-eqb _ _ (c .before .if3 .taken),
-      c .go-on2 .ensures,
-    )
-
-item-at-requires : tie.Need-item-at-requires
-item-at-requires c κs = search needs
-
-energy-requires : tie.Need-energy-requires
-energy-requires c κs = search needs
-
-took-requires : tie.Need-took-requires
-took-requires c κs = search needs
-
-answer-requires : tie.Need-answer-requires
-answer-requires c κs = search needs
-
-returns-3 : tie.Need-returns-3
 unfolding step-2
-returns-3 c =
+returns-2 c =
     let a = c .before .before .before .before .before .before .before .before .before .before .args in
     rw (
       ← c .before .before .before .before .before .before .before .get-cell .ensures,
@@ -80,24 +53,18 @@ returns-3 c =
       c .before .before .if2 .taken,
     ) (c .settle-right .ensures)
 
-returns-4 : tie.Need-returns-4
-unfolding step-2 found
-returns-4 c =
-    let a = c .before .before .before .before .before .before .before .before .before .before .before .before .before .before .args in
+returns-3 : tie.Need-returns-3
+unfolding step-2
+returns-3 c =
+    let a = c .before .before .before .before .before .before .before .before .before .args in
     rw (
-      ← c .before .before .before .before .before .before .before .before .before .before .before .get-cell .ensures,
-      ne-eqb _ _ (c .before .before .before .before .before .before .before .before .before .before .if1 .left),
-      ← (c .before .before .before .before .before .before .before .is-lower .ensures ∙ lower-keys (itemAt (a .shape) (a .store .now) (a .w .right))
+      ← c .before .before .before .before .before .before .get-cell .ensures,
+      ne-eqb _ _ (c .before .before .before .before .before .if1 .left),
+      ← (c .before .before .is-lower .ensures ∙ lower-keys (itemAt (a .shape) (a .store .now) (a .w .right))
           (itemAt (a .shape) (a .store .now) (a .w .own)) _ _
-          (c .before .before .before .before .before .before .before .before .before .key-at .ensures)
-          (c .before .before .before .before .before .before .before .before .key-at2 .ensures)),
-      c .before .before .before .before .before .before .if2 .left,
-      ne-eqb _ _ (c .before .before .before .before .if3 .left),
-      c .answer .ensures,
-      c .before .took .ensures,
-      c .before .before .energy .ensures,
-      c .before .before .before .item-at .ensures,
-    )
+          (c .before .before .before .before .key-at .ensures) (c .before .before .before .key-at2 .ensures)),
+      c .before .if2 .left,
+    ) (c .end-search .ensures)
 
 pub step-2-spec : {M : Type 1} → statement M
 step-2-spec =
@@ -112,11 +79,6 @@ step-2-spec =
     is-lower-requires
     add-w
     settle-right-requires
-    go-on-requires-2
+    end-search-requires
     returns-2
-    item-at-requires
-    energy-requires
-    took-requires
-    answer-requires
-    returns-3
-    returns-4)
+    returns-3)
