@@ -1,0 +1,2 @@
+pub mod Dealing
+pub mod DealtHistory
