@@ -7,7 +7,7 @@
 --     servedInRange, dealOut      3
 --     dealTests, dealRefusal      by what no turn is dealt: the lowest that applies, or 0
 --     Deal, dealt                 what is left by a dealt turn
---     dealtRun                    what is left by at most n of them
+--     dealtOn, dealtRun           what is left by at most n of them, behind what was dealt; from the start
 -- Assumes nothing.
 use mathlib.Core.List.{List, [], _∷_, _++_}
 use mathlib.Core.Bool.{Bool, true, false, cond, not, _&&_, _||_}
@@ -93,13 +93,18 @@ dealt whole sh m last =
     cond (eqb (dealRefusal whole sh m last) 0) (serving i (requested sh m (turnOf whole i))) (turnedAway (dealRefusal whole sh m last) m last)
 
 -- ── a run ──
--- dealt turns before what follows them
-abbrev pub before : ℕ → Deal → Deal
-before n r = record { memory = r .memory; dealer = r .dealer; turns = n + r .turns; response = r .response }
+-- nothing dealt yet
+abbrev pub undealt : Memory → ℕ → Deal
+undealt m last = record { memory = m; dealer = last; turns = 0; response = On }
 
--- at most n dealt turns, each on what the last one left, until a call is answered or one is refused
-unfoldable pub dealtRun : Bool → Shape → ℕ → Memory → ℕ → Deal
-dealtRun whole sh zero m last = record { memory = m; dealer = last; turns = 0; response = On }
-dealtRun whole sh (suc n) m last =
-    let r = dealt whole sh m last in
-    cond (goesOn (r .response)) (before (r .turns) (dealtRun whole sh n (r .memory) (r .dealer))) r
+-- behind n turns
+abbrev pub behind : ℕ → Deal → Deal
+behind n r = record { memory = r .memory; dealer = r .dealer; turns = n + r .turns; response = r .response }
+
+-- at most n dealt turns more, each on what the last one left, until a call is answered or one is refused
+unfoldable pub dealtOn : Bool → Shape → ℕ → Deal → Deal
+dealtOn whole sh zero r = r
+dealtOn whole sh (suc n) r = cond (goesOn (r .response)) (dealtOn whole sh n (behind (r .turns) (dealt whole sh (r .memory) (r .dealer)))) r
+
+abbrev pub dealtRun : Bool → Shape → ℕ → Memory → ℕ → Deal
+dealtRun whole sh n m last = dealtOn whole sh n (undealt m last)

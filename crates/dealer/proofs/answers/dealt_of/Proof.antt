@@ -1,0 +1,18 @@
+use mathlib.Core.Path.{_≡_, ap}
+use Rattle.wubraken.specs.declared.answers.Answer.{Answer}
+use Rattle.dealer.specs.declared.answers.Dealt.{Dealt}
+use borrow.Author.Needs.{needs}
+use Rattle.dealer.proofs.answers.dealt_of.Statement.{statement}
+use Rattle.dealer.proofs.answers.dealt_of.Tie as tie
+use Rattle.dealer.proofs.answers.dealt_of.Reads as reads
+use Rattle.dealer.proofs.answers.dealt_of.Lts as lts
+use Rattle.wubraken.proofs.answers.answer_of.Reads as answer-of-reads
+
+answer-of-requires : tie.Need-answer-of-requires
+answer-of-requires c κs = search needs
+
+returns : tie.Need-returns
+returns c = ap (λ (a : Answer). record { dealer = c .before .args .s .dealer; turns = c .before .args .s .turns; answer = a }) (c .answer-of .ensures)
+
+pub dealt-of-spec : {M : Type 1} → statement M
+dealt-of-spec = tie.close (tie.spec answer-of-requires returns)
