@@ -180,3 +180,78 @@ module _ (whole : Bool) (sh : Shape) (m : Memory) (last : ℕ) (D : Dealable who
     store = omega (arith, D .lent .store, act-length sh 0 (m .store) (Step i) (worker (m .table) i));
     table = omega (arith, D .lent .table, length-set (m .table) i (done .worker));
   }
+
+-- ── past the turn ──
+-- the whole memory is in range again, unless the turn leaks
+whole-after : (sh : Shape) (m : Memory) (i : ℕ) (L : Lent sh (m .store) (m .table)) (l : i < sh .workers) (sound : inRange sh m ≡ true)
+    → Lent sh (localAct sh 0 (m .store) (Step i) (worker (m .table) i) .store)
+    (set (m .table) i (localAct sh 0 (m .store) (Step i) (worker (m .table) i) .worker))
+    → not (leaks sh (m .store) (worker (m .table) i)) ≡ inRange sh (back (m .table) i (localAct sh 0 (m .store) (Step i) (worker (m .table) i)) .memory)
+whole-after sh m i L l sound after =
+    subst (λ (r : Result). Watched sh (r .memory) (not (leaks sh (m .store) (worker (m .table) i)))) (sym (whole-is sh m i L l sound))
+    (whole-on sh m i L l sound) after
+
+-- whether a look at everything finds something out of range past the turn of w
+abbrev pub leaksOf : Bool → Shape → List ℕ → Worker → Bool
+leaksOf whole sh s w = whole && leaks sh s w
+
+kept-after : (whole : Bool) (sh : Shape) (m : Memory) (i : ℕ) (L : Lent sh (m .store) (m .table)) (l : i < sh .workers) (kept : Kept whole sh m)
+    → MayTurn whole sh (worker (m .table) i)
+    → Lent sh (localAct sh 0 (m .store) (Step i) (worker (m .table) i) .store)
+    (set (m .table) i (localAct sh 0 (m .store) (Step i) (worker (m .table) i) .worker))
+    → goesOn (localAct sh 0 (m .store) (Step i) (worker (m .table) i) .response) ≡ true
+    → leaksOf whole sh (m .store) (worker (m .table) i) ≡ false
+    → Kept whole sh (back (m .table) i (localAct sh 0 (m .store) (Step i) (worker (m .table) i)) .memory)
+kept-after true sh m i L l kept may after on tight = sym (whole-after sh m i L l kept after) ∙ ap not tight
+kept-after false sh m i L l kept may after on tight =
+    going sh 0 (m .store) (worker (m .table) i) (near-admits sh m i L l kept may) (Step i) (localAct sh 0 (m .store) (Step i) (worker (m .table) i)) refl on
+    .words
+
+module _ (whole : Bool) (sh : Shape) (m : Memory) (last : ℕ) (D : Dealable whole sh m last)
+    (exists : nextServed sh (m .table) last < sh .workers) (may : MayTurn whole sh (worker (m .table) (nextServed sh (m .table) last))) where
+  abbrev left-by : Memory
+  left-by =
+      back (m .table) (nextServed sh (m .table) last)
+      (localAct sh 0 (m .store) (Step (nextServed sh (m .table) last)) (worker (m .table) (nextServed sh (m .table) last))) .memory
+
+  pub keeps-on : goesOn (localAct sh 0 (m .store) (Step (nextServed sh (m .table) last)) (worker (m .table) (nextServed sh (m .table) last)) .response) ≡ true
+      → leaksOf whole sh (m .store) (worker (m .table) (nextServed sh (m .table) last)) ≡ false
+      → Dealable whole sh (back (m .table) (nextServed sh (m .table) last)
+      (localAct sh 0 (m .store) (Step (nextServed sh (m .table) last)) (worker (m .table) (nextServed sh (m .table) last))) .memory)
+      (nextServed sh (m .table) last)
+  keeps-on on tight = record {
+    lent = lent-after whole sh m last D exists may;
+    inside = exists;
+    kept =
+        kept-after whole sh m (nextServed sh (m .table) last) (D .lent) exists (D .kept) may (lent-after whole sh m last D exists may) on tight;
+  }
+
+-- past a leak no turn is dealt, by 3
+out-of-all : (sh : Shape) (m : Memory) (last : ℕ) → Lent sh (m .store) (m .table) → inRange sh m ≡ false → dealt true sh m last ≡ turnedAway 3 m last
+unfolding dealt dealRefusal
+out-of-all sh m last L e =
+    rw (
+      shape-tests sh (L .limits),
+      le-ltb (length (m .store)) (layout sh) (L .store),
+      le-ltb (length (m .table)) (sh .workers) (L .table),
+      e,
+    )
+
+leaked-by : (whole : Bool) (sh : Shape) (m : Memory) (i : ℕ) (L : Lent sh (m .store) (m .table)) (l : i < sh .workers) (kept : Kept whole sh m)
+    → Lent sh (localAct sh 0 (m .store) (Step i) (worker (m .table) i) .store)
+    (set (m .table) i (localAct sh 0 (m .store) (Step i) (worker (m .table) i) .worker))
+    → leaksOf whole sh (m .store) (worker (m .table) i) ≡ true
+    → let n = back (m .table) i (localAct sh 0 (m .store) (Step i) (worker (m .table) i)) .memory in dealt whole sh n i ≡ turnedAway 3 n i
+leaked-by true sh m i L l kept after leak =
+    out-of-all sh (back (m .table) i (localAct sh 0 (m .store) (Step i) (worker (m .table) i)) .memory) i after
+    (sym (whole-after sh m i L l kept after) ∙ ap not leak)
+leaked-by false sh m i L l kept after leak = absurd (let z : _≡_ {A = ℕ} 0 1 = cc in omega arith)
+
+module _ (whole : Bool) (sh : Shape) (m : Memory) (last : ℕ) (D : Dealable whole sh m last)
+    (exists : nextServed sh (m .table) last < sh .workers) (may : MayTurn whole sh (worker (m .table) (nextServed sh (m .table) last))) where
+  pub leaked : leaksOf whole sh (m .store) (worker (m .table) (nextServed sh (m .table) last)) ≡ true
+      → let n = back (m .table) (nextServed sh (m .table) last)
+      (localAct sh 0 (m .store) (Step (nextServed sh (m .table) last)) (worker (m .table) (nextServed sh (m .table) last))) .memory in
+      dealt whole sh n (nextServed sh (m .table) last) ≡ turnedAway 3 n (nextServed sh (m .table) last)
+  leaked leak =
+      leaked-by whole sh m (nextServed sh (m .table) last) (D .lent) exists (D .kept) (lent-after whole sh m last D exists may) leak

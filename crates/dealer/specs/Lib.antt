@@ -4,3 +4,4 @@ pub mod Rows
 pub mod Answered
 pub mod Look
 pub mod Dealable
+pub mod DealLoop

@@ -12,6 +12,7 @@ use arrival::Shape;
 pub mod answers;
 pub mod look;
 pub mod rows;
+pub mod turns;
 
 // What a new dealer remembers: the shape's last worker.
 #[no_mangle]
