@@ -37,9 +37,9 @@ unfolding dealtOn
 over whole sh zero r e = refl
 over whole sh (suc n) r e = rw e
 
-none : {whole : Bool} {sh : Shape} (n : ℕ) → n ≡ 0 → (r : Deal) → dealtOn whole sh n r ≡ r
+none : (whole : Bool) (sh : Shape) (n : ℕ) → n ≡ 0 → (r : Deal) → dealtOn whole sh n r ≡ r
 unfolding dealtOn
-none n e r = rw e
+none whole sh n e r = rw e
 
 -- where a turn is left, which response it is that goes on does not matter
 alike : (whole : Bool) (sh : Shape) (m : Memory) (last made n : ℕ) (r : Response) → goesOn r ≡ true → n ≢ 0
@@ -60,7 +60,7 @@ module _ (whole : Bool) (sh : Shape) (m : Memory) (last made : ℕ) where
       → record { memory = m; dealer = last; turns = made; response = Refused k } ≡ dealtOn whole sh n (running m last made)
   away n k some e =
       sym (one-more n On refl some ∙ ap (λ (d : Deal). dealtOn whole sh (n - 1) (behind made d)) e
-      ∙ ap (λ (t : ℕ). dealtOn whole sh (n - 1) (record { memory = m; dealer = last; turns = t; response = Refused k })) add-zero
+      ∙ ap (λ (t : ℕ). dealtOn whole sh (n - 1) (record { memory = m; dealer = last; turns = t; response = Refused k })) (add-zero made)
       ∙ over whole sh (n - 1) (record { memory = m; dealer = last; turns = made; response = Refused k }) refl)
 
   module _ (i : ℕ) (r : Result) (is : dealt whole sh m last ≡ serving i r) where
@@ -72,7 +72,7 @@ module _ (whole : Bool) (sh : Shape) (m : Memory) (last made : ℕ) where
       where
         go : (b : Bool) → eqb n 1 ≡ b → (g : Bool) → g ≡ goesOn (r .response) → (b || not g) ≡ true
             → dealtOn whole sh (n - 1) (behind made (serving i r)) ≡ behind made (serving i r)
-        go true f g says e = none (n - 1) (omega (arith, eqb-true n 1 f)) (behind made (serving i r))
+        go true f g says e = none whole sh (n - 1) (omega (arith, eqb-true n 1 f)) (behind made (serving i r))
         go false f true says e = never e
         go false f false says e = over whole sh (n - 1) (behind made (serving i r)) (sym says)
 

@@ -10,10 +10,10 @@
 --     DealerCorrect, DealerDemand3       and after an opening all of demand 3 holds
 -- Assumes nothing.
 use mathlib.Core.Path.{_≡_}
-use mathlib.Core.List.{List, [], _∷_, _++_, map}
+use mathlib.Core.List.{List, [], _∷_, map}
 use mathlib.Core.Bool.{Bool, true, false, cond, not, _&&_, _||_}
 use mathlib.Core.Logic.{_≢_}
-use Prim.Native.Nat.{ℕ, zero, suc, _+_, _<_, _≤_}
+use Prim.Native.Nat.{ℕ, zero, suc, _<_, _≤_}
 use lib.Dec.{eqb}
 use Rattle.laws.specs.FirstOf.{firstOf}
 use Rattle.arrival.specs.declared.Shape.{Shape}

@@ -1,5 +1,11 @@
 pub mod Dealing
 pub mod DealtHistory
+pub mod Served
+pub mod Requests
+pub mod DealtTurn
+pub mod DealtInRange
+pub mod Waited
+pub mod WaitingReached
 pub mod Rows
 pub mod Answered
 pub mod Look
