@@ -11,3 +11,4 @@ pub mod Answered
 pub mod Look
 pub mod Dealable
 pub mod DealLoop
+pub mod DealRound

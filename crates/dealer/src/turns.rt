@@ -55,10 +55,10 @@ fn leaks_of(shape: Shape, whole: bool, w: Worker, store: &[u64]) -> bool
     requires { ⌜ Ready shape (now store) w ⌝ }
     ensures { λ r. ⌜ r ≡ leaksOf whole shape (now (store .entry)) w ⌝ }
 {
-    if !whole {
-        return false;
+    if whole {
+        return turn_leaks(shape, w, store);
     }
-    turn_leaks(shape, w, store)
+    false
 }
 
 // At least one turn and at most `turns`, past refusals 1 to 4.

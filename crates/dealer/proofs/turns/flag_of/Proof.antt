@@ -1,0 +1,35 @@
+use mathlib.Core.Path.{_≡_, sym, ap, _∙_}
+use mathlib.Core.Bool.{Bool}
+use lib.ListN.{length}
+use Rattle.admission.specs.Gate.{soundOf}
+use Rattle.dealer.specs.DealLoop.{flagOf}
+use borrow.Author.Needs.{needs}
+use Rattle.dealer.proofs.turns.flag_of.Statement.{statement}
+use Rattle.dealer.proofs.turns.flag_of.Tie as tie
+use Rattle.dealer.proofs.turns.flag_of.Reads as reads
+use Rattle.dealer.proofs.turns.flag_of.Lts as lts
+use Rattle.admission.proofs.is_near.Reads as is-near-reads
+use Rattle.admission.proofs.is_sound.Reads as is-sound-reads
+use Rattle.dealer.proofs.look.rows_in_range.Reads as rows-in-range-reads
+
+rows-in-range-requires : tie.Need-rows-in-range-requires
+rows-in-range-requires c κs = search needs
+
+is-sound-requires : tie.Need-is-sound-requires
+is-sound-requires c κs = search needs
+
+returns : tie.Need-returns
+unfolding flagOf
+returns c =     rw (c .before .before .if1 .taken) (c .is-sound .ensures ∙ ap (λ (ok : Bool). soundOf (c .before .before .before .before .args .shape) (c .before .before .before .before .args .store .now) (length (c .before .before .before .before .args .table .now)) ok) (c .before .rows-in-range .ensures))
+
+is-near-requires : tie.Need-is-near-requires
+is-near-requires c κs = search needs
+
+returns-2 : tie.Need-returns-2
+unfolding flagOf
+returns-2 c =     rw (c .before .if1 .left) (c .is-near .ensures)
+
+pub flag-of-spec : {M : Type 1} → statement M
+flag-of-spec =
+    tie.close
+    (tie.spec rows-in-range-requires is-sound-requires returns is-near-requires returns-2)
