@@ -1,32 +1,131 @@
 -- The loop over dealt turns: what is still to be dealt gives what the whole run gives.
---     flagOf                          the flag for refusal 3 before the first turn
---     passed-by, away-at-first        what the gate lets pass may be dealt on; what it refuses is the run's refusal
+--     flagOf, flag-tight              the flag for refusal 3 before the first turn; down where 1 or 2 applies
+--     passed-by, away-at-first        what the gate lets pass may be dealt on; what it refuses no turn is dealt on
 --     running                         after some turns, all of which went on
 --     away, ended, on                 no turn is dealt; the last turn; one turn more
+--     none-dealt                      no turn was asked for
 -- Assumes nothing.
-use mathlib.Core.Path.{_≡_, refl, sym, ap, _∙_}
+use mathlib.Core.Path.{_≡_, refl, sym, ap, subst, _∙_}
 use mathlib.Core.List.{List}
-use mathlib.Core.Bool.{Bool, true, false, cond, not, _&&_, _||_}
+use mathlib.Core.Bool.{Bool, true, false, cond, not, _&&_, _||_, or-false, and-false}
 use mathlib.Core.Logic.{_≢_}
-use Prim.Native.Nat.{ℕ, zero, suc, _+_, _-_, _<_, _≤_}
+use Prim.Native.Nat.{ℕ, zero, suc, _+_, _-_, _≤_}
 use native.Mathlib.Nat.{add-zero}
 use native.Mathlib.Omega.{arith}
 use lib.Dec.{eqb}
 use lib.ListN.{length}
-use borrow.Author.Tests.{eqb-true, eqb-false, eq-eqb, ne-eqb}
+use borrow.Author.Tests.{eqb-true, eq-eqb, ne-eqb, le-ltb}
 use Rattle.arrival.specs.declared.Shape.{Shape}
 use Rattle.arrival.specs.declared.Response.{Response}
 use Rattle.arrival.specs.declared.Response.the-variants.{On, Refused}
-use Rattle.laws.specs.Tests.{never}
+use Rattle.laws.specs.Tests.{never, parts}
+use Rattle.calendar.specs.rules.Ranges.{wordsInRange, tableInRange}
+use Rattle.calendar.specs.rules.Refusals.{badShape, short, tooShort, noWorker}
 use Rattle.calendar.specs.rules.Operations.{Memory, Result}
 use Rattle.calendar.specs.rules.NarrowCalls.{goesOn}
-use Rattle.admission.specs.Gate.{soundOf}
-use Rattle.admission.specs.NarrowGate.{nearOf}
+use Rattle.calendar.specs.facts.RangeFacts.{word-ranges}
+use Rattle.calendar.specs.facts.Accepted.{Lent}
+use Rattle.calendar.specs.facts.Accepted.{lent as lent-of}
+use Rattle.admission.specs.Watched.{Watched}
+use Rattle.admission.specs.Gate.{gateOf, gate-passed, gate-opens, openGate, open-passed, Tight, shape-tests, lent-passes, soundOf, sound-opens, sound-watched}
+use Rattle.admission.specs.NarrowGate.{nearOf, near-opens}
+use Rattle.wubraken.specs.Results.{lent}
+use Rattle.dealer.specs.Rows.{records, records-length}
 use Rattle.dealer.specs.Look.{rowsInRange}
-use Rattle.dealer.specs.Dealing.{Deal, serving, turnedAway, dealt, undealt, behind, dealtOn, dealtRun}
+use Rattle.dealer.specs.Dealing.{allIdle, servedInRange, dealOut, dealRefusal, Deal, serving, turnedAway, dealt, undealt, behind, dealtOn, dealtRun}
+use Rattle.dealer.specs.Dealable.{Kept, Dealable}
 
 unfoldable pub flagOf : Bool → Shape → List ℕ → List (List ℕ) → Bool
 flagOf whole sh s rows = cond whole (soundOf sh s (length rows) (rowsInRange sh rows)) (nearOf sh s (length rows) true)
+
+pub flag-tight : (whole : Bool) (sh : Shape) (s : List ℕ) (rows : List (List ℕ)) → Tight sh (length s) (length rows) (flagOf whole sh s rows)
+unfolding flagOf
+flag-tight true sh s rows up = sound-opens sh s (length rows) (rowsInRange sh rows) up
+flag-tight false sh s rows up = near-opens sh s (length rows) true up
+
+-- the rows of all workers are in range, where there are as many
+rows-are : (sh : Shape) (s : List ℕ) (rows : List (List ℕ)) → Lent sh s (records rows) → rowsInRange sh rows ≡ tableInRange sh (records rows)
+unfolding rowsInRange tableInRange
+rows-are sh s rows L =
+    let l : sh .workers ≤ length rows = omega (arith, L .table, records-length rows) in
+    rw (shape-tests sh (L .limits), le-ltb (length rows) (sh .workers) l)
+
+-- ── before the first turn ──
+module _ (sh : Shape) (s : List ℕ) (rows : List (List ℕ)) (last : ℕ) where
+  abbrev m : Memory
+  m = lent s (records rows)
+
+  lent-by : openGate sh (length s) (length rows) ≡ 0 → Lent sh s (records rows)
+  lent-by e = let p = open-passed sh (length s) (length rows) e in
+      record { limits = p .0; store = p .1; table = omega (arith, p .2, records-length rows) }
+
+  watched : Watched sh m (soundOf sh s (length rows) (rowsInRange sh rows))
+  watched =
+      subst (λ (n : ℕ). Watched sh m (soundOf sh s n (rowsInRange sh rows))) (records-length rows)
+      (sound-watched sh m (rowsInRange sh rows) (rows-are sh s rows))
+
+  near-words : Lent sh s (records rows) → nearOf sh s (length rows) true ≡ (wordsInRange sh s && true)
+  unfolding nearOf
+  near-words L =
+      rw (eq-eqb (openGate sh (length s) (length rows)) 0 (subst (λ (n : ℕ). openGate sh (length s) n ≡ 0) (records-length rows) (lent-passes sh m L)))
+
+  kept-by : (whole : Bool) → Lent sh s (records rows) → flagOf whole sh s rows ≡ true → Kept whole sh m
+  unfolding flagOf
+  kept-by true L up = sym (watched L) ∙ up
+  kept-by false L up = word-ranges sh s (parts (wordsInRange sh s) true (sym (near-words L) ∙ up) .0)
+
+  pub passed-by : (whole : Bool) → gateOf sh (length s) (length rows) last (flagOf whole sh s rows) ≡ 0 → Dealable whole sh (lent s (records rows)) last
+  passed-by whole e =
+      let (up, inside) = gate-passed sh (length s) (length rows) last (flagOf whole sh s rows) e in
+      let L = lent-by (gate-opens sh (length s) (length rows) last (flagOf whole sh s rows) e) in
+      record { lent = L; inside = inside; kept = kept-by whole L up }
+
+  -- what the gate says is what 1 to 4 say, but for the record of the worker to be served
+  out-is : (whole : Bool) → Lent sh s (records rows)
+      → dealOut whole sh m last ≡ (not (flagOf whole sh s rows) || (not whole && not (servedInRange sh (records rows) last)))
+  unfolding flagOf
+  out-is true L = ap not (sym (watched L)) ∙ sym (or-false (not (soundOf sh s (length rows) (rowsInRange sh rows))))
+  out-is false L = rw (near-words L) (by (wordsInRange sh s) (servedInRange sh (records rows) last))
+    where
+      by : (a b : Bool) → not (a && b) ≡ (not (a && true) || not b)
+      by true b = refl
+      by false b = refl
+
+  out-down : (whole : Bool) → Lent sh s (records rows) → flagOf whole sh s rows ≡ false → dealOut whole sh m last ≡ true
+  out-down whole L down = out-is whole L ∙ rw down
+
+  out-up : (whole : Bool) → Lent sh s (records rows) → flagOf whole sh s rows ≡ true → noWorker sh last ≡ true → dealOut whole sh m last ≡ false
+  out-up whole L up nobody = out-is whole L ∙ rw (up, nobody) (and-false (not whole))
+
+  as-long : tooShort sh s (records rows) ≡ short sh (length s) (length rows)
+  as-long = ap (short sh (length s)) (records-length rows)
+
+  refusal-at-first : (whole : Bool) → gateOf sh (length s) (length rows) last (flagOf whole sh s rows) ≢ 0
+      → dealRefusal whole sh (lent s (records rows)) last ≡ gateOf sh (length s) (length rows) last (flagOf whole sh s rows)
+  unfolding dealRefusal gateOf
+  refusal-at-first whole some =
+      rw as-long
+      (by (badShape sh) (short sh (length s) (length rows)) (flagOf whole sh s rows) (noWorker sh last) (allIdle sh (records rows) last) (dealOut whole sh m last)
+      (λ one two down. out-down whole (lent-as one two) down) (λ one two up nobody. out-up whole (lent-as one two) up nobody) some)
+    where
+      lent-as : badShape sh ≡ false → short sh (length s) (length rows) ≡ false → Lent sh s (records rows)
+      lent-as one two = lent-of sh s (records rows) one (as-long ∙ two)
+
+      by : (a b f n i o : Bool) → (a ≡ false → b ≡ false → f ≡ false → o ≡ true) → (a ≡ false → b ≡ false → f ≡ true → n ≡ true → o ≡ false)
+          → _≢_ {A = ℕ} (cond a 1 (cond b 2 (cond (not f) 3 (cond n 4 0)))) 0
+          → _≡_ {A = ℕ} (cond a 1 (cond b 2 (cond o 3 (cond n 4 (cond i 16 0))))) (cond a 1 (cond b 2 (cond (not f) 3 (cond n 4 0))))
+      by true b f n i o down up some = refl
+      by false true f n i o down up some = refl
+      by false false false n i o down up some = rw (down refl refl refl)
+      by false false true true i o down up some = rw (up refl refl refl refl)
+      by false false true false i o down up some = absurd (some refl)
+
+  pub away-at-first : (whole : Bool) (k : ℕ) → k ≡ gateOf sh (length s) (length rows) last (flagOf whole sh s rows) → k ≢ 0
+      → dealt whole sh (lent s (records rows)) last ≡ turnedAway k (lent s (records rows)) last
+  unfolding dealt
+  away-at-first whole k is some =
+      let e = refusal-at-first whole (λ z. some (is ∙ z)) ∙ sym is in
+      rw (e, ne-eqb k 0 some)
 
 -- ── one turn of a run ──
 abbrev pub running : Memory → ℕ → ℕ → Deal
@@ -82,3 +181,7 @@ module _ (whole : Bool) (sh : Shape) (m : Memory) (last made : ℕ) where
     on n some more g =
         one-more n On refl some ∙ ap (λ (d : Deal). dealtOn whole sh (n - 1) (behind made d)) is
         ∙ alike whole sh (r .memory) i (made + 1) (n - 1) (r .response) g (λ e. omega (arith, some, more))
+
+-- ── a run ──
+pub none-dealt : (whole : Bool) (sh : Shape) (turns : ℕ) (m : Memory) (last : ℕ) → turns ≡ 0 → undealt m last ≡ dealtRun whole sh turns m last
+none-dealt whole sh turns m last e = sym (none whole sh turns e (undealt m last))

@@ -1,7 +1,7 @@
 use mathlib.Core.Path.{_≡_, refl, sym, ap, _∙_}
 use Prim.Native.Nat.{ℕ, _-_, _<_, _≤_}
 use native.Mathlib.Omega.{arith}
-use lib.ListN.{length, length-set}
+use lib.ListN.{length, set, length-set}
 use borrow.Author.Tests.{not-true, not-false}
 use Rattle.words.specs.Done.{Done}
 use Rattle.admission.specs.Gate.{shape-tests}
@@ -112,7 +112,7 @@ same-length-6 c =     sym (c .before .before .before .before .before .before .be
 
 returns-3 : tie.Need-returns-3 Inv-loop μ-loop
 returns-3 c =     let R = c .before .before .before .before .before .before .before .before .before .before .before .before .before .before .before .before .before .before .before .loop .inv .0 in
-    ap (leavesDeal _ _) (c .hand-back3 .ensures)
+    ap (leavesDeal _ (set (c .before .before .before .before .before .before .before .before .before .before .before .before .before .before .before .before .before .before .before .loop .table) (c .before .before .before .before .before .before .before .before .before .before .before .before .before .before .before .before .before .next-served .result) (c .before .before .before .row-of .result))) (c .hand-back3 .ensures)
     ∙ last-turn R (c .before .before .before .before .before .before .before .before .before .before .before .before .before .before .before .before .before .next-served .result) (c .before .before .before .before .before .before .before .before .before .before .before .before .before .before .before .before .before .next-served .ensures) (c .before .before .before .before .before .before .before .before .before .before .before .before .before .before .before .if1 .left) (c .before .before .before .before .before .before .before .before .before .before .before .before .before .worker-of .result) (c .before .before .before .before .before .before .before .before .before .before .before .before .before .worker-of .ensures) (c .before .before .before .before .before .before .before .before .before .before .before .before .may-turn .result) (c .before .before .before .before .before .before .before .before .before .before .before .before .may-turn .ensures) (not-false _ (c .before .before .before .before .before .before .before .before .before .before .before .if2 .left)) _ (c .before .before .before .before .before .before .before .step .result) (c .before .before .before .before .before .before .before .step .ensures) (c .before .before .before .row-of .result) (c .before .before .before .row-of .ensures) (c .before .before .goes-on .result) (c .before .before .goes-on .ensures) (c .before .if3 .taken)
 
 hand-back-requires-4 : tie.Need-hand-back-requires-4 Inv-loop μ-loop
@@ -126,7 +126,7 @@ same-length-8 c =     sym (c .before .before .before .before .before .before .be
 
 returns-4 : tie.Need-returns-4 Inv-loop μ-loop
 returns-4 c =     let R = c .before .before .before .before .before .before .before .before .before .before .before .before .before .before .before .before .before .before .before .before .loop .inv .0 in
-    ap (leavesDeal _ _) (c .hand-back4 .ensures)
+    ap (leavesDeal _ (set (c .before .before .before .before .before .before .before .before .before .before .before .before .before .before .before .before .before .before .before .before .loop .table) (c .before .before .before .before .before .before .before .before .before .before .before .before .before .before .before .before .before .before .next-served .result) (c .before .before .before .before .row-of .result))) (c .hand-back4 .ensures)
     ∙ past-leak R (c .before .before .before .before .before .before .before .before .before .before .before .before .before .before .before .before .before .before .next-served .result) (c .before .before .before .before .before .before .before .before .before .before .before .before .before .before .before .before .before .before .next-served .ensures) (c .before .before .before .before .before .before .before .before .before .before .before .before .before .before .before .before .if1 .left) (c .before .before .before .before .before .before .before .before .before .before .before .before .before .before .worker-of .result) (c .before .before .before .before .before .before .before .before .before .before .before .before .before .before .worker-of .ensures) (c .before .before .before .before .before .before .before .before .before .before .before .before .before .may-turn .result) (c .before .before .before .before .before .before .before .before .before .before .before .before .before .may-turn .ensures) (not-false _ (c .before .before .before .before .before .before .before .before .before .before .before .before .if2 .left)) _ (c .before .before .before .before .before .before .before .before .step .result) (c .before .before .before .before .before .before .before .before .step .ensures) (c .before .before .before .before .row-of .result) (c .before .before .before .before .row-of .ensures) (c .before .before .before .goes-on .result) (c .before .before .before .goes-on .ensures) (c .before .before .if3 .left) (c .before .before .before .before .before .before .before .before .before .before .leaks-of .result) (c .before .before .before .before .before .before .before .before .before .before .leaks-of .ensures) (c .before .if4 .taken)
 
 loop-less : tie.Need-loop-less Inv-loop μ-loop

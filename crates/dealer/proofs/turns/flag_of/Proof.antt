@@ -20,14 +20,14 @@ is-sound-requires c κs = search needs
 
 returns : tie.Need-returns
 unfolding flagOf
-returns c =     rw (c .before .before .if1 .taken) (c .is-sound .ensures ∙ ap (λ (ok : Bool). soundOf (c .before .before .before .before .args .shape) (c .before .before .before .before .args .store .now) (length (c .before .before .before .before .args .table .now)) ok) (c .before .rows-in-range .ensures))
+returns c = rw (c .before .before .if1 .taken) (c .is-sound .ensures ∙ ap (λ (ok : Bool). soundOf (c .before .before .before .before .args .shape) (c .before .before .before .before .args .store .now) (length (c .before .before .before .before .args .table .now)) ok) (c .before .rows-in-range .ensures))
 
 is-near-requires : tie.Need-is-near-requires
 is-near-requires c κs = search needs
 
 returns-2 : tie.Need-returns-2
 unfolding flagOf
-returns-2 c =     rw (c .before .if1 .left) (c .is-near .ensures)
+returns-2 c = rw (c .before .if1 .left) (c .is-near .ensures)
 
 pub flag-of-spec : {M : Type 1} → statement M
 flag-of-spec =

@@ -8,13 +8,13 @@ use Rattle.dealer.proofs.turns.may_turn.Lts as lts
 use Rattle.admission.proofs.ranges.record_in_range.Reads as record-in-range-reads
 
 returns : tie.Need-returns
-returns c =     rw (c .if1 .taken)
+returns c = rw (c .if1 .taken)
 
 record-in-range-requires : tie.Need-record-in-range-requires
-record-in-range-requires c κs =     let l = limits (c .before .args .shape) (c .before .pre) in (l .some-bucket, omega (arith, l .buckets, l .nodes))
+record-in-range-requires c κs = let l = limits (c .before .args .shape) (c .before .pre) in (l .some-bucket, omega (arith, l .buckets, l .nodes))
 
 returns-2 : tie.Need-returns-2
-returns-2 c =     rw (c .before .if1 .left) (c .record-in-range .ensures)
+returns-2 c = rw (c .before .if1 .left) (c .record-in-range .ensures)
 
 pub may-turn-spec : {M : Type 1} → statement M
 may-turn-spec = tie.close (tie.spec returns record-in-range-requires returns-2)
