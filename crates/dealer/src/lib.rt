@@ -8,6 +8,7 @@ ghost use Rattle.dealer.specs.Answered.{hands, handed};
 use answers::Dealt;
 use answers::dealt_of;
 use arrival::Shape;
+use turns::deal_lent;
 
 pub mod answers;
 pub mod look;
@@ -23,4 +24,48 @@ pub extern "C" fn wubraken_new_dealer(shape: Shape) -> u64
         return 0;
     }
     shape.workers - 1
+}
+
+// One dealt turn, by a look at the whole of the lent memory.
+#[no_mangle]
+pub extern "C" fn wubraken_deal(
+    shape: Shape,
+    dealer: u64,
+    store: &mut [u64],
+    table: &mut [[u64; 9]],
+) -> Dealt
+    ensures { λ r. ⌜ hands (now (store .exit)) (now (table .exit)) r ≡ handed (dealt true shape (lent (now (store .entry)) (records (now (table .entry))))
+        dealer) ⌝ }
+{
+    dealt_of(deal_lent(shape, true, dealer, 1, store, table))
+}
+
+// At most so many dealt turns, until a call is answered or a turn is refused. The lent memory is looked at once, and not for every turn.
+#[no_mangle]
+pub extern "C" fn wubraken_deal_run(
+    shape: Shape,
+    dealer: u64,
+    turns: u64,
+    store: &mut [u64],
+    table: &mut [[u64; 9]],
+) -> Dealt
+    ensures { λ r. ⌜ hands (now (store .exit)) (now (table .exit)) r ≡ handed (dealtRun true shape turns (lent (now (store .entry))
+        (records (now (table .entry)))) dealer) ⌝ }
+{
+    dealt_of(deal_lent(shape, true, dealer, turns, store, table))
+}
+
+// The same by narrow turns, each of which looks only at what it needs.
+#[no_mangle]
+pub extern "C" fn wubraken_narrow_deal(
+    shape: Shape,
+    dealer: u64,
+    turns: u64,
+    store: &mut [u64],
+    table: &mut [[u64; 9]],
+) -> Dealt
+    ensures { λ r. ⌜ hands (now (store .exit)) (now (table .exit)) r ≡ handed (dealtRun false shape turns (lent (now (store .entry))
+        (records (now (table .entry)))) dealer) ⌝ }
+{
+    dealt_of(deal_lent(shape, false, dealer, turns, store, table))
 }
