@@ -105,7 +105,8 @@ module _ (sh : Shape) (s : List ℕ) (rows : List (List ℕ)) (last : ℕ) where
   unfolding dealRefusal gateOf
   refusal-at-first whole some =
       rw as-long
-      (by (badShape sh) (short sh (length s) (length rows)) (flagOf whole sh s rows) (noWorker sh last) (allIdle sh (records rows) last) (dealOut whole sh m last)
+      (by (badShape sh) (short sh (length s) (length rows)) (flagOf whole sh s rows) (noWorker sh last) (allIdle sh (records rows) last)
+      (dealOut whole sh m last)
       (λ one two down. out-down whole (lent-as one two) down) (λ one two up nobody. out-up whole (lent-as one two) up nobody) some)
     where
       lent-as : badShape sh ≡ false → short sh (length s) (length rows) ≡ false → Lent sh s (records rows)

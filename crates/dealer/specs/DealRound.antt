@@ -3,8 +3,8 @@
 --     none-in-progress                16 ends the run
 --     exists, refused-record          there is a worker to be served; its record is out of range: 3 ends the run
 --     is-ready, as-long               the turn may be made; it leaves the store as long as it was
---     last-turn, past-leak            the turn was the last; it led out of the ranges, and 3 ends the run
---     next-round, lasts-less          one round more; fewer turns are left
+--     last-turn, lasts-less           the turn was the last; it was not, and fewer are left
+--     past-leak, next-round           it led out of the ranges, and 3 ends the run; one round more
 -- Assumes nothing.
 use mathlib.Core.Path.{_≡_, refl, sym, ap, subst, _∙_}
 use mathlib.Core.List.{List, []}

@@ -1,10 +1,12 @@
 -- A dealt turn on memory that 1, 2 and 4 do not refuse and that is in range as far as it was looked at.
 --     Kept, Dealable             in range, all of it or the three first words; and the lengths and the dealer suffice
+--     MayTurn                    what lets the turn be made
 --     refusal-is                 only 3 and 16 are left
 --     none-served                16
 --     record-out                 3, by the record of the worker to be served
---     MayTurn, admits            what lets the turn be made; the turn may be worked on
+--     admits                     the turn may be worked on
 --     served-is                  the dealt turn is the turn of its record, put back
+--     leaksOf                    whether a look at everything finds something out of range past a turn
 --     keeps-on, leaked           past a turn that goes on: as before; or, where it leaks, 3
 -- Assumes nothing.
 use mathlib.Core.Path.{_≡_, refl, sym, ap, subst, _∙_}

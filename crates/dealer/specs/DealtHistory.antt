@@ -2,10 +2,12 @@
 --     Move, moved                        one of the two; what it leaves
 --     memoryAfter, dealerAfter           what a list of them leaves
 --     answersTo, servedIn                the responses on the way; the workers that the dealer served
---     dealsIn, among, noTurnOf           how many turns were to be dealt; whether a worker is among the served; the host makes no turn of worker i itself
---     requestsIn, refusedIn, filled      the requests that are made, dealt turns among them; by what no turn was dealt; responses with those between them
+--     among, dealsIn                     whether a worker is among the served; how many turns were to be dealt
+--     isTurnOf, noTurnOf                 the host makes no turn of worker i itself
 --     Unrefused3                         no turn to be dealt is refused by 3
 --     Waiting, WaitingOpened             the bound on waiting for a turn
+--     requestsIn                         the requests that are made, dealt turns among them
+--     refusedIn, filled                  by what no turn was dealt; responses with those between them
 --     allWhole, DealerCovered            every look is at the whole memory; dealt turns are turns, on any memory
 --     DealerCorrect, DealerDemand3       and after an opening all of demand 3 holds
 -- Assumes nothing.

@@ -36,7 +36,8 @@ pub record Able (sh : Shape) (m : Memory) (last : ℕ) : Type 0 where
 pub able-size : (sh : Shape) (m n : Memory) (last next : ℕ) → Able sh m last → SameSize m n → next < sh .workers → Able sh n next
 able-size sh m n last next A S l = record { shape = A .shape; long = rw (S .store, S .table) (A .long); exists = l }
 
-pub able-tests : (sh : Shape) (m : Memory) (last : ℕ) (out : Bool) → firstOf (memoryTests sh (tooShort sh (m .store) (m .table)) out last) ≡ 0 → Able sh m last
+pub able-tests : (sh : Shape) (m : Memory) (last : ℕ) (out : Bool) → firstOf (memoryTests sh (tooShort sh (m .store) (m .table)) out last) ≡ 0
+    → Able sh m last
 able-tests sh m last out e =
     let (one, (two, (three, (four, rest)))) = first-none (memoryTests sh (tooShort sh (m .store) (m .table)) out last) refl e in
     record { shape = one; long = two; exists = leb-false (sh .workers) last four }

@@ -56,7 +56,8 @@ waits sh i l (deals whole ∷ xs) m last (suc k) A busy own U most a all =
     let n = requested sh m (turnOf whole j) .memory in
     let e = dealt-served whole sh m last (dealt-unless-3 whole sh m last A (somebody sh (m .table) i l last (A .exists) busy) (U .0)) in
     let (below, way) = served-first sh (m .table) i l k last (omega arith) (A .exists) busy a in
-    subst (λ (r : Deal). among i (cond (eqb (r .turns) 0) (servedIn sh (r .memory) (r .dealer) xs) (r .dealer ∷ servedIn sh (r .memory) (r .dealer) xs)) ≡ true)
+    subst (λ (r : Deal). among i (cond (eqb (r .turns) 0) (servedIn sh (r .memory) (r .dealer) xs) (r .dealer ∷ servedIn sh (r .memory)
+    (r .dealer) xs)) ≡ true)
     (sym e)
     (now-or-later i j (servedIn sh n j xs) (Ahead sh k j i) way
     (λ d b. waits sh i l xs n j k (able-size sh m n last j A (request-same-size sh m (turnOf whole j)) below)

@@ -1,3 +1,4 @@
+-- One dealt turn is a run of one. Assumes nothing.
 use mathlib.Core.Path.{_≡_, ap, _∙_}
 use Rattle.dealer.specs.Answered.{handed, handed-is}
 use mathlib.Core.Bool.{true}
@@ -7,10 +8,6 @@ use Rattle.dealer.specs.DealLoop.{one-dealt}
 use borrow.Author.Needs.{needs}
 use Rattle.dealer.proofs.wubraken_deal.Statement.{statement}
 use Rattle.dealer.proofs.wubraken_deal.Tie as tie
-use Rattle.dealer.proofs.wubraken_deal.Reads as reads
-use Rattle.dealer.proofs.wubraken_deal.Lts as lts
-use Rattle.dealer.proofs.answers.dealt_of.Reads as dealt-of-reads
-use Rattle.dealer.proofs.turns.deal_lent.Reads as deal-lent-reads
 
 deal-lent-requires : tie.Need-deal-lent-requires
 deal-lent-requires c κs = search needs
@@ -26,7 +23,9 @@ same-length-2 c = search needs
 
 returns : tie.Need-returns
 returns c = let a = c .before .before .before .before .before .before .before .before .args in
-    handed-is (c .before .before .before .before .deal-lent .last .1 .1 .1 .1 .0) (c .before .before .before .before .deal-lent .last .1 .1 .1 .1 .1 .0) (c .before .before .before .before .deal-lent .result) (c .dealt-of .result) _ (c .before .before .before .before .deal-lent .ensures) (c .dealt-of .ensures)
+    handed-is (c .before .before .before .before .deal-lent .last .1 .1 .1 .1 .0) (c .before .before .before .before .deal-lent .last .1 .1 .1 .1 .1 .0)
+    (c .before .before .before .before .deal-lent .result) (c .dealt-of .result) _ (c .before .before .before .before .deal-lent .ensures)
+    (c .dealt-of .ensures)
     ∙ ap handed (one-dealt true (a .shape) (lent (a .store .now) (records (a .table .now))) (a .dealer))
 
 pub wubraken-deal-spec : {M : Type 1} → statement M

@@ -1,12 +1,9 @@
+-- What dealing hands back, in numbers. Assumes nothing.
 use mathlib.Core.Path.{_≡_, ap}
 use Rattle.wubraken.specs.declared.answers.Answer.{Answer}
-use Rattle.dealer.specs.declared.answers.Dealt.{Dealt}
 use borrow.Author.Needs.{needs}
 use Rattle.dealer.proofs.answers.dealt_of.Statement.{statement}
 use Rattle.dealer.proofs.answers.dealt_of.Tie as tie
-use Rattle.dealer.proofs.answers.dealt_of.Reads as reads
-use Rattle.dealer.proofs.answers.dealt_of.Lts as lts
-use Rattle.wubraken.proofs.answers.answer_of.Reads as answer-of-reads
 
 answer-of-requires : tie.Need-answer-of-requires
 answer-of-requires c κs = search needs

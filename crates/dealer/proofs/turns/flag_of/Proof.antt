@@ -1,4 +1,5 @@
-use mathlib.Core.Path.{_≡_, sym, ap, _∙_}
+-- The flag by the look that is asked for. Assumes nothing.
+use mathlib.Core.Path.{_≡_, ap, _∙_}
 use mathlib.Core.Bool.{Bool}
 use lib.ListN.{length}
 use Rattle.admission.specs.Gate.{soundOf}
@@ -6,11 +7,6 @@ use Rattle.dealer.specs.DealLoop.{flagOf}
 use borrow.Author.Needs.{needs}
 use Rattle.dealer.proofs.turns.flag_of.Statement.{statement}
 use Rattle.dealer.proofs.turns.flag_of.Tie as tie
-use Rattle.dealer.proofs.turns.flag_of.Reads as reads
-use Rattle.dealer.proofs.turns.flag_of.Lts as lts
-use Rattle.admission.proofs.is_near.Reads as is-near-reads
-use Rattle.admission.proofs.is_sound.Reads as is-sound-reads
-use Rattle.dealer.proofs.look.rows_in_range.Reads as rows-in-range-reads
 
 rows-in-range-requires : tie.Need-rows-in-range-requires
 rows-in-range-requires c κs = search needs
@@ -20,7 +16,9 @@ is-sound-requires c κs = search needs
 
 returns : tie.Need-returns
 unfolding flagOf
-returns c = rw (c .before .before .if1 .taken) (c .is-sound .ensures ∙ ap (λ (ok : Bool). soundOf (c .before .before .before .before .args .shape) (c .before .before .before .before .args .store .now) (length (c .before .before .before .before .args .table .now)) ok) (c .before .rows-in-range .ensures))
+returns c = rw (c .before .before .if1 .taken) (c .is-sound .ensures ∙ ap (λ (ok : Bool). soundOf (c .before .before .before .before .args .shape)
+    (c .before .before .before .before .args .store .now) (length (c .before .before .before .before .args .table .now)) ok)
+    (c .before .rows-in-range .ensures))
 
 is-near-requires : tie.Need-is-near-requires
 is-near-requires c κs = search needs

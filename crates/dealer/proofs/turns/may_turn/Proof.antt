@@ -1,11 +1,8 @@
+-- A narrow turn looks at its record, a whole one has looked. Assumes nothing.
 use native.Mathlib.Omega.{arith}
 use Rattle.calendar.specs.facts.RangeFacts.{limits}
-use borrow.Author.Needs.{needs}
 use Rattle.dealer.proofs.turns.may_turn.Statement.{statement}
 use Rattle.dealer.proofs.turns.may_turn.Tie as tie
-use Rattle.dealer.proofs.turns.may_turn.Reads as reads
-use Rattle.dealer.proofs.turns.may_turn.Lts as lts
-use Rattle.admission.proofs.ranges.record_in_range.Reads as record-in-range-reads
 
 returns : tie.Need-returns
 returns c = rw (c .if1 .taken)
