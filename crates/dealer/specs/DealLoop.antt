@@ -3,7 +3,7 @@
 --     passed-by, away-at-first        what the gate lets pass may be dealt on; what it refuses no turn is dealt on
 --     running                         after some turns, all of which went on
 --     away, ended, on                 no turn is dealt; the last turn; one turn more
---     none-dealt, one-dealt           no turn was asked for; one was
+--     none-dealt                      no turn was asked for
 -- Assumes nothing.
 use mathlib.Core.Path.{_≡_, refl, sym, ap, subst, _∙_}
 use mathlib.Core.List.{List}
@@ -186,10 +186,3 @@ module _ (whole : Bool) (sh : Shape) (m : Memory) (last made : ℕ) where
 -- ── a run ──
 pub none-dealt : (whole : Bool) (sh : Shape) (turns : ℕ) (m : Memory) (last : ℕ) → turns ≡ 0 → undealt m last ≡ dealtRun whole sh turns m last
 none-dealt whole sh turns m last e = sym (none whole sh turns e (undealt m last))
-
-pub one-dealt : (whole : Bool) (sh : Shape) (m : Memory) (last : ℕ) → dealtRun whole sh 1 m last ≡ dealt whole sh m last
-unfolding dealtOn
-one-dealt whole sh m last =
-    let r = dealt whole sh m last in
-    let e : 0 + r .turns ≡ r .turns = omega arith in
-    ap (λ (t : ℕ). record { memory = r .memory; dealer = r .dealer; turns = t; response = r .response }) e

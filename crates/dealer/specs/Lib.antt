@@ -6,6 +6,10 @@ pub mod DealtTurn
 pub mod DealtInRange
 pub mod Waited
 pub mod WaitingReached
+pub mod Covered
+pub mod DealtRefusals
+pub mod DealtRuns
+pub mod DealtExample
 pub mod Rows
 pub mod Answered
 pub mod Look

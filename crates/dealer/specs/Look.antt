@@ -1,17 +1,15 @@
 -- What the look at the workers' rows finds, and how the search for the next goes.
 --     rowsInRange                       the rows of the workers are in range
---     after-inside                      the worker after one is a worker
 --     found, passed, none-left          a candidate that has a call in progress; one that has none; no candidate left
 -- Assumes nothing.
-use mathlib.Core.Path.{_≡_, refl, sym, ap, _∙_}
+use mathlib.Core.Path.{_≡_, sym, _∙_}
 use mathlib.Core.List.{List, []}
-use mathlib.Core.Bool.{Bool, true, false, cond}
+use mathlib.Core.Bool.{Bool, cond}
 use mathlib.Core.Logic.{_≢_}
-use Prim.Native.Nat.{ℕ, zero, suc, _+_, _-_, _<_}
+use Prim.Native.Nat.{ℕ, zero, suc, _-_, _<_}
 use native.Mathlib.Omega.{arith}
-use lib.Dec.{ltb}
 use lib.ListN.{length, getD}
-use borrow.Author.Tests.{ltb-true, eq-eqb, ne-eqb}
+use borrow.Author.Tests.{eq-eqb, ne-eqb}
 use Rattle.arrival.specs.declared.Shape.{Shape}
 use Rattle.laws.specs.Counting.{every}
 use Rattle.calendar.specs.rules.Ranges.{recordInRange, worker}
@@ -25,13 +23,6 @@ unfoldable pub rowsInRange : Shape → List (List ℕ) → Bool
 rowsInRange sh rows = every (surveyed sh (length rows)) (λ k. recordInRange sh (worker (records rows) k))
 
 -- ── who is next ──
-pub after-inside : (sh : Shape) (i : ℕ) → i < sh .workers → workerAfter sh i < sh .workers
-after-inside sh i h = go (ltb (i + 1) (sh .workers)) refl
-  where
-    go : (b : Bool) → ltb (i + 1) (sh .workers) ≡ b → cond b (i + 1) 0 < sh .workers
-    go true e = ltb-true (i + 1) (sh .workers) e
-    go false e = omega arith
-
 next-of : (sh : Shape) (rows : List (List ℕ)) (at n : ℕ) → 0 < n
     → firstBusyOf sh (records rows) n at
     ≡ cond (inProgress (worker (records rows) (workerAfter sh at))) (workerAfter sh at) (firstBusyOf sh (records rows) (n - 1) (workerAfter sh at))

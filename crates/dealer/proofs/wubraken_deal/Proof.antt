@@ -4,7 +4,7 @@ use Rattle.dealer.specs.Answered.{handed, handed-is}
 use mathlib.Core.Bool.{true}
 use Rattle.wubraken.specs.Results.{lent}
 use Rattle.dealer.specs.Rows.{records}
-use Rattle.dealer.specs.DealLoop.{one-dealt}
+use Rattle.dealer.specs.DealtRuns.{one-turn}
 use borrow.Author.Needs.{needs}
 use Rattle.dealer.proofs.wubraken_deal.Statement.{statement}
 use Rattle.dealer.proofs.wubraken_deal.Tie as tie
@@ -26,7 +26,7 @@ returns c = let a = c .before .before .before .before .before .before .before .b
     handed-is (c .before .before .before .before .deal-lent .last .1 .1 .1 .1 .0) (c .before .before .before .before .deal-lent .last .1 .1 .1 .1 .1 .0)
     (c .before .before .before .before .deal-lent .result) (c .dealt-of .result) _ (c .before .before .before .before .deal-lent .ensures)
     (c .dealt-of .ensures)
-    ∙ ap handed (one-dealt true (a .shape) (lent (a .store .now) (records (a .table .now))) (a .dealer))
+    ∙ ap handed (one-turn true (a .shape) (lent (a .store .now) (records (a .table .now))) (a .dealer))
 
 pub wubraken-deal-spec : {M : Type 1} → statement M
 wubraken-deal-spec =

@@ -4,7 +4,8 @@ use Prim.Native.Nat.{_<_}
 use native.Mathlib.Omega.{arith}
 use Rattle.dealer.specs.Rows.{records}
 use Rattle.dealer.specs.Dealing.{firstBusyOf}
-use Rattle.dealer.specs.Look.{after-inside, found, passed, none-left}
+use Rattle.dealer.specs.Look.{found, passed, none-left}
+use Rattle.dealer.specs.Served.{after-below}
 use Rattle.dealer.proofs.look.next_served.Statement.{statement}
 use Rattle.dealer.proofs.look.next_served.Tie as tie
 
@@ -24,8 +25,7 @@ worker-after-requires c κs = c .before .loop .inv .0
 mul-stage : tie.Need-mul-stage Inv-loop μ-loop
 mul-stage c = omega (
   arith,
-  after-inside (c .before .before .before .args .shape) (c .before .before .loop .at)
-      (c .before .before .loop .inv .0),
+  after-below (c .before .before .before .args .shape) (c .before .before .loop .at) (omega (arith, (c .before .before .loop .inv .0))),
   c .worker-after .ensures,
   c .before .before .before .pre,
 )
@@ -33,8 +33,7 @@ mul-stage c = omega (
 index-1-stage : tie.Need-index-1-stage Inv-loop μ-loop
 index-1-stage c = omega (
   arith,
-  after-inside (c .before .before .before .args .shape) (c .before .before .loop .at)
-      (c .before .before .loop .inv .0),
+  after-below (c .before .before .before .args .shape) (c .before .before .loop .at) (omega (arith, (c .before .before .loop .inv .0))),
   c .worker-after .ensures,
   c .before .before .before .pre,
 )
@@ -56,8 +55,7 @@ loop-less c = omega arith
 
 loop-again : tie.Need-loop-again Inv-loop μ-loop
 loop-again c = let a = c .before .before .before .before .before .args in (
-  rw (c .before .before .worker-after .ensures) (after-inside (a .shape) (c .before .before .before .before .loop .at)
-      (c .before .before .before .before .loop .inv .0)),
+  rw (c .before .before .worker-after .ensures) (after-below (a .shape) (c .before .before .before .before .loop .at) (omega (arith, (c .before .before .before .before .loop .inv .0)))),
   passed (a .shape) (a .table .now) (c .before .before .before .before .loop .left) (c .before .before .before .before .loop .at)
       (c .before .before .worker-after .result) (c .before .before .worker-after .ensures) (omega arith) (c .if1 .left)
       ∙ c .before .before .before .before .loop .inv .1,

@@ -1,0 +1,105 @@
+-- A worked example: worker 0 of three begins a put, worker 2 a take, worker 1 stays idle; a new dealer deals.
+--     starts, at-work            the two starts; the memory then
+--     in-turn                    0 and 2 are served in turn until both calls are answered; then nobody is left, 16
+--     in-runs                    the same in runs: one ends with the take, one with the put, and one deals no turn
+--     outside                    a dealer that remembers worker 3 is refused by 4
+--     spent, late, at-the-end    a pool whose epochs are spent; the put makes four turns there, and then the take begins; the memory then
+--     moves-on                   the put's fifth turn is refused by 11: the memory stays, the dealer moves on, and the next turn is the take's
+-- Assumes nothing.
+use mathlib.Core.Path.{_≡_, refl}
+use mathlib.Core.List.{List, [], _∷_, _++_}
+use mathlib.Core.Bool.{true, false}
+use lib.ListN.{replicate, set}
+use Rattle.arrival.specs.declared.Action.the-variants.{Enqueue, Dequeue, Step}
+use Rattle.arrival.specs.declared.Request.the-variants.{Whole}
+use Rattle.arrival.specs.declared.Response.the-variants.{Begun, On, Stored, Empty, Refused}
+use Rattle.arrival.specs.Keys.{bucketOf}
+use Rattle.laws.specs.Counting.{every}
+use Rattle.laws.specs.Lists.{wordsFrom}
+use Rattle.calendar.specs.rules.Layout.{address, read, write}
+use Rattle.calendar.specs.rules.Ranges.{blank, storeInRange, tableInRange}
+use Rattle.calendar.specs.rules.Reclaim.{isFree, firstFreeOf, firstFree}
+use Rattle.calendar.specs.rules.Opening.{openStore, openTable}
+use Rattle.calendar.specs.rules.Starts.{enqueueStart, dequeueStart}
+use Rattle.calendar.specs.rules.SearchSteps.{found, settle, step-1}
+use Rattle.calendar.specs.rules.EnqueueSteps.{step-4, step-5, step-6, step-7}
+use Rattle.calendar.specs.rules.DequeueSteps.{walk, step-8, step-9, step-13}
+use Rattle.calendar.specs.rules.Steps.{step}
+use Rattle.calendar.specs.rules.Refusals.{outOfRange, openRefusal, enqueueRefusal, dequeueRefusal, stepRefusal}
+use Rattle.calendar.specs.rules.Operations.{Memory, open-pool, act}
+use Rattle.calendar.specs.rules.NarrowCalls.{narrowRefusal, narrowAct, turnsAfter, narrowCall}
+use Rattle.calendar.specs.facts.Starred.{arrival, lent}
+use Rattle.dealer.specs.Dealing.{newDealer, firstBusyOf, dealRefusal, dealt, dealtOn, dealtRun}
+use Rattle.dealer.specs.DealtHistory.{Move, asks, memoryAfter, dealerAfter, answersTo, servedIn}
+use Rattle.dealer.specs.WaitingReached.{three, dealing}
+
+unfoldable pub starts : List Move
+starts = asks (Whole (Enqueue 0 (arrival 5 3))) ∷ asks (Whole (Dequeue 2)) ∷ []
+
+unfoldable pub at-work : Memory
+at-work = memoryAfter three (open-pool three lent .memory) (newDealer three) starts
+
+-- ── in turn ──
+pub in-turn :
+    (answersTo three (open-pool three lent .memory) (newDealer three) (starts ++ dealing true 9)
+    ≡ Begun 1 ∷ Begun 2 ∷ On ∷ On ∷ On ∷ On ∷ On ∷ Empty ∷ On ∷ Stored 1 ∷ Refused 16 ∷ [])
+    × (servedIn three (open-pool three lent .memory) (newDealer three) (starts ++ dealing true 9) ≡ 0 ∷ 2 ∷ 0 ∷ 2 ∷ 0 ∷ 2 ∷ 0 ∷ 0 ∷ [])
+    × (dealerAfter three (open-pool three lent .memory) (newDealer three) (starts ++ dealing true 9) ≡ 0)
+    × (answersTo three at-work 2 (dealing false 9) ≡ On ∷ On ∷ On ∷ On ∷ On ∷ Empty ∷ On ∷ Stored 1 ∷ Refused 16 ∷ [])
+    × (servedIn three at-work 2 (dealing false 9) ≡ 0 ∷ 2 ∷ 0 ∷ 2 ∷ 0 ∷ 2 ∷ 0 ∷ 0 ∷ [])
+unfolding three starts at-work dealing arrival lent address read write every blank storeInRange tableInRange isFree firstFreeOf firstFree wordsFrom openStore
+    openTable enqueueStart dequeueStart found settle step-1 step-4 step-5 step-6 step-7 walk step-8 step-9 step-13 step openRefusal enqueueRefusal
+    dequeueRefusal stepRefusal open-pool act narrowRefusal narrowAct turnsAfter narrowCall bucketOf firstBusyOf dealRefusal dealt memoryAfter dealerAfter
+    answersTo servedIn
+in-turn = (refl, refl, refl, refl, refl)
+
+-- ── in runs ──
+pub in-runs :
+    let first = dealtRun true three 9 at-work 2 in
+    let second = dealtRun true three 9 (first .memory) (first .dealer) in
+    let third = dealtRun true three 9 (second .memory) (second .dealer) in
+    (first .response ≡ Empty) × (first .turns ≡ 6) × (first .dealer ≡ 2)
+    × (second .response ≡ Stored 1) × (second .turns ≡ 2) × (second .dealer ≡ 0)
+    × (third .response ≡ Refused 16) × (third .turns ≡ 0) × (third .dealer ≡ 0)
+unfolding three starts at-work arrival lent address read write every blank storeInRange tableInRange isFree firstFreeOf firstFree wordsFrom openStore
+    openTable enqueueStart dequeueStart found settle step-1 step-4 step-5 step-6 step-7 walk step-8 step-9 step-13 step openRefusal enqueueRefusal
+    dequeueRefusal stepRefusal open-pool act bucketOf firstBusyOf dealRefusal dealt dealtOn memoryAfter
+in-runs = (refl, refl, refl, refl, refl, refl, refl, refl, refl)
+
+-- ── a remembered worker that there is not ──
+pub outside :
+    (answersTo three at-work 3 (dealing true 1) ≡ Refused 4 ∷ [])
+    × (memoryAfter three at-work 3 (dealing true 1) ≡ at-work)
+    × (dealerAfter three at-work 3 (dealing true 1) ≡ 3)
+    × (servedIn three at-work 3 (dealing true 1) ≡ [])
+    × (answersTo three at-work 3 (dealing false 1) ≡ Refused 4 ∷ [])
+unfolding three starts at-work dealing arrival lent address read write every blank storeInRange tableInRange isFree firstFreeOf firstFree wordsFrom openStore
+    openTable enqueueStart dequeueStart openRefusal enqueueRefusal dequeueRefusal open-pool act bucketOf firstBusyOf dealRefusal dealt memoryAfter
+    dealerAfter answersTo servedIn
+outside = (refl, refl, refl, refl, refl)
+
+-- ── refused by 11 ──
+-- an opened pool, with the last epoch in word 0
+unfoldable pub spent : Memory
+spent = let p = open-pool three lent .memory in record { store = set (p .store) 0 4294967295; table = p .table }
+
+unfoldable pub late : List Move
+late = asks (Whole (Enqueue 0 (arrival 5 3))) ∷ replicate 4 (asks (Whole (Step 0))) ++ asks (Whole (Dequeue 2)) ∷ []
+
+unfoldable pub at-the-end : Memory
+at-the-end = memoryAfter three spent 2 late
+
+pub moves-on :
+    (answersTo three spent 2 late ≡ Begun 1 ∷ On ∷ On ∷ On ∷ On ∷ Begun 2 ∷ [])
+    × (outOfRange three (at-the-end .store) (at-the-end .table) ≡ false)
+    × (answersTo three at-the-end 2 (dealing true 4) ≡ Refused 11 ∷ On ∷ Refused 11 ∷ On ∷ [])
+    × (servedIn three at-the-end 2 (dealing true 4) ≡ 0 ∷ 2 ∷ 0 ∷ 2 ∷ [])
+    × (memoryAfter three at-the-end 2 (dealing true 1) ≡ at-the-end)
+    × (dealerAfter three at-the-end 2 (dealing true 1) ≡ 0)
+    × (answersTo three at-the-end 2 (dealing false 4) ≡ Refused 11 ∷ On ∷ Refused 11 ∷ On ∷ [])
+    × (servedIn three at-the-end 2 (dealing false 4) ≡ 0 ∷ 2 ∷ 0 ∷ 2 ∷ [])
+unfolding three spent late at-the-end dealing arrival lent address read write every blank storeInRange tableInRange isFree firstFreeOf firstFree wordsFrom
+    openStore openTable enqueueStart dequeueStart found settle step-1 step-4 step-5 step-6 walk step-8 step-9 step openRefusal
+    enqueueRefusal dequeueRefusal stepRefusal open-pool act narrowRefusal narrowAct turnsAfter narrowCall bucketOf firstBusyOf dealRefusal dealt
+    memoryAfter dealerAfter answersTo servedIn
+moves-on = (refl, refl, refl, refl, refl, refl, refl, refl)
