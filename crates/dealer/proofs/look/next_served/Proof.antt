@@ -55,7 +55,10 @@ loop-less c = omega arith
 
 loop-again : tie.Need-loop-again Inv-loop μ-loop
 loop-again c = let a = c .before .before .before .before .before .args in (
-  rw (c .before .before .worker-after .ensures) (after-below (a .shape) (c .before .before .before .before .loop .at) (omega (arith, (c .before .before .before .before .loop .inv .0)))),
+  rw (c .before .before .worker-after .ensures) (after-below (a .shape) (c .before .before .before .before .loop .at) (omega (
+    arith,
+    (c .before .before .before .before .loop .inv .0),
+  ))),
   passed (a .shape) (a .table .now) (c .before .before .before .before .loop .left) (c .before .before .before .before .loop .at)
       (c .before .before .worker-after .result) (c .before .before .worker-after .ensures) (omega arith) (c .if1 .left)
       ∙ c .before .before .before .before .loop .inv .1,
