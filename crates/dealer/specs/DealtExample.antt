@@ -1,4 +1,5 @@
 -- A worked example: worker 0 of three begins a put, worker 2 a take, worker 1 stays idle; a new dealer deals.
+--     three, dealing             the shape; n turns are to be dealt
 --     starts, at-work            the two starts; the memory then
 --     in-turn                    0 and 2 are served in turn until both calls are answered; then nobody is left, 16
 --     in-runs                    the same in runs: one ends with the take, one with the put, and one deals no turn
@@ -8,8 +9,10 @@
 -- Assumes nothing.
 use mathlib.Core.Path.{_≡_, refl}
 use mathlib.Core.List.{List, [], _∷_, _++_}
-use mathlib.Core.Bool.{true, false}
+use mathlib.Core.Bool.{Bool, true, false}
+use Prim.Native.Nat.{ℕ}
 use lib.ListN.{replicate, set}
+use Rattle.arrival.specs.declared.Shape.{Shape}
 use Rattle.arrival.specs.declared.Action.the-variants.{Enqueue, Dequeue, Step}
 use Rattle.arrival.specs.declared.Request.the-variants.{Whole}
 use Rattle.arrival.specs.declared.Response.the-variants.{Begun, On, Stored, Empty, Refused}
@@ -30,8 +33,14 @@ use Rattle.calendar.specs.rules.Operations.{Memory, open-pool, act}
 use Rattle.calendar.specs.rules.NarrowCalls.{narrowRefusal, narrowAct, turnsAfter, narrowCall}
 use Rattle.calendar.specs.facts.Starred.{arrival, lent}
 use Rattle.dealer.specs.Dealing.{newDealer, firstBusyOf, dealRefusal, dealt, dealtOn, dealtRun}
-use Rattle.dealer.specs.DealtHistory.{Move, asks, memoryAfter, dealerAfter, answersTo, servedIn}
-use Rattle.dealer.specs.WaitingReached.{three, dealing}
+use Rattle.dealer.specs.DealtHistory.{Move, asks, deals, memoryAfter, dealerAfter, answersTo, servedIn}
+
+unfoldable pub three : Shape
+three = record { workers = 3; nodes = 2; buckets = 1; width = 1 }
+
+-- n turns are to be dealt
+unfoldable pub dealing : Bool → ℕ → List Move
+dealing whole n = replicate n (deals whole)
 
 unfoldable pub starts : List Move
 starts = asks (Whole (Enqueue 0 (arrival 5 3))) ∷ asks (Whole (Dequeue 2)) ∷ []

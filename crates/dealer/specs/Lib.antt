@@ -1,5 +1,6 @@
 pub mod Dealing
 pub mod DealtHistory
+pub mod DealtExample
 pub mod Served
 pub mod Requests
 pub mod DealtTurn
@@ -9,7 +10,6 @@ pub mod WaitingReached
 pub mod Covered
 pub mod DealtRefusals
 pub mod DealtRuns
-pub mod DealtExample
 pub mod Rows
 pub mod Answered
 pub mod Look

@@ -1,6 +1,5 @@
 -- What the bound on waiting and its hypotheses are for: computed runs. Three workers begin a take each, and a new dealer deals.
---     three, begins, pool            the shape; the three takes begin; the memory then
---     dealing                        n turns are to be dealt
+--     begins, pool                   the three takes begin; the memory then
 --     reached                        two dealt turns pass worker 2 by, and the third is its own
 --     all-turns-needed               so one turn fewer than workers is too few; all-turns-needed-opened, also after an opening
 --     ended-by-host                  the host makes the turns of worker 2 itself
@@ -39,20 +38,15 @@ use Rattle.lists.specs.NodeReuse.{always-in-range}
 use Rattle.dealer.specs.Dealing.{newDealer, firstBusyOf, dealRefusal, dealt}
 use Rattle.dealer.specs.DealtHistory.{Move, asks, deals, memoryAfter, dealerAfter, answersTo, servedIn, among, dealsIn, noTurnOf}
 use Rattle.dealer.specs.DealtHistory.{Unrefused3}
+use Rattle.dealer.specs.DealtExample.{three, dealing}
 use Rattle.dealer.specs.DealtInRange.{never-3, kept-after}
 use Rattle.dealer.specs.Waited.{open-able}
-
-unfoldable pub three : Shape
-three = record { workers = 3; nodes = 2; buckets = 1; width = 1 }
 
 unfoldable pub begins : List Move
 begins = asks (Whole (Dequeue 0)) ∷ asks (Whole (Dequeue 1)) ∷ asks (Whole (Dequeue 2)) ∷ []
 
 unfoldable pub pool : Memory
 pool = memoryAfter three (open-pool three lent .memory) (newDealer three) begins
-
-unfoldable pub dealing : Bool → ℕ → List Move
-dealing whole n = replicate n (deals whole)
 
 -- ── the bound ──
 pub reached :
