@@ -90,7 +90,8 @@ turnedAway k m last = record { memory = m; dealer = last; turns = 0; response = 
 unfoldable pub dealt : Bool → Shape → Memory → ℕ → Deal
 dealt whole sh m last =
     let i = nextServed sh (m .table) last in
-    cond (eqb (dealRefusal whole sh m last) 0) (serving i (requested sh m (turnOf whole i))) (turnedAway (dealRefusal whole sh m last) m last)
+    let k = dealRefusal whole sh m last in
+    cond (eqb k 0) (serving i (requested sh m (turnOf whole i))) (turnedAway k m last)
 
 -- ── a run ──
 -- nothing dealt yet
