@@ -56,6 +56,7 @@ pub fn refused(number: u8) -> Answer {
         13 => EchogramOutsideLimits,
         14 => SlotPastRow,
         15 => SumTooLarge,
+        16 => AllIdle,
         _ => panic!("no refusal is {number}"),
     };
     assert_eq!(refusal.number(), number);
