@@ -73,7 +73,7 @@ pub enum Call {
 
 /// Memory with something spare behind it.
 #[derive(Clone, Debug, PartialEq)]
-pub struct Lent(Memory);
+pub struct Lent(pub Memory);
 
 impl Deref for Lent {
     type Target = Memory;
@@ -256,7 +256,7 @@ impl Lent {
     }
 
     /// Words and records beyond the shape's are as they were.
-    fn keeps_beyond(&self, before: &Self) {
+    pub fn keeps_beyond(&self, before: &Self) {
         let words = self.shape.store_words();
         let records = self.shape.workers as usize;
         assert_eq!(self.store.len(), before.store.len());
