@@ -3,6 +3,9 @@
 #[path = "../examples/batches.rs"]
 #[allow(dead_code)]
 mod batches;
+#[path = "../examples/dealer.rs"]
+#[allow(dead_code)]
+mod dealer;
 #[path = "../examples/echogram.rs"]
 #[allow(dead_code)]
 mod echogram;
