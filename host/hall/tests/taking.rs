@@ -3,7 +3,7 @@
 use std::collections::HashMap;
 use std::iter::successors;
 
-use hall::{trace, Arguments, Call, Event, Hall, Image, Trace};
+use hall::{trace, Arguments, Call, Event, Hall, Image, Trace, Turns};
 use order::{find_order, Answer, End, Kind};
 use wubraken::{Arrival, Shape, Taken};
 
@@ -14,18 +14,23 @@ fn run(arguments: Arguments) -> Trace {
 /// Milliseconds: all but the tail is empty, some is behind, nothing is.
 const SPANS: [u64; 3] = [1, 100, 1_000];
 
+/// Orders at random, and that of a dealer.
+fn orders(seeds: u64) -> impl Iterator<Item = Turns> {
+    (0..seeds).map(Turns::AtRandom).chain([Turns::Dealt])
+}
+
 /// Few and many workers and nodes, with several orders of turns and several spans.
 fn runs() -> Vec<Trace> {
     let mut runs = Vec::new();
     for workers in [1, 2, 3, 8, 64] {
         for nodes in [1, 5, 12, 500] {
-            for seed in 0..6 {
+            for (turns, span) in orders(6).zip(SPANS.into_iter().cycle()) {
                 runs.push(run(Arguments {
-                    seed,
+                    turns,
                     workers,
                     nodes,
                     order: 3,
-                    span: SPANS[seed as usize % 3],
+                    span,
                     slot: None,
                 }));
             }
@@ -103,6 +108,36 @@ fn several_workers_may_take_out_of_order() {
         .map(|taken| taken.time)
         .collect();
     assert!(times.windows(2).any(|pair| pair[0] > pair[1]));
+}
+
+/// One worker has every turn, whoever deals them.
+#[test]
+fn one_worker_does_the_same_by_a_dealer() {
+    for nodes in [1, 12] {
+        let alone = |turns| {
+            run(Arguments {
+                turns,
+                workers: 1,
+                nodes,
+                ..Arguments::default()
+            })
+        };
+        let (dealt, other) = (alone(Turns::Dealt), alone(Turns::AtRandom(1)));
+        assert_eq!((dealt.taken(), dealt.turns), (other.taken(), other.turns));
+    }
+}
+
+/// A reflection that is too far begins no call, and its worker goes on with the next.
+#[test]
+fn what_is_too_far_does_not_end_a_dealt_run() {
+    let mut job = Arguments::default().job();
+    job.hall.size[0] = 40_000;
+    (job.order, job.turns) = (4, Turns::Dealt);
+    for workers in [1, 3, 64] {
+        job.shape.workers = workers;
+        let trace = trace(&job).unwrap();
+        assert_eq!((trace.taken().len(), trace.too_far), (129 - 7, 2));
+    }
 }
 
 /// An arrival that was taken after a later one.
@@ -224,16 +259,16 @@ fn the_energy_is_of_the_distance() {
 fn there_is_a_sequential_order() {
     for workers in [1, 2, 3] {
         for nodes in [3, 12] {
-            for seed in 0..20 {
+            for turns in orders(20) {
                 let trace = run(Arguments {
-                    seed,
+                    turns,
                     workers,
                     nodes,
                     ..Arguments::default()
                 });
                 let mut calls: Vec<_> = trace.calls.iter().map(seen_from_outside).collect();
                 calls.sort_by_key(|call| call.start);
-                assert!(find_order(&calls).is_some(), "seed {seed}");
+                assert!(find_order(&calls).is_some(), "{turns:?}");
             }
         }
     }
