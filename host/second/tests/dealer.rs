@@ -3,9 +3,10 @@
 
 mod common;
 
+use common::noted::Noted;
 use common::*;
-use schedule::script::shape;
-use schedule::Random;
+use schedule::script::{put, shape, take, turn};
+use schedule::{Random, Script};
 use second::layout::{field, CURRENT, LAST_ALLOCATED, STARTED};
 use second::word::{self, MAX_COUNT};
 use second::{deal, deal_run, narrow_deal, new_dealer, Answer, Dealt, Shape, Worker};
@@ -404,5 +405,37 @@ fn nobody_waits_longer_than_a_round() {
             }
         }
         assert_eq!(longest, workers);
+    }
+}
+
+/// A dealt turn is a turn of its worker: so the calls have an order in which a plain queue
+/// gives the same answers.
+#[test]
+fn dealt_calls_have_an_order() {
+    for seed in 0..300 {
+        let mut random = Random::new(seed);
+        let mut noted = Noted::play(&Script::open(3, 4, 2, 10));
+        let mut served = new_dealer(noted.lent.shape);
+        for _ in 0..60 {
+            for worker in 0..3 {
+                if noted.lent.stage(worker.into()) == 0 && random.one_in(3) {
+                    let put = put(worker, random.below(30));
+                    // With no free node the start is refused.
+                    let _ = noted.apply(random.choose(&[put, take(worker)]));
+                }
+            }
+            let mut table = Table {
+                lent: noted.lent.clone(),
+                served,
+            };
+            let form = random.choose(&FORMS);
+            let dealt = table.run(form, 1);
+            if dealt.turns > 0 {
+                served = dealt.served;
+                assert_eq!(noted.apply(turn(served as u8)), dealt.answer);
+                assert_eq!(noted.lent, table.lent);
+            }
+        }
+        assert!(noted.is_a_queue(), "seed {seed}");
     }
 }

@@ -1,20 +1,23 @@
 //! Dealt turns against the second program's, one at a time and in runs, whole and narrow:
-//! after an opening, on any memory in range, and on damaged memory. Store, table, dealer,
-//! turns and answer are compared at every call.
+//! after an opening, and on any memory in range. Store, table, dealer, turns and answer
+//! are compared at every call.
 
 mod common;
 
-use std::collections::BTreeSet;
+use std::collections::{BTreeMap, BTreeSet};
 
-use common::both::Both;
-use common::draw::any_arrival;
+use common::dealt::Table;
 use common::lent::{Call, Deal};
 use common::seeds::on_seeds;
 use common::{shape, translate, ARRIVAL};
-use schedule::lent::{fields, small_shape, Field, Memory};
-use schedule::Random;
-use wubraken::raw::{self, kind};
-use wubraken::{Dealer, Shape};
+use schedule::lent::{small_shape, Memory};
+use schedule::script::arrival;
+use schedule::{to_the_end, Random};
+use second::layout::CURRENT;
+use second::word::MAX_COUNT;
+use second::Response;
+use wubraken::raw::kind;
+use wubraken::Shape;
 
 /// Few workers, many, and one; mostly with room for lists.
 fn any_shape(random: &mut Random) -> Shape {
@@ -32,76 +35,6 @@ fn any_shape(random: &mut Random) -> Shape {
 fn any_limit(random: &mut Random) -> u64 {
     let few = random.below(20).into();
     random.choose(&[0, 1, few, few, u64::MAX, u64::MAX])
-}
-
-/// An opened pool and a dealer's memory of it.
-#[derive(Clone)]
-struct Table {
-    lent: Both,
-    shape: Shape,
-    served: u64,
-}
-
-impl Table {
-    fn open(shape: Shape) -> Self {
-        let (words, records) = (shape.words().unwrap(), shape.workers as usize);
-        let mut lent = Both::garbage(words + 2, records + 1);
-        lent.call(shape, Call::Open);
-        let served = Dealer::new(shape).served();
-        Self {
-            lent,
-            shape,
-            served,
-        }
-    }
-
-    fn deal(&mut self, deal: Deal) -> raw::Dealt {
-        let dealt = self.lent.deal(self.shape, self.served, deal);
-        self.served = dealt.dealer;
-        dealt
-    }
-
-    /// At most so many turns, each by a call of its own.
-    fn one_by_one(&mut self, one: Deal, most: u64) -> raw::Dealt {
-        let on = raw::Answer {
-            kind: kind::ON,
-            ..raw::Answer::default()
-        };
-        let (mut turns, mut answer) = (0, on);
-        while turns < most && answer == on {
-            let dealt = self.deal(one);
-            answer = dealt.answer;
-            if dealt.turns == 0 {
-                break;
-            }
-            turns += 1;
-        }
-        raw::Dealt {
-            dealer: self.served,
-            turns,
-            answer,
-        }
-    }
-
-    fn is_busy(&self, worker: u64) -> bool {
-        self.lent.record(worker as usize).unwrap().stage > 0
-    }
-
-    /// Some idle workers begin a call.
-    fn begin_some(&mut self, random: &mut Random, one_in: u32) {
-        for worker in 0..self.shape.workers {
-            if !self.is_busy(worker) && random.one_in(one_in) {
-                let put = Call::Enqueue(worker, any_arrival(random, self.shape));
-                let call = random.choose(&[put, Call::Dequeue(worker)]);
-                self.lent.call(self.shape, call.narrow(0));
-            }
-        }
-    }
-
-    fn assert_same(&self, other: &Self) {
-        self.lent.assert_same_memory(&other.lent);
-        assert_eq!(self.served, other.served);
-    }
 }
 
 /// Starts at any time; each run in every form, and turn by turn, is the same.
@@ -158,13 +91,8 @@ fn dealt_turns_on_any_memory_in_range() {
             let small = small_shape(random);
             let shape = translate::shape_back(small);
             let memory = Memory::in_range(random, small);
-            let lent = Both::with_spare(&memory, 1, 2);
             for served in (0..=shape.workers).chain([any_served(random, shape)]) {
-                let table = Table {
-                    lent: lent.clone(),
-                    shape,
-                    served,
-                };
+                let table = Table::of(&memory, served);
                 let most = random.below(16).into();
                 for [run, one] in [
                     [Deal::Run(most), Deal::One],
@@ -194,166 +122,6 @@ fn dealt_turns_on_any_memory_in_range() {
         let whole = whole.map(|(dealt, number)| (true, dealt, number));
         assert_eq!(seen, whole.into_iter().chain(narrow).collect());
     });
-}
-
-/// Who is served next, by the stages alone.
-fn next(memory: &Memory, served: u64) -> Option<usize> {
-    let workers = memory.shape.workers as usize;
-    let behind = (1..=workers).map(|steps| (served as usize + steps) % workers);
-    let mut behind = behind.filter(|_| served < workers as u64);
-    behind.find(|&worker| memory.workers[worker].is_busy())
-}
-
-/// Whether a narrow dealt turn looks at a field before it does anything: at the first
-/// three words, and at the record of the worker to be served. Of a stage it looks at all
-/// in any case: it says who that is.
-fn looks_at(memory: &Memory, served: u64, field: Field) -> bool {
-    match field {
-        Field::Current | Field::Started | Field::LastAllocated => true,
-        Field::Head(_) | Field::Node(..) => false,
-        Field::Record(worker, _) => next(memory, served) == Some(worker),
-    }
-}
-
-/// 3 comes before 4 and 16, and behind 1 and 2.
-#[test]
-fn each_field_pushed_out_of_its_range() {
-    on_seeds("dealt, each field", |random| {
-        for _ in 0..60 {
-            let small = small_shape(random);
-            let shape = translate::shape_back(small);
-            let mut memory = Memory::in_range(random, small);
-            for field in fields(small) {
-                let held = *memory.at(field);
-                for value in memory.range(field).outside() {
-                    *memory.at(field) = value;
-                    check_damaged(random, &memory, shape, field);
-                }
-                *memory.at(field) = held;
-            }
-        }
-    });
-}
-
-fn check_damaged(random: &mut Random, memory: &Memory, shape: Shape, field: Field) {
-    let lent = Both::with_spare(memory, 2, 1);
-    let deal = |shape, served, deal| lent.clone().deal(shape, served, deal).answer.number;
-    for served in (0..=shape.workers).chain([u64::MAX]) {
-        let most = random.between(1, 12).into();
-        for whole in [Deal::One, Deal::Run(1), Deal::Run(most)] {
-            assert_eq!(deal(shape, served, whole), 3, "{field:?}");
-        }
-        let is_refused = deal(shape, served, Deal::Narrow(1)) == 3;
-        assert_eq!(is_refused, looks_at(memory, served, field), "{field:?}");
-        // The second program says how far it goes.
-        deal(shape, served, Deal::Narrow(most));
-    }
-    let crowded = shape.workers + 3;
-    for deal_one in Deal::ones() {
-        assert_eq!(deal(Shape { width: 0, ..shape }, crowded, deal_one), 1);
-        let workers = crowded;
-        assert_eq!(deal(Shape { workers, ..shape }, crowded, deal_one), 2);
-    }
-}
-
-/// Runs that meet damage in their midst, or not at all, whatever the words hold.
-#[test]
-fn damage_all_over() {
-    on_seeds("dealt, damage all over", |random| {
-        let mut in_the_midst = [0; 2];
-        for _ in 0..4_000 {
-            let small = small_shape(random);
-            let mut memory = Memory::in_range(random, small);
-            for _ in 0..random.between(1, 4) {
-                let field = random.choose(&fields(small));
-                let outside: Vec<u64> = memory.range(field).outside().collect();
-                *memory.at(field) = random.choose(&outside);
-            }
-            let mut table = Table {
-                lent: Both::with_spare(&memory, 2, 1),
-                shape: translate::shape_back(small),
-                served: random.below(small.workers).into(),
-            };
-            for _ in 0..4 {
-                let most = random.between(1, 20).into();
-                let mut single = table.clone();
-                let expected = single.one_by_one(Deal::Narrow(1), most);
-                let dealt = table.deal(Deal::Narrow(most));
-                assert_eq!(dealt, expected);
-                table.assert_same(&single);
-                let is_refused = dealt.answer.number == 3;
-                in_the_midst[usize::from(is_refused && dealt.turns > 0)] += 1;
-            }
-        }
-        assert!(in_the_midst.iter().all(|&runs| runs > 100));
-    });
-}
-
-/// No turns: nothing is looked at, however little is lent.
-#[test]
-fn no_turns_on_any_memory() {
-    let shapes = [
-        shape(2, 4, 2, 10),
-        shape(0, 0, 0, 0),
-        shape(u64::MAX, 1, 1, 1),
-    ];
-    for shape in shapes {
-        for (words, records) in [(0, 0), (1, 0), (37, 2)] {
-            for served in [0, 2, u64::MAX] {
-                for run in Deal::runs(0) {
-                    let dealt = Both::garbage(words, records).deal(shape, served, run);
-                    let answer = dealt.answer;
-                    assert_eq!((answer.kind, answer.number), (kind::ON, 0));
-                    assert_eq!((dealt.dealer, dealt.turns), (served, 0));
-                }
-            }
-        }
-    }
-}
-
-/// At and past every limit of the shape, and one word or record short.
-#[test]
-fn shapes_outside_their_limits_and_short_memory() {
-    let largest = shape(64, 4_096, 256, 65_535);
-    for sound in [shape(1, 1, 1, 1), shape(3, 4, 2, 10), largest] {
-        let (words, records) = (sound.words().unwrap(), sound.workers as usize);
-        for served in [0, sound.workers, u64::MAX] {
-            for deal in [Deal::One, Deal::Run(u64::MAX), Deal::Narrow(u64::MAX)] {
-                let number = |shape, words, records| {
-                    let dealt = Both::garbage(words, records).deal(shape, served, deal);
-                    assert_eq!((dealt.dealer, dealt.turns), (served, 0));
-                    dealt.answer.number
-                };
-                for past in [0, 1 << 32, u64::MAX] {
-                    for outside in [
-                        Shape {
-                            workers: past,
-                            ..sound
-                        },
-                        Shape {
-                            nodes: past,
-                            ..sound
-                        },
-                        Shape {
-                            buckets: past,
-                            ..sound
-                        },
-                        Shape {
-                            width: past,
-                            ..sound
-                        },
-                    ] {
-                        assert_eq!(number(outside, words, records), 1);
-                        assert_eq!(number(outside, 0, 0), 1);
-                    }
-                }
-                for (words, records) in [(words - 1, records), (words, records - 1), (0, 0)] {
-                    assert_eq!(number(sound, words, records), 2);
-                }
-                assert_eq!(number(sound, words, records), 3);
-            }
-        }
-    }
 }
 
 /// The largest shapes, with all workers at work; each in its turn.
@@ -411,6 +179,57 @@ fn nobody_waits_longer_than_a_round() {
                 }
             }
             assert_eq!(longest, workers);
+        }
+    });
+}
+
+/// A pool at its last epoch, with 20 arrivals behind the current bucket.
+fn at_its_last_epoch(workers: u64) -> Memory {
+    let shape = translate::shape(shape(workers, 40, 3, 10));
+    let mut memory = Memory::zeros(shape.store_words(), shape.workers as usize);
+    memory.open(shape).unwrap();
+    for time in 10..30 {
+        memory.put(0, arrival(time)).unwrap();
+        to_the_end(100, Ok(Response::On), || memory.turn(0));
+    }
+    memory.store[CURRENT] = MAX_COUNT;
+    memory
+}
+
+/// A put into the current bucket finds no epoch left, and is refused by 11 at each of its
+/// turns. The takes of the others go on, and end.
+#[test]
+fn nobody_is_held_up_by_11() {
+    on_seeds("dealt, last epoch", |random| {
+        for workers in [2, 3, 64] {
+            let mut table = Table::of(&at_its_last_epoch(workers), workers - 1);
+            let stuck = random.draw() % workers;
+            let put = Call::NarrowEnqueue(stuck, ARRIVAL, 4);
+            table.lent.call(table.shape, put);
+            let at_7 = table.lent.record(stuck as usize);
+            let mut seen = BTreeMap::new();
+            for _ in 0..2_000 {
+                for worker in (0..workers).filter(|&it| it != stuck) {
+                    if !table.is_busy(worker) {
+                        table.lent.call(table.shape, Call::NarrowDequeue(worker, 0));
+                    }
+                }
+                let most = any_limit(random);
+                let run = random.choose(&Deal::runs(most));
+                let mut single = table.clone();
+                let expected = single.one_by_one(Deal::One, most);
+                let dealt = table.deal(run);
+                assert_eq!(dealt, expected);
+                table.assert_same(&single);
+                assert_eq!(table.lent.record(stuck as usize), at_7);
+                let answer = (dealt.answer.kind, dealt.answer.number);
+                assert_eq!(answer.1 == 11, dealt.dealer == stuck && dealt.turns > 0);
+                *seen.entry(answer).or_insert(0) += 1;
+            }
+            // Its arrival is taken, too.
+            assert_eq!(seen[&(kind::TOOK, 0)], 21);
+            let often = [(kind::EMPTY, 0), (kind::REFUSED, 11)];
+            assert!(often.iter().all(|answer| seen[answer] > 20), "{seen:?}");
         }
     });
 }

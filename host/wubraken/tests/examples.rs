@@ -39,6 +39,15 @@ fn an_echogram_of_what_was_taken() {
     assert_eq!(echogram::run(), Ok(expected));
 }
 
+/// The turns go round, and so do the calls: each worker puts in its turn, the latest time
+/// first, and takes in its turn.
+#[test]
+fn a_dealer_serves_the_workers_in_a_round() {
+    let times = [100, 200, 300, 400, 500, 600];
+    let expected = [0, 1, 2, 0, 1, 2].into_iter().zip(times).collect();
+    assert_eq!(dealer::run(), Ok(expected));
+}
+
 /// Among them files that end by 7 and by 8.
 #[test]
 fn batches_print_the_lines_of_a_file() {
