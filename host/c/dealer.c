@@ -1,4 +1,4 @@
-/* A dealer of turns: it serves workers in a round, one turn at a time or until a call
+/* A dealer of turns: it goes round among the workers, one turn at a time or until a call
  * has ended, and passes over those that are idle. Prints who was served, in how many
  * turns, and the last answer. Needs libdealer.a beside libwubraken.a. */
 #include <inttypes.h>
@@ -64,11 +64,11 @@ static void deal(uint64_t turns)
 }
 
 /* Worker 1 is idle at first; then it is served behind worker 0. */
-static void in_a_round(void)
+static void going_round(void)
 {
     int nth;
 
-    puts("in a round:");
+    puts("going round:");
     open_all();
     put(0, 5);
     put(2, 15);
@@ -132,7 +132,7 @@ static void from_elsewhere(void)
 
 int main(void)
 {
-    in_a_round();
+    going_round();
     until_a_call_has_ended();
     at_the_last_epoch();
     outside_the_shape();

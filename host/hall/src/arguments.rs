@@ -3,7 +3,7 @@
 use wubraken::{Echogram, Shape};
 
 use crate::geometry::{Hall, GREATEST_ORDER, SAMPLES_PER_MILLISECOND};
-use crate::tracer::{Job, Turns, SLOTS};
+use crate::tracer::{Interleaving, Job, SLOTS};
 
 pub fn help() -> String {
     format!(
@@ -41,7 +41,7 @@ options:
 
 #[derive(Clone, Copy, Debug, PartialEq, Eq)]
 pub struct Arguments {
-    pub turns: Turns,
+    pub interleaving: Interleaving,
     pub workers: u64,
     pub nodes: u64,
     pub order: u32,
@@ -52,7 +52,7 @@ pub struct Arguments {
 impl Default for Arguments {
     fn default() -> Self {
         Self {
-            turns: Turns::AtRandom(1),
+            interleaving: Interleaving::AtRandom(1),
             workers: 3,
             nodes: 12,
             order: 2,
@@ -89,8 +89,8 @@ impl Arguments {
         }
         match (seed, is_dealt) {
             (None, false) => {}
-            (Some(seed), false) => arguments.turns = Turns::AtRandom(seed),
-            (None, true) => arguments.turns = Turns::Dealt,
+            (Some(seed), false) => arguments.interleaving = Interleaving::AtRandom(seed),
+            (None, true) => arguments.interleaving = Interleaving::Dealt,
             // A dealer leaves nothing to a seed.
             (Some(_), true) => return None,
         }
@@ -108,7 +108,7 @@ impl Arguments {
                 buckets: BUCKETS,
                 width: self.span.saturating_mul(WIDTH_PER_MILLISECOND),
             },
-            turns: self.turns,
+            interleaving: self.interleaving,
             slot: self.slot,
         }
     }

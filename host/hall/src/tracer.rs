@@ -11,7 +11,7 @@ pub const SLOTS: usize = 40;
 
 /// Who acts next.
 #[derive(Clone, Copy, Debug, PartialEq, Eq)]
-pub enum Turns {
+pub enum Interleaving {
     /// Any worker that can, at random from this seed, by a start or a turn.
     AtRandom(u64),
     /// Whoever is idle begins its next call; a dealer deals the turns.
@@ -25,7 +25,7 @@ pub struct Job {
     /// No reflections beyond this order.
     pub order: u32,
     pub shape: Shape,
-    pub turns: Turns,
+    pub interleaving: Interleaving,
     /// Milliseconds of a slot of the echogram; none for the fewest that will do.
     pub slot: Option<u64>,
 }
@@ -45,9 +45,9 @@ impl Job {
 /// Traces a hall until nothing is left; a refusal is one that no worker expects.
 pub fn trace(job: &Job) -> Result<Trace, Refusal> {
     let mut host = Host::new(job)?;
-    match job.turns {
-        Turns::AtRandom(seed) => host.act_at_random(seed)?,
-        Turns::Dealt => host.act_as_dealt()?,
+    match job.interleaving {
+        Interleaving::AtRandom(seed) => host.act_at_random(seed)?,
+        Interleaving::Dealt => host.act_as_dealt()?,
     }
     // The low half of word 0.
     host.trace.epochs = host.pool.store()[0] & u64::from(u32::MAX);

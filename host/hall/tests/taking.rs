@@ -3,7 +3,7 @@
 use std::collections::HashMap;
 use std::iter::successors;
 
-use hall::{trace, Arguments, Call, Event, Hall, Image, Trace, Turns};
+use hall::{trace, Arguments, Call, Event, Hall, Image, Interleaving, Trace};
 use order::{find_order, Answer, End, Kind};
 use wubraken::{Arrival, Shape, Taken};
 
@@ -14,9 +14,11 @@ fn run(arguments: Arguments) -> Trace {
 /// Milliseconds: all but the tail is empty, some is behind, nothing is.
 const SPANS: [u64; 3] = [1, 100, 1_000];
 
-/// Orders at random, and that of a dealer.
-fn orders(seeds: u64) -> impl Iterator<Item = Turns> {
-    (0..seeds).map(Turns::AtRandom).chain([Turns::Dealt])
+/// At random, and by a dealer.
+fn interleavings(seeds: u64) -> impl Iterator<Item = Interleaving> {
+    (0..seeds)
+        .map(Interleaving::AtRandom)
+        .chain([Interleaving::Dealt])
 }
 
 /// Few and many workers and nodes, with several orders of turns and several spans.
@@ -24,9 +26,9 @@ fn runs() -> Vec<Trace> {
     let mut runs = Vec::new();
     for workers in [1, 2, 3, 8, 64] {
         for nodes in [1, 5, 12, 500] {
-            for (turns, span) in orders(6).zip(SPANS.into_iter().cycle()) {
+            for (interleaving, span) in interleavings(6).zip(SPANS.into_iter().cycle()) {
                 runs.push(run(Arguments {
-                    turns,
+                    interleaving,
                     workers,
                     nodes,
                     order: 3,
@@ -114,15 +116,15 @@ fn several_workers_may_take_out_of_order() {
 #[test]
 fn one_worker_does_the_same_by_a_dealer() {
     for nodes in [1, 12] {
-        let alone = |turns| {
+        let alone = |interleaving| {
             run(Arguments {
-                turns,
+                interleaving,
                 workers: 1,
                 nodes,
                 ..Arguments::default()
             })
         };
-        let (dealt, other) = (alone(Turns::Dealt), alone(Turns::AtRandom(1)));
+        let (dealt, other) = (alone(Interleaving::Dealt), alone(Interleaving::AtRandom(1)));
         assert_eq!((dealt.taken(), dealt.turns), (other.taken(), other.turns));
     }
 }
@@ -132,7 +134,7 @@ fn one_worker_does_the_same_by_a_dealer() {
 fn what_is_too_far_does_not_end_a_dealt_run() {
     let mut job = Arguments::default().job();
     job.hall.size[0] = 40_000;
-    (job.order, job.turns) = (4, Turns::Dealt);
+    (job.order, job.interleaving) = (4, Interleaving::Dealt);
     for workers in [1, 3, 64] {
         job.shape.workers = workers;
         let trace = trace(&job).unwrap();
@@ -259,16 +261,16 @@ fn the_energy_is_of_the_distance() {
 fn there_is_a_sequential_order() {
     for workers in [1, 2, 3] {
         for nodes in [3, 12] {
-            for turns in orders(20) {
+            for interleaving in interleavings(20) {
                 let trace = run(Arguments {
-                    turns,
+                    interleaving,
                     workers,
                     nodes,
                     ..Arguments::default()
                 });
                 let mut calls: Vec<_> = trace.calls.iter().map(seen_from_outside).collect();
                 calls.sort_by_key(|call| call.start);
-                assert!(find_order(&calls).is_some(), "{turns:?}");
+                assert!(find_order(&calls).is_some(), "{interleaving:?}");
             }
         }
     }

@@ -7,7 +7,7 @@
 //! [`narrow_step`] do the same, but check only what they need, and can go on with
 //! the call. [`run`] is the streaming turn-file program.
 //!
-//! [`deal`], [`deal_run`] and [`narrow_deal`] deal turns in a round.
+//! [`deal`], [`deal_run`] and [`narrow_deal`] deal turns, going round among the workers.
 //! [`clear_row`], [`record`] and [`record_series`] keep an echogram of what was taken.
 //!
 //! Names of the document and their names here: put is enqueue, take is dequeue,

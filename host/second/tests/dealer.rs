@@ -376,7 +376,7 @@ fn the_turn_is_done_with_the_words_found() {
 /// any moment on and whatever begins; and one that just was, with all others in
 /// progress, waits that long.
 #[test]
-fn nobody_waits_longer_than_a_round() {
+fn nobody_waits_for_more_turns_than_workers() {
     for workers in [1, 2, 3, 16, 64] {
         let mut random = Random::new(workers.into());
         let mut table = Table::new(Lent::open(shape(workers, 70, 2, 10)));

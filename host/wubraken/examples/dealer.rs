@@ -1,5 +1,5 @@
 //! A host without a scheduler: each worker begins its next call as soon as it is idle,
-//! and a dealer deals their turns in a round.
+//! and a dealer deals their turns, going round.
 //!
 //!     cargo run --release --offline -p wubraken --example dealer
 

@@ -2,7 +2,7 @@
 
 use crate::{answer, raw, Pool, Refusal, Shape, Step, Worker};
 
-/// Deals the workers' turns in a round, for a host without a scheduler of its own.
+/// Deals turns, going round among the workers, for a host without a scheduler of its own.
 ///
 /// It remembers the worker that it served last, and nothing else. The next turn goes to
 /// the first worker after that one, going round, that has a call in progress. So a

@@ -57,8 +57,8 @@
 //! Threads that share a pool lock it for a step, or for a call
 //! (`examples/threads.rs`).
 //!
-//! A [`Dealer`] deals the steps in a round, to the workers that have a call in progress
-//! (`examples/dealer.rs`).
+//! A [`Dealer`] deals the steps for the host, going round among the workers that have a
+//! call in progress (`examples/dealer.rs`).
 //!
 //! An [`Echogram`] adds up the energies of what was taken, by their times
 //! (`examples/echogram.rs`).

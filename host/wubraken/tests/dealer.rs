@@ -126,16 +126,16 @@ fn dealt_turns_on_any_memory_in_range() {
 
 /// The largest shapes, with all workers at work; each in its turn.
 #[test]
-fn a_round_of_the_most_workers() {
+fn the_most_workers_one_after_the_other() {
     let mut table = Table::open(shape(64, 4_096, 256, 65_535));
     for worker in 0..64 {
         table
             .lent
             .call(table.shape, Call::NarrowEnqueue(worker, ARRIVAL, 0));
     }
-    for round in 0..3 {
+    for turn in 0..3 {
         for worker in 0..64 {
-            let form = random_form(round + worker);
+            let form = random_form(turn + worker);
             let dealt = table.deal(form);
             assert_eq!(
                 (dealt.dealer, dealt.turns, dealt.answer.kind),
@@ -153,7 +153,7 @@ fn random_form(seed: u64) -> Deal {
 /// From any moment on a worker in progress waits for at most as many turns as there are
 /// workers, whatever begins; and the longest wait is that long.
 #[test]
-fn nobody_waits_longer_than_a_round() {
+fn nobody_waits_for_more_turns_than_workers() {
     on_seeds("dealt, waiting", |random| {
         for workers in [1, 2, 7, 64] {
             let mut table = Table::open(shape(workers, 70, 3, 10));
@@ -190,7 +190,8 @@ fn at_its_last_epoch(workers: u64) -> Memory {
     memory.open(shape).unwrap();
     for time in 10..30 {
         memory.put(0, arrival(time)).unwrap();
-        to_the_end(100, Ok(Response::On), || memory.turn(0));
+        let (_, stored) = to_the_end(100, Ok(Response::On), || memory.turn(0));
+        assert!(matches!(stored, Ok(Response::Stored(_))));
     }
     memory.store[CURRENT] = MAX_COUNT;
     memory

@@ -42,7 +42,7 @@ fn an_echogram_of_what_was_taken() {
 /// The turns go round, and so do the calls: each worker puts in its turn, the latest time
 /// first, and takes in its turn.
 #[test]
-fn a_dealer_serves_the_workers_in_a_round() {
+fn a_dealer_serves_one_worker_after_the_other() {
     let times = [100, 200, 300, 400, 500, 600];
     let expected = [0, 1, 2, 0, 1, 2].into_iter().zip(times).collect();
     assert_eq!(dealer::run(), Ok(expected));
