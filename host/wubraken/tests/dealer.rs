@@ -197,8 +197,9 @@ fn at_its_last_epoch(workers: u64) -> Memory {
     memory
 }
 
-/// A put into the current bucket finds no epoch left, and is refused by 11 at each of its
-/// turns. The takes of the others go on, and end.
+/// A put into the current bucket finds no epoch left: it never ends, and its turns are
+/// refused by 11, but for those after a take has moved current. The takes of the others go
+/// on, and end.
 #[test]
 fn nobody_is_held_up_by_11() {
     on_seeds("dealt, last epoch", |random| {
@@ -207,7 +208,6 @@ fn nobody_is_held_up_by_11() {
             let stuck = random.draw() % workers;
             let put = Call::NarrowEnqueue(stuck, ARRIVAL, 4);
             table.lent.call(table.shape, put);
-            let at_7 = table.lent.record(stuck as usize);
             let mut seen = BTreeMap::new();
             for _ in 0..2_000 {
                 for worker in (0..workers).filter(|&it| it != stuck) {
@@ -222,9 +222,10 @@ fn nobody_is_held_up_by_11() {
                 let dealt = table.deal(run);
                 assert_eq!(dealt, expected);
                 table.assert_same(&single);
-                assert_eq!(table.lent.record(stuck as usize), at_7);
+                let record = table.lent.record(stuck as usize).unwrap();
+                assert!([6, 7].contains(&record.stage));
                 let answer = (dealt.answer.kind, dealt.answer.number);
-                assert_eq!(answer.1 == 11, dealt.dealer == stuck && dealt.turns > 0);
+                assert!(answer.1 != 11 || dealt.dealer == stuck);
                 *seen.entry(answer).or_insert(0) += 1;
             }
             // Its arrival is taken, too.
