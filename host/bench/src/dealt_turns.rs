@@ -43,7 +43,7 @@ struct Contestants {
 }
 
 fn contest(rounds: usize, holds: usize, workers: u32, pending: usize) {
-    let model = Model::with_spare(workers, pending, 64 + 8 * workers);
+    let model = Model::with_spare(workers, pending, 64 * workers);
     let runs = (holds / model.holds).max(1) as u64;
     let runs: Vec<Schedule> = (0..runs).map(|seed| Schedule::new(&model, seed)).collect();
     let mut contestants = Contestants {
