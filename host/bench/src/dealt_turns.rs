@@ -44,8 +44,10 @@ struct Contestants {
 
 fn contest(rounds: usize, holds: usize, workers: u32, pending: usize) {
     let model = Model::with_spare(workers, pending, 64 * workers);
-    let runs = (holds / model.holds).max(1) as u64;
-    let runs: Vec<Schedule> = (0..runs).map(|seed| Schedule::new(&model, seed)).collect();
+    // Among many workers a call has many turns; fewer of them will do.
+    let share = (workers / FEW_WORKERS).max(1) as usize;
+    let count = (holds / share / model.holds).max(1) as u64;
+    let runs: Vec<Schedule> = (0..count).map(|seed| Schedule::new(&model, seed)).collect();
     let mut contestants = Contestants {
         pool: open(&model),
         entry: BatchEntry::of(open(&model)),
