@@ -124,30 +124,20 @@ fn dealt_turns_on_any_memory_in_range() {
     });
 }
 
-/// The largest shapes, with all workers at work; each in its turn.
+/// At the largest shape, with all workers at work.
 #[test]
 fn the_most_workers_one_after_the_other() {
     let mut table = Table::open(shape(64, 4_096, 256, 65_535));
     for worker in 0..64 {
-        table
-            .lent
-            .call(table.shape, Call::NarrowEnqueue(worker, ARRIVAL, 0));
+        let put = Call::NarrowEnqueue(worker, ARRIVAL, 0);
+        table.lent.call(table.shape, put);
     }
-    for turn in 0..3 {
-        for worker in 0..64 {
-            let form = random_form(turn + worker);
-            let dealt = table.deal(form);
-            assert_eq!(
-                (dealt.dealer, dealt.turns, dealt.answer.kind),
-                (worker, 1, kind::ON)
-            );
-        }
+    let workers = (0..64).cycle();
+    for (worker, form) in workers.zip(Deal::ones().into_iter().cycle()).take(3 * 64) {
+        let dealt = table.deal(form);
+        assert_eq!((dealt.dealer, dealt.turns), (worker, 1));
+        assert_eq!(dealt.answer.kind, kind::ON);
     }
-}
-
-/// One of the ways to deal a turn.
-fn random_form(seed: u64) -> Deal {
-    Random::new(seed).choose(&Deal::ones())
 }
 
 /// From any moment on a worker in progress waits for at most as many turns as there are

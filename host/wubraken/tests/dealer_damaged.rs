@@ -24,8 +24,8 @@ fn next(memory: &Memory, served: u64) -> Option<usize> {
 }
 
 /// Whether a narrow dealt turn looks at a field before it does anything: at the first
-/// three words, and at the record of the worker to be served. Of a stage it looks at all
-/// in any case: it says who that is.
+/// three words, and at the record of the worker to be served. Who that is, the stages say,
+/// also one that is out of range.
 fn looks_at(memory: &Memory, served: u64, field: Field) -> bool {
     match field {
         Field::Current | Field::Started | Field::LastAllocated => true,
@@ -131,8 +131,14 @@ fn no_turns_on_any_memory() {
 fn shapes_outside_their_limits_and_short_memory() {
     let largest = shape(64, 4_096, 256, 65_535);
     for sound in [shape(1, 1, 1, 1), shape(3, 4, 2, 10), largest] {
-        let (words, records) = (sound.words().unwrap(), sound.workers as usize);
-        for served in [0, sound.workers, u64::MAX] {
+        let Shape {
+            workers,
+            nodes,
+            buckets,
+            width,
+        } = sound;
+        let (words, records) = (sound.words().unwrap(), workers as usize);
+        for served in [0, workers, u64::MAX] {
             for deal in [Deal::One, Deal::Run(u64::MAX), Deal::Narrow(u64::MAX)] {
                 let number = |shape, words, records| {
                     let dealt = Both::garbage(words, records).deal(shape, served, deal);
@@ -141,22 +147,10 @@ fn shapes_outside_their_limits_and_short_memory() {
                 };
                 for past in [0, 1 << 32, u64::MAX] {
                     for outside in [
-                        Shape {
-                            workers: past,
-                            ..sound
-                        },
-                        Shape {
-                            nodes: past,
-                            ..sound
-                        },
-                        Shape {
-                            buckets: past,
-                            ..sound
-                        },
-                        Shape {
-                            width: past,
-                            ..sound
-                        },
+                        shape(past, nodes, buckets, width),
+                        shape(workers, past, buckets, width),
+                        shape(workers, nodes, past, width),
+                        shape(workers, nodes, buckets, past),
                     ] {
                         assert_eq!(number(outside, words, records), 1);
                         assert_eq!(number(outside, 0, 0), 1);
