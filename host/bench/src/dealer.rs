@@ -4,6 +4,7 @@
 #![allow(dead_code)]
 
 mod dealt_turns;
+mod empty_takes;
 mod engines;
 mod hold_model;
 mod hold_narrow;

@@ -5,6 +5,7 @@ use std::time::Duration;
 use schedule::script::{put_arrival, take, turn};
 use wubraken::{Arrival, Dealer, Pool, Step};
 
+use crate::empty_takes;
 use crate::engines::{BatchEntry, Engine};
 use crate::hold_model::{Draws, Model};
 use crate::hold_narrow::{fill, open};
@@ -32,6 +33,13 @@ pub fn run(rounds: usize, holds: usize) {
         for pending in PENDING {
             contest(rounds, holds, workers, pending);
         }
+    }
+    println!(
+        " Nearly all turns: each worker begins a take, and finds the pool empty behind 256 buckets"
+    );
+    println!("        workers          dealer     batch  ratio");
+    for workers in WORKERS {
+        empty_takes::contest(rounds, workers);
     }
 }
 
@@ -118,13 +126,13 @@ fn hold(host: &mut impl Host, model: &Model, increments: &[u32]) {
 }
 
 /// By a dealer, through the wrapper.
-struct ByDealer<'a> {
+pub struct ByDealer<'a> {
     pool: &'a mut Pool,
     dealer: Dealer,
 }
 
 impl<'a> ByDealer<'a> {
-    fn new(pool: &'a mut Pool) -> Self {
+    pub fn new(pool: &'a mut Pool) -> Self {
         let dealer = Dealer::new(pool.shape());
         Self { pool, dealer }
     }
@@ -158,9 +166,18 @@ fn taken(end: Step) -> Option<Arrival> {
 }
 
 /// Writes down each start and each turn.
-struct Written<'a> {
+pub struct Written<'a> {
     host: ByDealer<'a>,
-    batch: Batch,
+    pub batch: Batch,
+}
+
+impl<'a> Written<'a> {
+    pub fn new(pool: &'a mut Pool) -> Self {
+        Self {
+            host: ByDealer::new(pool),
+            batch: Batch::default(),
+        }
+    }
 }
 
 impl Host for Written<'_> {
@@ -205,10 +222,7 @@ impl Schedule {
     fn new(model: &Model, seed: u64) -> Self {
         let draws = model.draws(seed);
         let mut left = filled(model, &draws);
-        let mut written = Written {
-            host: ByDealer::new(&mut left),
-            batch: Batch::default(),
-        };
+        let mut written = Written::new(&mut left);
         hold(&mut written, model, &draws.increments);
         let batch = written.batch;
         Self { draws, batch, left }
