@@ -20,6 +20,7 @@ use super::rows::worker_of;
 use admission::gate;
 use admission::is_near;
 use admission::is_sound;
+use admission::ranges::links_in_range;
 use admission::ranges::record_in_range;
 use arrival::Response;
 use arrival::Shape;
@@ -39,12 +40,12 @@ fn flag_of(shape: Shape, whole: bool, store: &[u64], table: &[[u64; 9]]) -> bool
     is_near(shape, table.len(), true, store)
 }
 
-// Whether the record of the worker to be served lets it have its turn: a narrow turn looks at it.
-fn may_turn(shape: Shape, whole: bool, w: Worker) -> bool
+// Whether the record of the worker to be served lets it have its turn: a narrow turn looks at it, unless it is known to be in range.
+fn may_turn(shape: Shape, known: bool, w: Worker) -> bool
     requires { ⌜ shapeInRange shape ≡ true ⌝ }
-    ensures { λ r. ⌜ r ≡ (whole || recordInRange shape w) ⌝ }
+    ensures { λ r. ⌜ r ≡ (known || recordInRange shape w) ⌝ }
 {
-    if whole {
+    if known {
         return true;
     }
     record_in_range(shape, w)
@@ -77,13 +78,16 @@ fn deal_turns(
 {
     let mut last = dealer;
     let mut made: u64 = 0;
+    // which of the records that were served are known to be in range
+    let mut known = [false; 64];
     loop {
         let i = next_served(shape, last, table);
         if i == shape.workers {
             return hand_back(last, made, Response::Refused(16));
         }
         let w = worker_of(table[i as usize]);
-        if !may_turn(shape, whole, w) {
+        let seen = known[i as usize];
+        if !may_turn(shape, whole | seen, w) {
             return hand_back(last, made, Response::Refused(3));
         }
         let leak = leaks_of(shape, whole, w, store);
@@ -99,6 +103,7 @@ fn deal_turns(
         if leak {
             return hand_back(last, made, Response::Refused(3));
         }
+        known[i as usize] = links_in_range(shape, worker);
     }
 }
 

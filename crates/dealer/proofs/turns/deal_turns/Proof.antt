@@ -26,14 +26,14 @@ use Rattle.dealer.proofs.turns.deal_turns.Statement.{statement}
 use Rattle.dealer.proofs.turns.deal_turns.Tie as tie
 
 abbrev Inv-loop : tie.InvT-loop
-Inv-loop shape whole dealer turns store₀ table₀ last₀ made₀ store table last made = Round whole shape turns (lent store₀
-    (records table₀)) dealer store table last made × (length store₀ ≡ length store) × (length table₀ ≡ length table)
+Inv-loop shape whole dealer turns store₀ table₀ last₀ made₀ known₀ store table last made known = Round whole shape turns (lent store₀
+    (records table₀)) dealer store table last made known × (length store₀ ≡ length store) × (length table₀ ≡ length table)
 
 abbrev μ-loop : tie.MeasureT-loop
-μ-loop shape whole dealer turns store₀ table₀ last₀ made₀ store table last made = turns - made
+μ-loop shape whole dealer turns store₀ table₀ last₀ made₀ known₀ store table last made known = turns - made
 
 loop-holds : tie.Need-loop-holds Inv-loop μ-loop
-loop-holds c = (first-round _ _ _ _ _ _ (c .before .pre .0) (c .before .pre .1), refl, refl)
+loop-holds c = (first-round _ _ _ _ _ _ (c .before .pre .0) (c .before .pre .1) _ refl, refl, refl)
 
 next-served-requires : tie.Need-next-served-requires Inv-loop μ-loop
 next-served-requires c κs = let R = c .before .loop .inv .0 in (
@@ -72,6 +72,11 @@ slice-copy-out-worker-of c = let l = c .before .before .before .before .loop in
 
 worker-of-requires : tie.Need-worker-of-requires Inv-loop μ-loop
 worker-of-requires c κs = search needs
+
+array-read-seen : tie.Need-array-read-seen Inv-loop μ-loop
+array-read-seen c = let l = c .before .before .before .before .before .before .loop in
+    let n = c .before .before .before .before .next-served in
+    omega (arith, exists (l .inv .0) (n .result) (n .ensures) (c .before .before .if1 .left), l .inv .0 .able .lent .limits .workers)
 
 may-turn-requires : tie.Need-may-turn-requires Inv-loop μ-loop
 may-turn-requires c κs = shape-tests _ (c .before .before .before .before .before .before .loop .inv .0 .able .lent .limits)
@@ -114,8 +119,8 @@ step-requires c κs = λ few.
 row-of-requires : tie.Need-row-of-requires Inv-loop μ-loop
 row-of-requires c κs = search needs
 
-mul-t20 : tie.Need-mul-t20 Inv-loop μ-loop
-mul-t20 c = let l = c .before .before .before .before .before .before .before .before .before .before .before .before .before .before .before .before
+mul-t21 : tie.Need-mul-t21 Inv-loop μ-loop
+mul-t21 c = let l = c .before .before .before .before .before .before .before .before .before .before .before .before .before .before .before .before
     .loop in
     let n = c .before .before .before .before .before .before .before .before .before .before .before .before .before .before .next-served in
     omega (
@@ -235,45 +240,65 @@ returns-4 c = let l = c .before .before .before .before .before .before .before 
     (not-false _ (c .before .before .before .before .before .before .before .before .before .before .before .before .if2 .left)) _ (p .result) (p .ensures)
     (q .result) (q .ensures) (g .result) (g .ensures) (c .before .before .if3 .left) (k .result) (k .ensures) (c .before .if4 .taken)
 
+links-in-range-requires : tie.Need-links-in-range-requires Inv-loop μ-loop
+links-in-range-requires c κs = search needs
+
+array-write-known : tie.Need-array-write-known Inv-loop μ-loop
+array-write-known c = let l = c .before .before .before .before .before .before .before .before .before .before .before .before .before .before .before
+    .before .before .before .before .before .loop in
+    let n = c .before .before .before .before .before .before .before .before .before .before .before .before .before .before .before .before .before
+    .before .next-served in
+    omega (
+      arith,
+      exists (l .inv .0) (n .result) (n .ensures)
+          (c .before .before .before .before .before .before .before .before .before .before .before .before .before .before .before .before .if1 .left),
+      l .inv
+          .0 .able .lent .limits .workers,
+    )
+
 loop-less : tie.Need-loop-less Inv-loop μ-loop
 loop-less c = let l = c .before .before .before .before .before .before .before .before .before .before .before .before .before .before .before .before
-    .before .before .before .loop in
+    .before .before .before .before .loop in
     let n = c .before .before .before .before .before .before .before .before .before .before .before .before .before .before .before .before .before
-    .next-served in
-    let o = c .before .before .before .before .before .before .before .before .before .before .before .before .before .worker-of in
-    let y = c .before .before .before .before .before .before .before .before .before .before .before .before .may-turn in
-    let p = c .before .before .before .before .before .before .before .step in
-    let q = c .before .before .before .row-of in
-    let g = c .before .before .goes-on in
+    .before .next-served in
+    let o = c .before .before .before .before .before .before .before .before .before .before .before .before .before .before .worker-of in
+    let y = c .before .before .before .before .before .before .before .before .before .before .before .before .before .may-turn in
+    let p = c .before .before .before .before .before .before .before .before .step in
+    let q = c .before .before .before .before .row-of in
+    let g = c .before .before .before .goes-on in
     omega (
       arith,
       lasts-less (l .inv .0) (n .result) (n .ensures)
-          (c .before .before .before .before .before .before .before .before .before .before .before .before .before .before .before .if1 .left) (o .result)
-          (o .ensures) (y .result) (y .ensures)
-          (not-false _ (c .before .before .before .before .before .before .before .before .before .before .before .if2 .left)) _ (p .result) (p .ensures)
-          (q .result) (q .ensures) (g .result) (g .ensures) (c .before .if3 .left),
+          (c .before .before .before .before .before .before .before .before .before .before .before .before .before .before .before .before .if1 .left)
+          (o .result) (o .ensures) (y .result) (y .ensures)
+          (not-false _ (c .before .before .before .before .before .before .before .before .before .before .before .before .if2 .left)) _ (p .result)
+          (p .ensures)
+          (q .result) (q .ensures) (g .result) (g .ensures) (c .before .before .if3 .left),
     )
 
 loop-again : tie.Need-loop-again Inv-loop μ-loop
 loop-again c = let l = c .before .before .before .before .before .before .before .before .before .before .before .before .before .before .before
-    .before .before .before .before .loop in
+    .before .before .before .before .before .loop in
     let n = c .before .before .before .before .before .before .before .before .before .before .before .before .before .before .before .before .before
-    .next-served in
-    let o = c .before .before .before .before .before .before .before .before .before .before .before .before .before .worker-of in
-    let y = c .before .before .before .before .before .before .before .before .before .before .before .before .may-turn in
-    let p = c .before .before .before .before .before .before .before .step in
-    let q = c .before .before .before .row-of in
-    let g = c .before .before .goes-on in
-    let k = c .before .before .before .before .before .before .before .before .before .leaks-of in (
+    .before .next-served in
+    let o = c .before .before .before .before .before .before .before .before .before .before .before .before .before .before .worker-of in
+    let y = c .before .before .before .before .before .before .before .before .before .before .before .before .before .may-turn in
+    let p = c .before .before .before .before .before .before .before .before .step in
+    let q = c .before .before .before .before .row-of in
+    let g = c .before .before .before .goes-on in
+    let k = c .before .before .before .before .before .before .before .before .before .before .leaks-of in (
       next-round (l .inv .0) (n .result) (n .ensures)
-          (c .before .before .before .before .before .before .before .before .before .before .before .before .before .before .before .if1 .left) (o .result)
-          (o .ensures) (y .result) (y .ensures)
-          (not-false _ (c .before .before .before .before .before .before .before .before .before .before .before .if2 .left)) _ (p .result) (p .ensures)
-          (q .result) (q .ensures) (g .result) (g .ensures) (c .before .if3 .left) (k .result) (k .ensures) (c .if4 .left),
+          (c .before .before .before .before .before .before .before .before .before .before .before .before .before .before .before .before .if1 .left)
+          (o .result) (o .ensures) (y .result) (y .ensures)
+          (not-false _ (c .before .before .before .before .before .before .before .before .before .before .before .before .if2 .left)) _ (p .result)
+          (p .ensures)
+          (q .result) (q .ensures) (g .result) (g .ensures) (c .before .before .if3 .left) (k .result) (k .ensures) (c .before .if4 .left)
+          (c .links-in-range .result) (c .links-in-range .ensures),
       l .inv .1 ∙ as-long (l .inv .0) (n .result) (n .ensures)
-          (c .before .before .before .before .before .before .before .before .before .before .before .before .before .before .before .if1 .left) (o .result)
-          (o .ensures) (y .result) (y .ensures)
-          (not-false _ (c .before .before .before .before .before .before .before .before .before .before .before .if2 .left)) _ (p .result) (p .ensures)
+          (c .before .before .before .before .before .before .before .before .before .before .before .before .before .before .before .before .if1 .left)
+          (o .result) (o .ensures) (y .result) (y .ensures)
+          (not-false _ (c .before .before .before .before .before .before .before .before .before .before .before .before .if2 .left)) _ (p .result)
+          (p .ensures)
           (q .result) (q .ensures),
       l .inv .2 ∙ sym (length-set (l .table) _ _),
     )
@@ -293,6 +318,7 @@ deal-turns-spec =
     mul-worker-of
     slice-copy-out-worker-of
     worker-of-requires
+    array-read-seen
     may-turn-requires
     hand-back-requires-2
     same-length-3
@@ -301,7 +327,7 @@ deal-turns-spec =
     leaks-of-requires
     step-requires
     row-of-requires
-    mul-t20
+    mul-t21
     slice-set-from-table
     add-made
     goes-on-requires
@@ -313,5 +339,7 @@ deal-turns-spec =
     same-length-7
     same-length-8
     returns-4
+    links-in-range-requires
+    array-write-known
     loop-less
     loop-again)
