@@ -37,7 +37,7 @@ static void open_all(void)
 
     wubraken_pool_open(&pool, shape, store, WUBRAKEN_WORDS(NODES, BUCKETS), table, WORKERS);
     dealer = wubraken_new_dealer(shape);
-    printf("worker %" PRIu64 " is served last\n", dealer);
+    printf("the dealer remembers worker %" PRIu64 "\n", dealer);
 }
 
 static void put(uint64_t worker, uint32_t time)
@@ -114,7 +114,8 @@ static void outside_the_shape(void)
     deal(UINT64_MAX);
 }
 
-/* Memory that came from elsewhere: all of it is looked at, or what is needed. */
+/* Memory that came from elsewhere: all of it is looked at, or what is needed. A run has
+ * a limit there, since lists may lead in a circle. */
 static void from_elsewhere(void)
 {
     const size_t words = WUBRAKEN_WORDS(NODES, BUCKETS);
@@ -127,7 +128,7 @@ static void from_elsewhere(void)
     print_dealt(wubraken_deal(pool.shape, dealer, store, words, table, WORKERS));
     print_dealt(wubraken_narrow_deal(pool.shape, dealer, 1, store, words, table, WORKERS));
     store[words - 1] = 0;
-    print_dealt(wubraken_deal_run(pool.shape, dealer, UINT64_MAX, store, words, table, WORKERS));
+    print_dealt(wubraken_deal_run(pool.shape, dealer, 100, store, words, table, WORKERS));
 }
 
 int main(void)

@@ -309,14 +309,14 @@ wubraken_dealt wubraken_deal(wubraken_shape shape, uint64_t dealer,
 
 /* At most `turns` dealt turns, as wubraken_deal makes them one by one, until one answers
  * something else than ON. It looks at every field once. With turns 0 the answer is ON,
- * whatever there is. Refusals: 1 to 4, 11, 16; behind the first turn 3, 11. */
+ * whatever there is. In memory that no pool has left lists may lead in a circle, and a
+ * run needs a limit. Refusals: 1 to 4, 11, 16; behind the first turn 3, 11. */
 wubraken_dealt wubraken_deal_run(wubraken_shape shape, uint64_t dealer, uint64_t turns,
                                  uint64_t *store, size_t words,
                                  wubraken_worker *table, size_t records);
 
 /* The same by narrow turns: 3 looks only at the first three words of the store and at
  * the record of the worker to be served. Of the other records only the stage is read.
- * In memory that no pool has left lists may lead in a circle, and a run needs a limit.
  * Refusals: 1 to 4, 11, 16; behind the first turn 3, 11. */
 wubraken_dealt wubraken_narrow_deal(wubraken_shape shape, uint64_t dealer, uint64_t turns,
                                     uint64_t *store, size_t words,
@@ -478,7 +478,8 @@ static inline wubraken_answer wubraken_pool_take(const wubraken_pool *pool, uint
 
 /* Deals at most so many turns, until a call has ended: the last answer, ON if the turns
  * are used up, and the dealer moves on to the worker served last. Begin with a dealer of
- * wubraken_new_dealer(pool->shape). 0 turns are ON, whatever there is.
+ * wubraken_new_dealer(pool->shape). 0 turns are ON, whatever there is. Where the calls
+ * of all workers may be stuck, or the memory came from elsewhere, give it a limit.
  * Refusals, of the next turn: 1 to 4, 16; and 11, of one that is dealt. */
 static inline wubraken_dealt wubraken_pool_deal(const wubraken_pool *pool, uint64_t *dealer, uint64_t turns)
 {

@@ -129,6 +129,24 @@ fn one_worker_does_the_same_by_a_dealer() {
     }
 }
 
+/// One bucket: an empty pool is found empty in 3 turns, and a put has 5. All begin before
+/// the first turn, and whoever has ended begins again at once, a moment each.
+#[test]
+fn a_dealer_goes_round() {
+    let first_ends = |workers, count: usize| {
+        let mut job = Arguments::default().job();
+        (job.order, job.interleaving) = (0, Interleaving::Dealt);
+        (job.shape.workers, job.shape.buckets) = (workers, 1);
+        let calls = trace(&job).unwrap().calls;
+        let ends = calls.iter().map(|call| (call.worker, call.start, call.end));
+        ends.take(count).collect::<Vec<_>>()
+    };
+    // Turns of 0, 1, 0, 1, 0, 1 from moment 3 on, a start, and of 0, 1, 0.
+    assert_eq!(first_ends(2, 2), [(1, 2, 8), (0, 1, 12)]);
+    // Turns of 0, 1, 2 from moment 4 on, with a start behind each of those that end.
+    assert_eq!(first_ends(3, 3), [(1, 2, 11), (2, 3, 13), (0, 1, 18)]);
+}
+
 /// A reflection that is too far begins no call, and its worker goes on with the next.
 #[test]
 fn what_is_too_far_does_not_end_a_dealt_run() {

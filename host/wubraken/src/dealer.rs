@@ -101,7 +101,8 @@ impl Dealer {
     /// Deals at most so many turns, until one ends a call or is refused: as
     /// [`Dealer::deal`] does one by one, and faster. A refusal of the first is the answer
     /// (1 to 4, 16); of a later one it is in [`Dealt::step`]. 0 turns are [`Step::On`],
-    /// whatever there is.
+    /// whatever there is. `u64::MAX` is as good as no limit, in memory that grew from an
+    /// opening; in other memory a list may lead in a circle.
     ///
     /// ```
     /// # use wubraken::{Dealer, Pool, Shape, Step};

@@ -115,7 +115,7 @@ pub struct Worker {
     pub ticket: u64,
 }
 
-/// The proved library sees a record as nine words, the fields in this order.
+/// The proved dealer sees a record as nine words, the fields in this order.
 const _: () = {
     // SAFETY: any bits are a record; the sizes are compared by the compiler.
     let record: Worker = unsafe { std::mem::transmute([0u64, 1, 2, 3, 4, 5, 6, 7, 8]) };
