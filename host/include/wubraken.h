@@ -478,8 +478,8 @@ static inline wubraken_answer wubraken_pool_take(const wubraken_pool *pool, uint
 
 /* Deals at most so many turns, until a call has ended: the last answer, ON if the turns
  * are used up, and the dealer moves on to the worker served last. Begin with a dealer of
- * wubraken_new_dealer(pool->shape). 0 turns are ON, whatever there is. Where the calls
- * of all workers may be stuck, or the memory came from elsewhere, give it a limit.
+ * wubraken_new_dealer(pool->shape). 0 turns are ON, whatever there is. In memory that no
+ * pool has left lists may lead in a circle, and a run needs a limit.
  * Refusals, of the next turn: 1 to 4, 16; and 11, of one that is dealt. */
 static inline wubraken_dealt wubraken_pool_deal(const wubraken_pool *pool, uint64_t *dealer, uint64_t turns)
 {
