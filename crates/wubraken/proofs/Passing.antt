@@ -98,7 +98,8 @@ module _ {M : Type 1} (𝓤 : URA M) (H : Heap 𝓤) (A : Atoms 𝓤) (Rq Q R : 
   abbrev Answers : Val → SProp 𝓤
   Answers v = H .⇛ (ex 𝓤 (λ (a : Of R). sep 𝓤 (sep 𝓤 P (sem 𝓤 H A ((row R) .own a (v ∷ [])))) (G′ a)))
 
-  module _ (W : Given 𝓤 H A) (C : Calls 𝓤 H) (Λ : Loops 𝓤 H) (fm : FmC 𝓤 H (W .laws) C) (make f tell : Name) (known-tell : Triple 𝓤 (C tell) (Tells 𝓤 H A Q R answerOf))
+  module _ (W : Given 𝓤 H A) (C : Calls 𝓤 H) (Λ : Loops 𝓤 H) (fm : FmC 𝓤 H (W .laws) C) (make f tell : Name) (known-tell : Triple 𝓤 (C tell)
+    (Tells 𝓤 H A Q R answerOf))
       (sh : Shape) (b o n b′ o′ n′ : ℕ) (sh-is : Is Sh.the-row sh (vals-sh sh)) (n-fits : n < 2 ^ 64) (n′-fits : n′ < 2 ^ 64) where
     typed-sh : Holds (hasTy Sh′.mir (val-sh sh)) × WT (val-sh sh)
     typed-sh = LL.lawful Sh.the-type Sh′.the-laws 𝓤 H A W .typed sh _ sh-is .0
@@ -167,10 +168,12 @@ module _ {M : Type 1} (𝓤 : URA M) (H : Heap 𝓤) (A : Atoms 𝓤) (Rq Q R : 
         (known : Triple 𝓤 (C make) (Made 𝓤 H A Rq (F ∷ G ∷ []) (λ a q. q ≡ asks (a .0) (a .1 .0))))
         (x : Of F) (x-is : Is (row F) x (F .val x ∷ []))
         (y : Of G) (y-is : Is (row G) y (G .val y ∷ [])) where
-      pub two-goes : ent 𝓤 (calls (Rq .val (asks x y))) (WpFn 𝓤 H C Λ (entry-code Rq Q R make f tell (F ∷ G ∷ [])) (val-sh sh ∷ F .val x ∷ G .val y ∷ sv ∷ tv ∷ [])
+      pub two-goes : ent 𝓤 (calls (Rq .val (asks x y))) (WpFn 𝓤 H C Λ (entry-code Rq Q R make f tell (F ∷ G ∷ []))
+      (val-sh sh ∷ F .val x ∷ G .val y ∷ sv ∷ tv ∷ [])
           Answers)
       two-goes =
-          qed W (raw (calls (Rq .val (asks x y))) ∷ []) ∵ enter ! C Λ (entry-code Rq Q R make f tell (F ∷ G ∷ [])) (val-sh sh ∷ F .val x ∷ G .val y ∷ sv ∷ tv ∷ []) _ $
+          qed W (raw (calls (Rq .val (asks x y))) ∷ []) ∵ enter ! C Λ (entry-code Rq Q R make f tell (F ∷ G ∷ []))
+          (val-sh sh ∷ F .val x ∷ G .val y ∷ sv ∷ tv ∷ []) _ $
           alloc1 ! (λ l₀. alloc1 ! (λ l₁. alloc1 ! (λ l₂. alloc1 ! (λ l₃. alloc1 ! (λ l₄. alloc1 ! (λ l₅. alloc1 ! (λ l₆. alloc1 ! (λ l₇.
           alloc1 ! (λ l₈. alloc1 ! (λ l₉. alloc1 ! (λ l₁₀. alloc1 ! (λ l₁₁. alloc0 ! $ params1 ! $
           pass1 ! (init ! 20 refl typed-sh) $ pass1 ! (init ! 18 refl (F .typed 𝓤 H A W x x-is)) $ pass1 ! (init ! 16 refl (G .typed 𝓤 H A W y y-is)) $
@@ -272,7 +275,8 @@ module _ {M : Type 1} (𝓤 : URA M) (H : Heap 𝓤) (A : Atoms 𝓤) (Rq Q R : 
 
 -- ── the contracts are met ──
 module _ {M : Type 1} (𝓤 : URA M) (H : Heap 𝓤) (A : Atoms 𝓤) (W : Given 𝓤 H A) (Rq Q R : Front) (answerOf : Of Q → Of R)
-    (claim : Claim Rq Q) (told : Answered Rq R) (answered : (sh : Shape) (q : Of Rq) (s : List ℕ) (t : List Worker) (r : Of Q) (a : Of R) (zs : List ℕ) (ws : List Worker)
+    (claim : Claim Rq Q) (told : Answered Rq R) (answered : (sh : Shape) (q : Of Rq) (s : List ℕ) (t : List Worker) (r : Of Q) (a : Of R) (zs : List ℕ)
+    (ws : List Worker)
     → claim sh q s t r zs ws → a ≡ answerOf r → told sh q s t a zs ws) where
   abbrev Called : Contract 𝓤
   Called = tripleOf 𝓤 H A (callee Rq Q) (Acts 𝓤 H A Rq Q R claim told)
@@ -426,7 +430,8 @@ module _ {M : Type 1} (𝓤 : URA M) (H : Heap 𝓤) (A : Atoms 𝓤) (W : Given
         → Triple 𝓤 (𝓣 .C make) (Made 𝓤 H A Rq (F ∷ G ∷ K ∷ []) (λ a q. q ≡ asks (a .0) (a .1 .0) (a .1 .1 .0)))
         → ((x : Of F) → Is (row F) x (F .val x ∷ []) → (y : Of G) → Is (row G) y (G .val y ∷ []) → (z : Of K) → Is (row K) z (K .val z ∷ []) → Is (row Rq)
         (asks x y z) (vals Rq (asks x y z)))
-        → Meets 𝓤 H A (entry R (F ∷ G ∷ K ∷ [])) (WpFn 𝓤 H (𝓣 .C) (𝓣 .Λ) (entry-code Rq Q R make f tell (F ∷ G ∷ K ∷ []))) (Three 𝓤 H A Rq Q R claim told F G K asks)
+        → Meets 𝓤 H A (entry R (F ∷ G ∷ K ∷ [])) (WpFn 𝓤 H (𝓣 .C) (𝓣 .Λ) (entry-code Rq Q R make f tell (F ∷ G ∷ K ∷ [])))
+        (Three 𝓤 H A Rq Q R claim told F G K asks)
     three-form F G K asks makes fits y =
         let κs : Lfts 2 = y .0 .0 in
         let qs : Shares 2 = y .0 .1 in
@@ -504,4 +509,5 @@ module _ {M : Type 1} (𝓤 : URA M) (H : Heap 𝓤) (A : Atoms 𝓤) (W : Given
         → (c : Spec 𝓤 (entry R (F ∷ G ∷ K ∷ []))) → c ≡ Three 𝓤 H A Rq Q R claim told F G K asks
         → Meets 𝓤 H A (entry R (F ∷ G ∷ K ∷ [])) (WpFn 𝓤 H (𝓣 .C) (𝓣 .Λ) (entry-code Rq Q R make f tell (F ∷ G ∷ K ∷ []))) c
     three-meets F G K asks makes fits c e =
-        subst⁻¹ (Meets 𝓤 H A (entry R (F ∷ G ∷ K ∷ [])) (WpFn 𝓤 H (𝓣 .C) (𝓣 .Λ) (entry-code Rq Q R make f tell (F ∷ G ∷ K ∷ [])))) e (three-form F G K asks makes fits)
+        subst⁻¹ (Meets 𝓤 H A (entry R (F ∷ G ∷ K ∷ [])) (WpFn 𝓤 H (𝓣 .C) (𝓣 .Λ) (entry-code Rq Q R make f tell (F ∷ G ∷ K ∷ [])))) e
+        (three-form F G K asks makes fits)
