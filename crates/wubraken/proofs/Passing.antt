@@ -99,7 +99,7 @@ module _ {M : Type 1} (𝓤 : URA M) (H : Heap 𝓤) (A : Atoms 𝓤) (Rq Q R : 
   Answers v = H .⇛ (ex 𝓤 (λ (a : Of R). sep 𝓤 (sep 𝓤 P (sem 𝓤 H A ((row R) .own a (v ∷ [])))) (G′ a)))
 
   module _ (W : Given 𝓤 H A) (C : Calls 𝓤 H) (Λ : Loops 𝓤 H) (fm : FmC 𝓤 H (W .laws) C) (make f tell : Name) (known-tell : Triple 𝓤 (C tell)
-    (Tells 𝓤 H A Q R answerOf))
+      (Tells 𝓤 H A Q R answerOf))
       (sh : Shape) (b o n b′ o′ n′ : ℕ) (sh-is : Is Sh.the-row sh (vals-sh sh)) (n-fits : n < 2 ^ 64) (n′-fits : n′ < 2 ^ 64) where
     typed-sh : Holds (hasTy Sh′.mir (val-sh sh)) × WT (val-sh sh)
     typed-sh = LL.lawful Sh.the-type Sh′.the-laws 𝓤 H A W .typed sh _ sh-is .0
@@ -169,7 +169,7 @@ module _ {M : Type 1} (𝓤 : URA M) (H : Heap 𝓤) (A : Atoms 𝓤) (Rq Q R : 
         (x : Of F) (x-is : Is (row F) x (F .val x ∷ []))
         (y : Of G) (y-is : Is (row G) y (G .val y ∷ [])) where
       pub two-goes : ent 𝓤 (calls (Rq .val (asks x y))) (WpFn 𝓤 H C Λ (entry-code Rq Q R make f tell (F ∷ G ∷ []))
-      (val-sh sh ∷ F .val x ∷ G .val y ∷ sv ∷ tv ∷ [])
+          (val-sh sh ∷ F .val x ∷ G .val y ∷ sv ∷ tv ∷ [])
           Answers)
       two-goes =
           qed W (raw (calls (Rq .val (asks x y))) ∷ []) ∵ enter ! C Λ (entry-code Rq Q R make f tell (F ∷ G ∷ []))
