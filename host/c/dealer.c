@@ -2,26 +2,10 @@
  * has ended, and passes over those that are idle. Prints who was served, in how many
  * turns, and the last answer. Needs libdealer.a beside libwubraken.a. */
 #include <inttypes.h>
-#include <stddef.h>
 #include <stdio.h>
 
 #include "answers.h"
 #include "wubraken.h"
-
-/* The dealer sees a record as nine words: each field at its place, or this does not
- * compile. */
-#define IS_WORD(field, place) \
-    typedef char field##_is_word_##place[offsetof(wubraken_worker, field) == 8 * (place) ? 1 : -1]
-IS_WORD(stage, 0);
-IS_WORD(kind, 1);
-IS_WORD(own, 2);
-IS_WORD(bucket, 3);
-IS_WORD(left, 4);
-IS_WORD(right, 5);
-IS_WORD(seen, 6);
-IS_WORD(current, 7);
-IS_WORD(ticket, 8);
-typedef char a_record_is_nine_words[sizeof(wubraken_worker) == 9 * sizeof(uint64_t) ? 1 : -1];
 
 enum { WORKERS = 3, NODES = 4, BUCKETS = 2 };
 

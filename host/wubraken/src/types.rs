@@ -114,12 +114,3 @@ pub struct Worker {
     /// The place of the call among all calls begun.
     pub ticket: u64,
 }
-
-/// The proved dealer sees a record as nine words, the fields in this order.
-const _: () = {
-    // SAFETY: any bits are a record; the sizes are compared by the compiler.
-    let record: Worker = unsafe { std::mem::transmute([0u64, 1, 2, 3, 4, 5, 6, 7, 8]) };
-    assert!(record.stage == 0 && record.kind == 1 && record.own == 2);
-    assert!(record.bucket == 3 && record.left == 4 && record.right == 5);
-    assert!(record.seen == 6 && record.current == 7 && record.ticket == 8);
-};
