@@ -5,7 +5,8 @@
 --     among, dealsIn                     whether a worker is among the served; how many turns were to be dealt
 --     isTurnOf, noTurnOf                 the host makes no turn of worker i itself
 --     Unrefused3                         no turn to be dealt is refused by 3
---     Waiting, WaitingOpened             the bound on waiting for a turn
+--     StaysInProgress, Waiting           until worker i is served its call stays in progress: the bound on waiting for a turn
+--     WaitingBegun, WaitingOpened        the call is in progress at the beginning, and the host makes no turn of it; after an opening
 --     requestsIn                         the requests that are made, dealt turns among them
 --     refusedIn, filled                  by what no turn was dealt; responses with those between them
 --     allWhole, DealerCovered            every look is at the whole memory; dealt turns are turns, on any memory
@@ -87,19 +88,35 @@ Unrefused3 sh m last [] = Unit {0}
 Unrefused3 sh m last (asks q ∷ xs) = let r = moved sh m last (asks q) in Unrefused3 sh (r .memory) (r .dealer) xs
 Unrefused3 sh m last (deals whole ∷ xs) = let r = dealt whole sh m last in (r .response ≢ Refused 3) × Unrefused3 sh (r .memory) (r .dealer) xs
 
--- WAITING: on any memory, from any moment on: neither the lengths nor the dealer are refused (1, 2, 4), and worker i has a call in progress; the host makes
--- no turn of it, and may begin whatever it likes; no turn to be dealt is refused by 3. Then worker i is served by the time that as many turns are dealt as
--- the shape has workers.
+-- at each turn to be dealt, until worker i is served, it has a call in progress
+unfoldable pub StaysInProgress : Shape → Memory → ℕ → ℕ → List Move → Type 0
+StaysInProgress sh m last i [] = Unit {0}
+StaysInProgress sh m last i (asks q ∷ xs) = let r = moved sh m last (asks q) in StaysInProgress sh (r .memory) (r .dealer) i xs
+StaysInProgress sh m last i (deals whole ∷ xs) =
+    let r = dealt whole sh m last in (inProgress (worker (m .table) i) ≡ true) × (r .dealer ≢ i → StaysInProgress sh (r .memory) (r .dealer) i xs)
+
+-- WAITING: on any memory, from any moment on: neither the lengths nor the dealer are refused (1, 2, 4), and no turn to be dealt is refused by 3. The host may
+-- begin whatever it likes, and make turns of its own, also of worker i. A worker whose call stays in progress is served by the time that as many turns are
+-- dealt as the shape has workers.
 unfoldable pub Waiting : Type 0
 Waiting =
     (sh : Shape) (m : Memory) (last i : ℕ) (xs : List Move)
     → firstOf (memoryTests sh (tooShort sh (m .store) (m .table)) false last) ≡ 0
-    → i < sh .workers → inProgress (worker (m .table) i) ≡ true
-    → noTurnOf i xs ≡ true → Unrefused3 sh m last xs
+    → i < sh .workers → StaysInProgress sh m last i xs
+    → Unrefused3 sh m last xs
     → sh .workers ≤ dealsIn xs
     → among i (servedIn sh m last xs) ≡ true
 
--- The same from any moment xs after an opening, where nothing is refused by 3.
+-- The same where worker i has a call in progress at the beginning, and the host makes no turn of it: then the call stays in progress.
+unfoldable pub WaitingBegun : Type 0
+WaitingBegun =
+    (sh : Shape) (m : Memory) (last i : ℕ) (xs : List Move)
+    → firstOf (memoryTests sh (tooShort sh (m .store) (m .table)) false last) ≡ 0
+    → i < sh .workers → inProgress (worker (m .table) i) ≡ true
+    → noTurnOf i xs ≡ true → Unrefused3 sh m last xs → sh .workers ≤ dealsIn xs
+    → among i (servedIn sh m last xs) ≡ true
+
+-- And so from any moment xs after an opening, where nothing is refused by 3.
 unfoldable pub WaitingOpened : Type 0
 WaitingOpened =
     (sh : Shape) (m : Memory) → open-pool sh m .response ≡ Opened → (last i : ℕ) (xs ys : List Move)

@@ -1,11 +1,13 @@
 -- What the bound on waiting and its hypotheses are for: computed runs. Three workers begin a take each, and a new dealer deals.
---     begins, pool                   the three takes begin; the memory then
---     reached                        two dealt turns pass worker 2 by, and the third is its own
---     all-turns-needed               so one turn fewer than workers is too few; all-turns-needed-opened, also after an opening
---     ended-by-host                  the host makes the turns of worker 2 itself
---     no-turn-needed                 and ends its call: the dealer then has no turn for it; no-turn-needed-opened, also after an opening
---     at-stage, leaky                a record by its stage; a memory in range
---     leak, unrefused-3-needed       a dealt turn leads it out of range, and every later one is refused by 3
+--     begins, pool                       the three takes begin; the memory then
+--     reached                            two dealt turns pass worker 2 by, and the third is its own
+--     all-turns-needed-begun             so one turn fewer than workers is too few, where the call is in progress at the beginning
+--     all-turns-needed                   so where it stays in progress; all-turns-needed-opened, also after an opening
+--     ended-by-host                      the host makes the turns of worker 2 itself
+--     no-turn-needed                     and ends its call: the dealer then has no turn for it; no-turn-needed-opened, also after an opening
+--     at-stage, leaky                    a record by its stage; a memory in range
+--     leak, unrefused-3-needed-begun     a dealt turn leads it out of range, and every later one is refused by 3
+--     unrefused-3-needed                 so also where the call stays in progress
 -- Assumes nothing.
 use mathlib.Core.Path.{_≡_, refl, sym, ap, _∙_}
 use mathlib.Core.List.{List, [], _∷_, _++_}
@@ -37,10 +39,10 @@ use Rattle.calendar.specs.facts.Starred.{lent}
 use Rattle.lists.specs.NodeReuse.{always-in-range}
 use Rattle.dealer.specs.Dealing.{newDealer, firstBusyOf, dealRefusal, dealt}
 use Rattle.dealer.specs.DealtHistory.{Move, asks, deals, memoryAfter, dealerAfter, answersTo, servedIn, among, dealsIn, noTurnOf}
-use Rattle.dealer.specs.DealtHistory.{Unrefused3}
+use Rattle.dealer.specs.DealtHistory.{Unrefused3, StaysInProgress}
 use Rattle.dealer.specs.DealtExample.{three, dealing}
 use Rattle.dealer.specs.DealtInRange.{never-3, kept-after}
-use Rattle.dealer.specs.Waited.{open-able}
+use Rattle.dealer.specs.Waited.{begun-stays, open-able}
 
 unfoldable pub begins : List Move
 begins = asks (Whole (Dequeue 0)) ∷ asks (Whole (Dequeue 1)) ∷ asks (Whole (Dequeue 2)) ∷ []
@@ -67,17 +69,26 @@ in-range : (xs : List Move) → Unrefused3 three pool 2 xs
 unfolding three pool lent open-pool openRefusal
 in-range xs = never-3 three xs pool 2 (kept-after three begins _ 2 (always-in-range three lent refl, open-able three lent refl 2 (omega arith)) .0)
 
--- WAITING with one turn fewer is false,
-pub all-turns-needed :
+-- WAITING with one turn fewer is false: where the call is in progress at the beginning,
+pub all-turns-needed-begun :
     ((sh : Shape) (m : Memory) (last i : ℕ) (xs : List Move)
     → firstOf (memoryTests sh (tooShort sh (m .store) (m .table)) false last) ≡ 0
     → i < sh .workers → inProgress (worker (m .table) i) ≡ true → noTurnOf i xs ≡ true → Unrefused3 sh m last xs → sh .workers - 1 ≤ dealsIn xs
     → among i (servedIn sh m last xs) ≡ true) → ⊥
 unfolding three dealing
-all-turns-needed claim =
+all-turns-needed-begun claim =
     never (sym (ap (among 2) (reached .2)) ∙ claim three pool 2 2 (dealing true 2) (reached .6) (omega arith) (reached .1) refl (in-range _) (omega arith))
 
--- also after an opening
+-- so where it stays in progress,
+pub all-turns-needed :
+    ((sh : Shape) (m : Memory) (last i : ℕ) (xs : List Move)
+    → firstOf (memoryTests sh (tooShort sh (m .store) (m .table)) false last) ≡ 0
+    → i < sh .workers → StaysInProgress sh m last i xs → Unrefused3 sh m last xs → sh .workers - 1 ≤ dealsIn xs
+    → among i (servedIn sh m last xs) ≡ true) → ⊥
+all-turns-needed claim =
+    all-turns-needed-begun (λ sh m last i xs e l busy own U all. claim sh m last i xs e l (begun-stays sh i xs m last busy own) U all)
+
+-- and after an opening
 pub all-turns-needed-opened :
     ((sh : Shape) (m : Memory) → open-pool sh m .response ≡ Opened → (last i : ℕ) (xs ys : List Move)
     → let p = open-pool sh m .memory in let n = memoryAfter sh p last xs in let d = dealerAfter sh p last xs in
@@ -133,11 +144,19 @@ unfolding three dealing leaky at-stage address read write every storeInRange tab
     answersTo servedIn
 leak = (refl, refl, refl)
 
-pub unrefused-3-needed :
+pub unrefused-3-needed-begun :
     ((sh : Shape) (m : Memory) (last i : ℕ) (xs : List Move)
     → firstOf (memoryTests sh (tooShort sh (m .store) (m .table)) false last) ≡ 0
     → i < sh .workers → inProgress (worker (m .table) i) ≡ true → noTurnOf i xs ≡ true → sh .workers ≤ dealsIn xs
     → among i (servedIn sh m last xs) ≡ true) → ⊥
 unfolding three dealing leaky at-stage
-unrefused-3-needed claim =
+unrefused-3-needed-begun claim =
     never (sym (ap (among 2) (leak .2)) ∙ claim three leaky 2 2 (dealing true 3) refl (omega arith) refl refl (omega arith))
+
+pub unrefused-3-needed :
+    ((sh : Shape) (m : Memory) (last i : ℕ) (xs : List Move)
+    → firstOf (memoryTests sh (tooShort sh (m .store) (m .table)) false last) ≡ 0
+    → i < sh .workers → StaysInProgress sh m last i xs → sh .workers ≤ dealsIn xs
+    → among i (servedIn sh m last xs) ≡ true) → ⊥
+unrefused-3-needed claim =
+    unrefused-3-needed-begun (λ sh m last i xs e l busy own all. claim sh m last i xs e l (begun-stays sh i xs m last busy own) all)
