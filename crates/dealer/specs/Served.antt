@@ -1,6 +1,9 @@
--- Whom the dealer serves: a worker that has a call in progress, and none is passed over on the way round.
+-- Whom the dealer serves: the first worker after it that has a call in progress, and none is passed over on the way round.
 --     after-below                the worker after any worker is a worker
 --     served-busy                who is served is a worker with a call in progress
+--     nthAfter                   the k-th worker after one, going round
+--     Round, nth-after           which number that is
+--     FirstBusy, none-between    who is served is the first after the dealer: none between the two has a call in progress
 --     Ahead                      among the k workers that follow n
 --     all-ahead, none-ahead      every worker is among as many as there are, and none among 0
 --     served-first               a worker with a call in progress is served, or comes nearer
@@ -47,6 +50,79 @@ busy-of sh t (suc k) n h e = go (inProgress (worker t (workerAfter sh n))) refl 
 pub served-busy : (sh : Shape) (t : List Worker) (last : ℕ) → 1 ≤ sh .workers → allIdle sh t last ≡ false
     → (nextServed sh t last < sh .workers) × (inProgress (worker t (nextServed sh t last)) ≡ true)
 served-busy sh t last h e = busy-of sh t (sh .workers) last h (eqb-false _ _ e)
+
+-- ── none between ──
+-- the k-th worker after n, going round
+unfoldable pub nthAfter : Shape → ℕ → ℕ → ℕ
+nthAfter sh zero n = n
+nthAfter sh (suc k) n = nthAfter sh k (workerAfter sh n)
+
+-- that is n + k, or as many fewer as there are workers
+abbrev pub Round : Shape → ℕ → ℕ → ℕ → Type 0
+Round sh k n x = ((n + k < sh .workers) × (x ≡ n + k)) ⊎ ((sh .workers ≤ n + k) × (x + sh .workers ≡ n + k))
+
+round-on : (sh : Shape) (k n x : ℕ) → Round sh k (n + 1) x → Round sh (suc k) n x
+round-on sh k n x (inl p) = inl (omega arith, omega arith)
+round-on sh k n x (inr p) = inr (omega arith, omega arith)
+
+round-over : (sh : Shape) (k n x : ℕ) → suc k ≤ sh .workers → n + 1 ≡ sh .workers → Round sh k 0 x → Round sh (suc k) n x
+round-over sh k n x most e (inl p) = inr (omega arith, omega arith)
+round-over sh k n x most e (inr p) = absurd (omega arith)
+
+pub nth-after : (sh : Shape) (k n : ℕ) → k ≤ sh .workers → n < sh .workers → Round sh k n (nthAfter sh k n)
+unfolding nthAfter
+nth-after sh zero n most l = inl (omega arith, omega arith)
+nth-after sh (suc k) n most l =
+    go (ltb (n + 1) (sh .workers)) refl (λ h. nth-after sh k (n + 1) (omega arith) h) (nth-after sh k 0 (omega arith) (omega arith))
+  where
+    go : (t : Bool) → ltb (n + 1) (sh .workers) ≡ t → (n + 1 < sh .workers → Round sh k (n + 1) (nthAfter sh k (n + 1))) → Round sh k 0 (nthAfter sh k 0)
+        → Round sh (suc k) n (nthAfter sh k (cond t (n + 1) 0))
+    go true e on over = round-on sh k n (nthAfter sh k (n + 1)) (on (ltb-true _ _ e))
+    go false e on over = round-over sh k n (nthAfter sh k 0) most (omega (arith, ltb-false (n + 1) (sh .workers) e)) over
+
+-- j is the first of the k workers after n that has a call in progress: it is one of them, and those between n and j have none
+pub record FirstBusy (sh : Shape) (t : List Worker) (k n j : ℕ) : Type 0 where
+  pub place : ℕ
+  pub from-1 : 1 ≤ place
+  pub to-k : place ≤ k
+  pub is : j ≡ nthAfter sh place n
+  pub busy : inProgress (worker t j) ≡ true
+  pub idle-between : (b : ℕ) → 1 ≤ b → b < place → inProgress (worker t (nthAfter sh b n)) ≡ false
+
+first-of : (sh : Shape) (t : List Worker) (k n : ℕ) → firstBusyOf sh t k n ≢ sh .workers → FirstBusy sh t k n (firstBusyOf sh t k n)
+unfolding firstBusyOf nthAfter
+first-of sh t zero n e = absurd (e refl)
+first-of sh t (suc k) n e = go (inProgress (worker t (workerAfter sh n))) refl e (first-of sh t k (workerAfter sh n))
+  where
+    go : (u : Bool) → inProgress (worker t (workerAfter sh n)) ≡ u → cond u (workerAfter sh n) (firstBusyOf sh t k (workerAfter sh n)) ≢ sh .workers
+        → (firstBusyOf sh t k (workerAfter sh n) ≢ sh .workers → FirstBusy sh t k (workerAfter sh n) (firstBusyOf sh t k (workerAfter sh n)))
+        → FirstBusy sh t (suc k) n (cond u (workerAfter sh n) (firstBusyOf sh t k (workerAfter sh n)))
+    go true f q rest = record {
+      place = 1;
+      from-1 = omega arith;
+      to-k = omega arith;
+      is = refl;
+      busy = f;
+      idle-between = λ b l h. absurd (omega arith);
+    }
+    go false f q rest = let F = rest q in record {
+      place = suc (F .place);
+      from-1 = omega arith;
+      to-k = omega (arith, F .to-k);
+      is = F .is;
+      busy = F .busy;
+      idle-between = between F;
+    }
+      where
+        between : (F : FirstBusy sh t k (workerAfter sh n) (firstBusyOf sh t k (workerAfter sh n))) (b : ℕ) → 1 ≤ b → b < suc (F .place)
+            → inProgress (worker t (nthAfter sh b n)) ≡ false
+        between F zero l h = absurd (omega arith)
+        between F (suc zero) l h = f
+        between F (suc (suc b)) l h = F .idle-between (suc b) (omega arith) (omega arith)
+
+-- NONE BETWEEN: on any table where somebody has a call in progress
+pub none-between : (sh : Shape) (t : List Worker) (last : ℕ) → allIdle sh t last ≡ false → FirstBusy sh t (sh .workers) last (nextServed sh t last)
+none-between sh t last e = first-of sh t (sh .workers) last (eqb-false _ _ e)
 
 -- ── on the way round ──
 -- x is among the k workers that follow n
