@@ -1,5 +1,6 @@
 -- A run is dealt turns one by one.
 --     no-turn, one-turn                       a run of no turn; of one
+--     run-stops, run-on                       of more: it stops with the first, or goes on behind it
 --     runMoves, RunMoves, run-moves           the turns to be dealt in a run; it leaves what they leave, and all but the last go on
 --     narrow-run-same                         where the memory stays in range, a narrow run is as good
 --     stays-along, narrow-run-same-opened     so it stays along requests and dealt turns; so at any moment after an opening
@@ -76,10 +77,10 @@ unfolding dealtOn
 on-goes whole sh n r e = rw e
 
 module _ (whole : Bool) (sh : Shape) (n : ℕ) (m : Memory) (last : ℕ) where
-  run-stops : goesOn (dealt whole sh m last .response) ≡ false → dealtRun whole sh (suc (suc n)) m last ≡ dealt whole sh m last
+  pub run-stops : goesOn (dealt whole sh m last .response) ≡ false → dealtRun whole sh (suc (suc n)) m last ≡ dealt whole sh m last
   run-stops e = run-first whole sh (suc n) m last ∙ on-stops whole sh n (dealt whole sh m last) e
 
-  run-on : goesOn (dealt whole sh m last .response) ≡ true
+  pub run-on : goesOn (dealt whole sh m last .response) ≡ true
       → let r = dealt whole sh m last in dealtRun whole sh (suc (suc n)) m last ≡ behind (r .turns) (dealtRun whole sh (suc n) (r .memory) (r .dealer))
   run-on e =
       let r = dealt whole sh m last in

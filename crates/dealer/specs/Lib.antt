@@ -10,6 +10,8 @@ pub mod WaitingReached
 pub mod Covered
 pub mod DealtRefusals
 pub mod DealtRuns
+pub mod DealtRunLists
+pub mod RunRefusals
 pub mod Rows
 pub mod Answered
 pub mod Look
