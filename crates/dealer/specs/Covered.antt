@@ -2,6 +2,8 @@
 --     dealt-refused                     a turn that is not dealt leaves memory and dealer
 --     served-memory, served-answer      a turn that is dealt is a turn of whom the dealer then remembers
 --     covered                           memory and answers are those of the requests that are made, on any memory
+--     zerosIn, as-many                  as many moves as requests are not refused by the dealer; a-response-each, each request has a response
+--     pooled, all-used                  the answers to those moves are all the pool's responses, and no others
 --     moves-same-size                   so lengths stay; moves-same-beyond, what lies beyond stays too
 --     dealer-demand-3                   and demand 3 holds with a dealer
 -- Assumes nothing.
@@ -10,7 +12,9 @@ use mathlib.Core.List.{List, [], _∷_, map}
 use mathlib.Core.Bool.{Bool, true, false, cond}
 use mathlib.Core.Logic.{_≢_}
 use Prim.Native.Nat.{ℕ, zero, suc}
+use native.Mathlib.Omega.{arith}
 use lib.Dec.{eqb}
+use lib.ListN.{length}
 use borrow.Author.Tests.{eqb-true, eqb-false, ne-eqb}
 use Rattle.arrival.specs.declared.Shape.{Shape}
 use Rattle.arrival.specs.declared.Request.{Request}
@@ -142,6 +146,53 @@ covered sh m last xs = record {
       (memory-same sh xs m last ∙ memory, answers-same sh xs m last ∙ ap (filled (refusedIn sh m last xs)) answers);
 }
 
+-- ── none of the pool's responses is left over ──
+-- how many of the numbers are 0
+abbrev pub zerosIn : List ℕ → ℕ
+zerosIn [] = 0
+zerosIn (zero ∷ ks) = suc (zerosIn ks)
+zerosIn (suc k ∷ ks) = zerosIn ks
+
+zeros-more : (k : ℕ) (ks : List ℕ) (q : Request) (qs : List Request) → zerosIn ks ≡ length qs → zerosIn (k ∷ ks) ≡ length (cond (eqb k 0) (q ∷ qs) qs)
+zeros-more zero ks q qs e = ap suc e
+zeros-more (suc k) ks q qs e = rw (ne-eqb (suc k) 0 (λ z. omega arith)) e
+
+pub as-many : (sh : Shape) (xs : List Move) (m : Memory) (last : ℕ) → zerosIn (refusedIn sh m last xs) ≡ length (requestsIn sh m last xs)
+unfolding requestsIn refusedIn
+as-many sh [] m last = refl
+as-many sh (asks q ∷ xs) m last = ap suc (as-many sh xs (requested sh m q .memory) last)
+as-many sh (deals whole ∷ xs) m last =
+    let r = dealt whole sh m last in
+    zeros-more (dealRefusal whole sh m last) (refusedIn sh (r .memory) (r .dealer) xs) (turnOf whole (r .dealer)) (requestsIn sh (r .memory) (r .dealer) xs)
+    (as-many sh xs (r .memory) (r .dealer))
+
+pub a-response-each : (sh : Shape) (qs : List Request) (m : Memory) → length (hostAnswers sh m qs) ≡ length qs
+unfolding hostAnswers
+a-response-each sh [] m = refl
+a-response-each sh (q ∷ qs) m = ap suc (a-response-each sh qs (requested sh m q .memory))
+
+-- the answers to the moves that were not refused by the dealer
+abbrev pub pooled : List ℕ → List Response → List Response
+pooled [] rs = []
+pooled (k ∷ ks) [] = []
+pooled (zero ∷ ks) (r ∷ rs) = r ∷ pooled ks rs
+pooled (suc k ∷ ks) (r ∷ rs) = pooled ks rs
+
+pooled-filled : (ks : List ℕ) (rs : List Response) → zerosIn ks ≡ length rs → pooled ks (filled ks rs) ≡ rs
+pooled-filled [] [] e = refl
+pooled-filled [] (r ∷ rs) e = absurd (omega arith)
+pooled-filled (zero ∷ ks) [] e = absurd (omega arith)
+pooled-filled (zero ∷ ks) (r ∷ rs) e = ap (λ xs. r ∷ xs) (pooled-filled ks rs (omega arith))
+pooled-filled (suc k ∷ ks) rs e = pooled-filled ks rs e
+
+pub all-used : (sh : Shape) (xs : List Move) (m : Memory) (last : ℕ)
+    → pooled (refusedIn sh m last xs) (answersTo sh m last xs) ≡ hostAnswers sh m (requestsIn sh m last xs)
+all-used sh xs m last =
+    let qs = requestsIn sh m last xs in
+    ap (pooled (refusedIn sh m last xs)) (answers-same sh xs m last)
+    ∙ pooled-filled (refusedIn sh m last xs) (hostAnswers sh m qs) (as-many sh xs m last ∙ sym (a-response-each sh qs m))
+
+-- ── lengths, and what lies beyond ──
 pub moves-same-size : (sh : Shape) (m : Memory) (last : ℕ) (xs : List Move) → SameSize m (memoryAfter sh m last xs)
 moves-same-size sh m last xs = subst (SameSize m) (sym (memory-same sh xs m last)) (host-same-size sh m (requestsIn sh m last xs))
 
