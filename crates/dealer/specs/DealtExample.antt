@@ -3,7 +3,10 @@
 --     starts, at-work            the two starts; the memory then
 --     in-turn                    0 and 2 are served in turn until both calls are answered; then nobody is left, 16
 --     in-runs                    the same in runs: one ends with the take, one with the put, and one deals no turn
+--     at-stage, by-hand          a record by its stage; whom a dealer of three serves, by hand
 --     outside                    a dealer that remembers worker 3 is refused by 4
+--     nobody-left                a dealer that remembers worker 1 remembers it still when it is refused by 16
+--     torn, damaged              one record out of range: a narrow turn is refused by 3 where that is the worker to be served, a whole one in any case
 --     spent, late, at-the-end    a pool whose epochs are spent; the put makes four turns there, and then the take begins; the memory then
 --     moves-on                   the put's fifth turn is refused by 11: the memory stays, the dealer moves on, and the next turn is the take's
 -- Assumes nothing.
@@ -13,6 +16,7 @@ use mathlib.Core.Bool.{Bool, true, false}
 use Prim.Native.Nat.{ℕ}
 use lib.ListN.{replicate, set}
 use Rattle.arrival.specs.declared.Shape.{Shape}
+use Rattle.arrival.specs.declared.Worker.{Worker}
 use Rattle.arrival.specs.declared.Action.the-variants.{Enqueue, Dequeue, Step}
 use Rattle.arrival.specs.declared.Request.the-variants.{Whole}
 use Rattle.arrival.specs.declared.Response.the-variants.{Begun, On, Stored, Empty, Refused}
@@ -32,7 +36,7 @@ use Rattle.calendar.specs.rules.Refusals.{outOfRange, openRefusal, enqueueRefus
 use Rattle.calendar.specs.rules.Operations.{Memory, open-pool, act}
 use Rattle.calendar.specs.rules.NarrowCalls.{narrowRefusal, narrowAct, turnsAfter, narrowCall}
 use Rattle.calendar.specs.facts.Starred.{arrival, lent}
-use Rattle.dealer.specs.Dealing.{newDealer, firstBusyOf, dealRefusal, dealt, dealtOn, dealtRun}
+use Rattle.dealer.specs.Dealing.{newDealer, firstBusyOf, nextServed, dealRefusal, dealt, dealtOn, dealtRun}
 use Rattle.dealer.specs.DealtHistory.{Move, asks, deals, memoryAfter, dealerAfter, answersTo, servedIn}
 
 unfoldable pub three : Shape
@@ -75,6 +79,21 @@ unfolding three starts at-work arrival lent address read write every blank store
     dequeueRefusal stepRefusal open-pool act bucketOf firstBusyOf dealRefusal dealt dealtOn memoryAfter
 in-runs = (refl, refl, refl, refl, refl, refl, refl, refl, refl)
 
+-- ── by hand ──
+unfoldable pub at-stage : ℕ → Worker
+at-stage k = record { stage = k; kind = 1; own = 0; bucket = 0; left = 0; right = 0; seen = 0; current = 0; ticket = 0 }
+
+-- workers 0 and 2 have a call in progress; worker 0 alone; none
+pub by-hand :
+    let both = at-stage 8 ∷ at-stage 0 ∷ at-stage 8 ∷ [] in
+    let one = at-stage 8 ∷ at-stage 0 ∷ at-stage 0 ∷ [] in
+    let none = at-stage 0 ∷ at-stage 0 ∷ at-stage 0 ∷ [] in
+    (nextServed three both 2 ≡ 0) × (nextServed three both 0 ≡ 2) × (nextServed three both 1 ≡ 2)
+    × (nextServed three one 0 ≡ 0) × (nextServed three one 1 ≡ 0) × (nextServed three one 2 ≡ 0)
+    × (nextServed three none 0 ≡ 3) × (nextServed three none 1 ≡ 3) × (nextServed three none 2 ≡ 3)
+unfolding three at-stage firstBusyOf
+by-hand = (refl, refl, refl, refl, refl, refl, refl, refl, refl)
+
 -- ── a remembered worker that there is not ──
 pub outside :
     (answersTo three at-work 3 (dealing true 1) ≡ Refused 4 ∷ [])
@@ -86,6 +105,40 @@ unfolding three starts at-work dealing arrival lent address read write every bla
     openTable enqueueStart dequeueStart openRefusal enqueueRefusal dequeueRefusal open-pool act bucketOf firstBusyOf dealRefusal dealt memoryAfter
     dealerAfter answersTo servedIn
 outside = (refl, refl, refl, refl, refl)
+
+-- ── nobody left ──
+pub nobody-left :
+    let idle = open-pool three lent .memory in
+    (answersTo three idle 1 (dealing true 1) ≡ Refused 16 ∷ [])
+    × (dealerAfter three idle 1 (dealing true 1) ≡ 1)
+    × (memoryAfter three idle 1 (dealing true 1) ≡ idle)
+    × (servedIn three idle 1 (dealing true 1) ≡ [])
+    × (answersTo three idle 1 (dealing false 1) ≡ Refused 16 ∷ [])
+    × (dealerAfter three idle 1 (dealing false 1) ≡ 1)
+unfolding three dealing lent address read write every blank storeInRange tableInRange wordsFrom openStore openTable openRefusal open-pool firstBusyOf
+    dealRefusal dealt memoryAfter dealerAfter answersTo servedIn
+nobody-left = (refl, refl, refl, refl, refl, refl)
+
+-- ── a record out of range ──
+-- the pool at work, with worker i at a stage that there is not
+unfoldable pub torn : ℕ → Memory
+torn i = record { store = at-work .store; table = set (at-work .table) i (at-stage 14) }
+
+-- worker 0 is the next to be served
+pub damaged :
+    (answersTo three (torn 0) 2 (dealing false 1) ≡ Refused 3 ∷ [])
+    × (dealerAfter three (torn 0) 2 (dealing false 1) ≡ 2)
+    × (memoryAfter three (torn 0) 2 (dealing false 1) ≡ torn 0)
+    × (answersTo three (torn 2) 2 (dealing false 1) ≡ On ∷ [])
+    × (servedIn three (torn 2) 2 (dealing false 1) ≡ 0 ∷ [])
+    × (dealerAfter three (torn 2) 2 (dealing false 1) ≡ 0)
+    × (answersTo three (torn 2) 2 (dealing true 1) ≡ Refused 3 ∷ [])
+    × (dealerAfter three (torn 2) 2 (dealing true 1) ≡ 2)
+    × (memoryAfter three (torn 2) 2 (dealing true 1) ≡ torn 2)
+unfolding three starts at-work torn at-stage dealing arrival lent address read write every blank storeInRange tableInRange isFree firstFreeOf firstFree
+    wordsFrom openStore openTable enqueueStart dequeueStart found settle step-1 step openRefusal enqueueRefusal dequeueRefusal open-pool act narrowRefusal
+    narrowAct turnsAfter narrowCall bucketOf firstBusyOf dealRefusal dealt memoryAfter dealerAfter answersTo servedIn
+damaged = (refl, refl, refl, refl, refl, refl, refl, refl, refl)
 
 -- ── refused by 11 ──
 -- an opened pool, with the last epoch in word 0

@@ -5,7 +5,7 @@
 --     all-turns-needed                   so where it stays in progress; all-turns-needed-opened, also after an opening
 --     ended-by-host                      the host makes the turns of worker 2 itself
 --     no-turn-needed                     and ends its call: the dealer then has no turn for it; no-turn-needed-opened, also after an opening
---     at-stage, leaky                    a record by its stage; a memory in range
+--     leaky                              a memory in range
 --     leak, unrefused-3-needed-begun     a dealt turn leads it out of range, and every later one is refused by 3
 --     unrefused-3-needed                 so also where the call stays in progress
 -- Assumes nothing.
@@ -16,7 +16,6 @@ use Prim.Native.Nat.{ℕ, _-_, _<_, _≤_}
 use native.Mathlib.Omega.{arith}
 use lib.ListN.{replicate}
 use Rattle.arrival.specs.declared.Shape.{Shape}
-use Rattle.arrival.specs.declared.Worker.{Worker}
 use Rattle.arrival.specs.declared.Action.the-variants.{Dequeue, Step}
 use Rattle.arrival.specs.declared.Request.the-variants.{Whole}
 use Rattle.arrival.specs.declared.Response.the-variants.{Opened, On, Refused}
@@ -40,7 +39,7 @@ use Rattle.lists.specs.NodeReuse.{always-in-range}
 use Rattle.dealer.specs.Dealing.{newDealer, firstBusyOf, dealRefusal, dealt}
 use Rattle.dealer.specs.DealtHistory.{Move, asks, deals, memoryAfter, dealerAfter, answersTo, servedIn, among, dealsIn, noTurnOf}
 use Rattle.dealer.specs.DealtHistory.{Unrefused3, StaysInProgress}
-use Rattle.dealer.specs.DealtExample.{three, dealing}
+use Rattle.dealer.specs.DealtExample.{three, dealing, at-stage}
 use Rattle.dealer.specs.DealtInRange.{never-3, kept-after}
 use Rattle.dealer.specs.Waited.{begun-stays, open-able}
 
@@ -130,9 +129,6 @@ no-turn-needed-opened claim =
 
 -- ── nothing refused by 3 ──
 -- all words are 0; worker 0 is to unlink node 0, which was never used, and workers 1 and 2 have begun a take
-unfoldable pub at-stage : ℕ → Worker
-at-stage k = record { stage = k; kind = 1; own = 0; bucket = 0; left = 0; right = 0; seen = 0; current = 0; ticket = 0 }
-
 unfoldable pub leaky : Memory
 leaky = record { store = replicate 20 0; table = at-stage 3 ∷ at-stage 8 ∷ at-stage 8 ∷ [] }
 
