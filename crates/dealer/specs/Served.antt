@@ -24,6 +24,8 @@ use Rattle.laws.specs.Tests.{never, is-false}
 use Rattle.calendar.specs.rules.Ranges.{worker}
 use Rattle.calendar.specs.rules.Reclaim.{inProgress}
 use Rattle.dealer.specs.Dealing.{workerAfter, firstBusyOf, nextServed, allIdle}
+-- the runs come first: a wrong definition is refused by them
+use Rattle.dealer.specs.DealtExample.{by-hand}
 
 pub after-below : (sh : Shape) (n : ℕ) → 1 ≤ sh .workers → workerAfter sh n < sh .workers
 after-below sh n h = go (ltb (n + 1) (sh .workers)) refl
