@@ -1,5 +1,6 @@
 -- The loop over dealt turns: what is still to be dealt gives what the whole run gives.
---     flagOf, flag-tight              the flag for refusal 3 before the first turn; down where 1 or 2 applies
+--     flag-tight                      the flag for refusal 3 before the first turn is down where 1 or 2 applies
+--     okOf                            what the look over the records finds
 --     passed-by, away-at-first        what the gate lets pass may be dealt on; what it refuses no turn is dealt on
 --     running                         after some turns, all of which went on
 --     away, ended, on                 no turn is dealt; the last turn; one turn more
@@ -16,6 +17,7 @@ use lib.Dec.{eqb}
 use lib.ListN.{length}
 use borrow.Author.Tests.{eqb-true, eq-eqb, ne-eqb, le-ltb}
 use Rattle.arrival.specs.declared.Shape.{Shape}
+use Rattle.arrival.specs.declared.Worker.{Worker}
 use Rattle.arrival.specs.declared.Response.{Response}
 use Rattle.arrival.specs.declared.Response.the-variants.{On, Refused}
 use Rattle.laws.specs.Tests.{never, parts}
@@ -30,87 +32,79 @@ use Rattle.admission.specs.Watched.{Watched}
 use Rattle.admission.specs.Gate.{gateOf, gate-passed, gate-opens, openGate, open-passed, Tight, shape-tests, lent-passes, soundOf, sound-opens, sound-watched}
 use Rattle.admission.specs.NarrowGate.{nearOf, near-opens}
 use Rattle.wubraken.specs.Results.{lent}
-use Rattle.dealer.specs.Rows.{records, records-length}
-use Rattle.dealer.specs.Look.{rowsInRange}
-use Rattle.dealer.specs.Dealing.{allIdle, servedInRange, dealOut, dealRefusal, Deal, serving, turnedAway, dealt, undealt, behind, dealtOn, dealtRun}
+use Rattle.wubraken.specs.Survey.{survey, survey-ok-is}
+use Rattle.dealer.specs.Runs.{flagOf}
+use Rattle.dealer.specs.Dealing.{allIdle, servedInRange, dealOut, dealRefusal, Deal, serving, turnedAway, dealt, undealt, behind, dealtOn, dealtRun, turnOf}
 use Rattle.dealer.specs.Dealable.{Kept, Dealable}
 
-unfoldable pub flagOf : Bool → Shape → List ℕ → List (List ℕ) → Bool
-flagOf whole sh s rows = cond whole (soundOf sh s (length rows) (rowsInRange sh rows)) (nearOf sh s (length rows) true)
-
-pub flag-tight : (whole : Bool) (sh : Shape) (s : List ℕ) (rows : List (List ℕ)) → Tight sh (length s) (length rows) (flagOf whole sh s rows)
+pub flag-tight : (whole : Bool) (sh : Shape) (s : List ℕ) (n : ℕ) (ok : Bool) → Tight sh (length s) n (flagOf whole sh s n ok)
 unfolding flagOf
-flag-tight true sh s rows up = sound-opens sh s (length rows) (rowsInRange sh rows) up
-flag-tight false sh s rows up = near-opens sh s (length rows) true up
+flag-tight true sh s n ok up = sound-opens sh s n ok up
+flag-tight false sh s n ok up = near-opens sh s n true up
 
--- the rows of all workers are in range, where there are as many
-rows-are : (sh : Shape) (s : List ℕ) (rows : List (List ℕ)) → Lent sh s (records rows) → rowsInRange sh rows ≡ tableInRange sh (records rows)
-unfolding rowsInRange tableInRange
-rows-are sh s rows L =
-    let l : sh .workers ≤ length rows = omega (arith, L .table, records-length rows) in
-    rw (shape-tests sh (L .limits), le-ltb (length rows) (sh .workers) l)
+-- what the look over the records finds
+abbrev pub okOf : Bool → Shape → List Worker → Bool
+okOf whole sh t = survey sh (turnOf whole 0) t .ok
+
+-- the records of all workers are in range, where there are as many
+rows-are : (sh : Shape) (s : List ℕ) (t : List Worker) → Lent sh s t → okOf true sh t ≡ tableInRange sh t
+rows-are sh s t L = survey-ok-is sh (turnOf true 0) t (shape-tests sh (L .limits)) (le-ltb (length t) (sh .workers) (L .table)) refl
 
 -- ── before the first turn ──
-module _ (sh : Shape) (s : List ℕ) (rows : List (List ℕ)) (last : ℕ) where
+module _ (sh : Shape) (s : List ℕ) (t : List Worker) (last : ℕ) where
   abbrev m : Memory
-  m = lent s (records rows)
+  m = lent s t
 
-  lent-by : openGate sh (length s) (length rows) ≡ 0 → Lent sh s (records rows)
-  lent-by e = let p = open-passed sh (length s) (length rows) e in
-      record { limits = p .0; store = p .1; table = omega (arith, p .2, records-length rows) }
+  lent-by : openGate sh (length s) (length t) ≡ 0 → Lent sh s t
+  lent-by e = let p = open-passed sh (length s) (length t) e in
+      record { limits = p .0; store = p .1; table = p .2 }
 
-  watched : Watched sh m (soundOf sh s (length rows) (rowsInRange sh rows))
-  watched =
-      subst (λ (n : ℕ). Watched sh m (soundOf sh s n (rowsInRange sh rows))) (records-length rows)
-      (sound-watched sh m (rowsInRange sh rows) (rows-are sh s rows))
+  watched : Watched sh m (soundOf sh s (length t) (okOf true sh t))
+  watched = sound-watched sh m (okOf true sh t) (rows-are sh s t)
 
-  near-words : Lent sh s (records rows) → nearOf sh s (length rows) true ≡ (wordsInRange sh s && true)
+  near-words : Lent sh s t → nearOf sh s (length t) true ≡ (wordsInRange sh s && true)
   unfolding nearOf
   near-words L =
-      rw (eq-eqb (openGate sh (length s) (length rows)) 0 (subst (λ (n : ℕ). openGate sh (length s) n ≡ 0) (records-length rows) (lent-passes sh m L)))
+      rw (eq-eqb (openGate sh (length s) (length t)) 0 (lent-passes sh m L))
 
-  kept-by : (whole : Bool) → Lent sh s (records rows) → flagOf whole sh s rows ≡ true → Kept whole sh m
+  kept-by : (whole : Bool) → Lent sh s t → flagOf whole sh s (length t) (okOf whole sh t) ≡ true → Kept whole sh m
   unfolding flagOf
   kept-by true L up = sym (watched L) ∙ up
   kept-by false L up = word-ranges sh s (parts (wordsInRange sh s) true (sym (near-words L) ∙ up) .0)
 
-  pub passed-by : (whole : Bool) → gateOf sh (length s) (length rows) last (flagOf whole sh s rows) ≡ 0 → Dealable whole sh (lent s (records rows)) last
+  pub passed-by : (whole : Bool) → gateOf sh (length s) (length t) last (flagOf whole sh s (length t) (okOf whole sh t)) ≡ 0 → Dealable whole sh (lent s t) last
   passed-by whole e =
-      let (up, inside) = gate-passed sh (length s) (length rows) last (flagOf whole sh s rows) e in
-      let L = lent-by (gate-opens sh (length s) (length rows) last (flagOf whole sh s rows) e) in
+      let (up, inside) = gate-passed sh (length s) (length t) last (flagOf whole sh s (length t) (okOf whole sh t)) e in
+      let L = lent-by (gate-opens sh (length s) (length t) last (flagOf whole sh s (length t) (okOf whole sh t)) e) in
       record { lent = L; inside = inside; kept = kept-by whole L up }
 
   -- what the gate says is what 1 to 4 say, but for the record of the worker to be served
-  out-is : (whole : Bool) → Lent sh s (records rows)
-      → dealOut whole sh m last ≡ (not (flagOf whole sh s rows) || (not whole && not (servedInRange sh (records rows) last)))
+  out-is : (whole : Bool) → Lent sh s t
+      → dealOut whole sh m last ≡ (not (flagOf whole sh s (length t) (okOf whole sh t)) || (not whole && not (servedInRange sh t last)))
   unfolding flagOf
-  out-is true L = ap not (sym (watched L)) ∙ sym (or-false (not (soundOf sh s (length rows) (rowsInRange sh rows))))
-  out-is false L = rw (near-words L) (by (wordsInRange sh s) (servedInRange sh (records rows) last))
+  out-is true L = ap not (sym (watched L)) ∙ sym (or-false (not (soundOf sh s (length t) (okOf true sh t))))
+  out-is false L = rw (near-words L) (by (wordsInRange sh s) (servedInRange sh t last))
     where
       by : (a b : Bool) → not (a && b) ≡ (not (a && true) || not b)
       by true b = refl
       by false b = refl
 
-  out-down : (whole : Bool) → Lent sh s (records rows) → flagOf whole sh s rows ≡ false → dealOut whole sh m last ≡ true
+  out-down : (whole : Bool) → Lent sh s t → flagOf whole sh s (length t) (okOf whole sh t) ≡ false → dealOut whole sh m last ≡ true
   out-down whole L down = out-is whole L ∙ rw down
 
-  out-up : (whole : Bool) → Lent sh s (records rows) → flagOf whole sh s rows ≡ true → noWorker sh last ≡ true → dealOut whole sh m last ≡ false
+  out-up : (whole : Bool) → Lent sh s t → flagOf whole sh s (length t) (okOf whole sh t) ≡ true → noWorker sh last ≡ true → dealOut whole sh m last ≡ false
   out-up whole L up nobody = out-is whole L ∙ rw (up, nobody) (and-false (not whole))
 
-  as-long : tooShort sh s (records rows) ≡ short sh (length s) (length rows)
-  as-long = ap (short sh (length s)) (records-length rows)
-
-  refusal-at-first : (whole : Bool) → gateOf sh (length s) (length rows) last (flagOf whole sh s rows) ≢ 0
-      → dealRefusal whole sh (lent s (records rows)) last ≡ gateOf sh (length s) (length rows) last (flagOf whole sh s rows)
+  refusal-at-first : (whole : Bool) → gateOf sh (length s) (length t) last (flagOf whole sh s (length t) (okOf whole sh t)) ≢ 0
+      → dealRefusal whole sh (lent s t) last ≡ gateOf sh (length s) (length t) last (flagOf whole sh s (length t) (okOf whole sh t))
   unfolding dealRefusal gateOf
   refusal-at-first whole some =
-      rw as-long
-      (by (badShape sh) (short sh (length s) (length rows)) (flagOf whole sh s rows) (noWorker sh last) (allIdle sh (records rows) last)
+      by (badShape sh) (short sh (length s) (length t)) (flagOf whole sh s (length t) (okOf whole sh t)) (noWorker sh last) (allIdle sh t last)
       (dealOut whole sh m last)
-      (λ one two down. out-down whole (lent-as one two) down) (λ one two up nobody. out-up whole (lent-as one two) up nobody) some)
+      (λ one two down. out-down whole (lent-as one two) down) (λ one two up nobody. out-up whole (lent-as one two) up nobody) some
     where
-      lent-as : badShape sh ≡ false → short sh (length s) (length rows) ≡ false → Lent sh s (records rows)
-      lent-as one two = lent-of sh s (records rows) one (as-long ∙ two)
+      lent-as : badShape sh ≡ false → short sh (length s) (length t) ≡ false → Lent sh s t
+      lent-as one two = lent-of sh s t one two
 
       by : (a b f n i o : Bool) → (a ≡ false → b ≡ false → f ≡ false → o ≡ true) → (a ≡ false → b ≡ false → f ≡ true → n ≡ true → o ≡ false)
           → _≢_ {A = ℕ} (cond a 1 (cond b 2 (cond (not f) 3 (cond n 4 0)))) 0
@@ -121,8 +115,8 @@ module _ (sh : Shape) (s : List ℕ) (rows : List (List ℕ)) (last : ℕ) where
       by false false true true i o down up some = rw (up refl refl refl refl)
       by false false true false i o down up some = absurd (some refl)
 
-  pub away-at-first : (whole : Bool) (k : ℕ) → k ≡ gateOf sh (length s) (length rows) last (flagOf whole sh s rows) → k ≢ 0
-      → dealt whole sh (lent s (records rows)) last ≡ turnedAway k (lent s (records rows)) last
+  pub away-at-first : (whole : Bool) (k : ℕ) → k ≡ gateOf sh (length s) (length t) last (flagOf whole sh s (length t) (okOf whole sh t)) → k ≢ 0
+      → dealt whole sh (lent s t) last ≡ turnedAway k (lent s t) last
   unfolding dealt
   away-at-first whole k is some =
       let e = refusal-at-first whole (λ z. some (is ∙ z)) ∙ sym is in

@@ -12,9 +12,9 @@ pub mod DealtRefusals
 pub mod DealtRuns
 pub mod DealtRunLists
 pub mod RunRefusals
-pub mod Rows
 pub mod Answered
-pub mod Look
 pub mod Dealable
 pub mod DealLoop
 pub mod DealRound
+pub mod Runs
+pub mod Tour

@@ -1,19 +1,18 @@
-// The dealer of turns, for hosts: over lent memory, whatever it holds. An archive of its own. A worker's record is lent as the nine numbers that it is.
+// The dealer of turns, for hosts: over lent memory, whatever it holds. An archive of its own.
 ghost use mathlib.Core.Path.{_≡_};
 ghost use mathlib.Core.Bool.{true, false};
 ghost use Rattle.wubraken.specs.Results.{lent};
-ghost use Rattle.dealer.specs.Rows.{records};
 ghost use Rattle.dealer.specs.Dealing.{newDealer, dealt, dealtRun};
 ghost use Rattle.dealer.specs.Answered.{hands, handed};
 use answers::Dealt;
-use answers::dealt_of;
 use arrival::Shape;
+use arrival::Worker;
 use turns::deal_lent;
 
 pub mod answers;
-pub mod look;
-pub mod rows;
+pub mod runs;
 pub mod turns;
+pub mod visits;
 
 // What a new dealer remembers: the shape's last worker.
 #[no_mangle]
@@ -32,12 +31,12 @@ pub extern "C" fn wubraken_deal(
     shape: Shape,
     dealer: u64,
     store: &mut [u64],
-    table: &mut [[u64; 9]],
+    table: &mut [Worker],
 ) -> Dealt
-    ensures { λ r. ⌜ hands (now (store .exit)) (now (table .exit)) r ≡ handed (dealt true shape (lent (now (store .entry)) (records (now (table .entry))))
+    ensures { λ r. ⌜ hands (now (store .exit)) (now (table .exit)) r ≡ handed (dealt true shape (lent (now (store .entry)) (now (table .entry)))
         dealer) ⌝ }
 {
-    dealt_of(deal_lent(shape, true, dealer, 1, store, table))
+    deal_lent(shape, true, dealer, 1, store, table)
 }
 
 // At most so many dealt turns, until a call is answered or a turn is refused. The lent memory is looked at once, and not for every turn.
@@ -47,12 +46,12 @@ pub extern "C" fn wubraken_deal_run(
     dealer: u64,
     turns: u64,
     store: &mut [u64],
-    table: &mut [[u64; 9]],
+    table: &mut [Worker],
 ) -> Dealt
     ensures { λ r. ⌜ hands (now (store .exit)) (now (table .exit)) r ≡ handed (dealtRun true shape turns (lent (now (store .entry))
-        (records (now (table .entry)))) dealer) ⌝ }
+        (now (table .entry))) dealer) ⌝ }
 {
-    dealt_of(deal_lent(shape, true, dealer, turns, store, table))
+    deal_lent(shape, true, dealer, turns, store, table)
 }
 
 // The same by narrow turns, each of which looks only at what it needs.
@@ -62,10 +61,10 @@ pub extern "C" fn wubraken_narrow_deal(
     dealer: u64,
     turns: u64,
     store: &mut [u64],
-    table: &mut [[u64; 9]],
+    table: &mut [Worker],
 ) -> Dealt
     ensures { λ r. ⌜ hands (now (store .exit)) (now (table .exit)) r ≡ handed (dealtRun false shape turns (lent (now (store .entry))
-        (records (now (table .entry)))) dealer) ⌝ }
+        (now (table .entry))) dealer) ⌝ }
 {
-    dealt_of(deal_lent(shape, false, dealer, turns, store, table))
+    deal_lent(shape, false, dealer, turns, store, table)
 }

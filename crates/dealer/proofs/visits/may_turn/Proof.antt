@@ -1,8 +1,8 @@
--- A narrow turn looks at its record, unless that is known; a whole one has looked. Assumes nothing.
+-- A narrow turn looks at its record, a whole one has looked. Assumes nothing.
 use native.Mathlib.Omega.{arith}
 use Rattle.calendar.specs.facts.RangeFacts.{limits}
-use Rattle.dealer.proofs.turns.may_turn.Statement.{statement}
-use Rattle.dealer.proofs.turns.may_turn.Tie as tie
+use Rattle.dealer.proofs.visits.may_turn.Statement.{statement}
+use Rattle.dealer.proofs.visits.may_turn.Tie as tie
 
 returns : tie.Need-returns
 returns c = rw (c .if1 .taken)

@@ -1,7 +1,7 @@
 -- Only a look at everything finds a leak. Assumes nothing.
 use borrow.Author.Needs.{needs}
-use Rattle.dealer.proofs.turns.leaks_of.Statement.{statement}
-use Rattle.dealer.proofs.turns.leaks_of.Tie as tie
+use Rattle.dealer.proofs.visits.leaks_of.Statement.{statement}
+use Rattle.dealer.proofs.visits.leaks_of.Tie as tie
 
 turn-leaks-requires : tie.Need-turn-leaks-requires
 turn-leaks-requires c κs = search needs

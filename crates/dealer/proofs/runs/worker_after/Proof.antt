@@ -1,8 +1,8 @@
 -- The worker after one, by the test whether it is the last. Assumes nothing.
 use borrow.Author.Tests.{lt-ltb, le-ltb}
 use borrow.Author.Needs.{needs}
-use Rattle.dealer.proofs.look.worker_after.Statement.{statement}
-use Rattle.dealer.proofs.look.worker_after.Tie as tie
+use Rattle.dealer.proofs.runs.worker_after.Statement.{statement}
+use Rattle.dealer.proofs.runs.worker_after.Tie as tie
 
 add-if1 : tie.Need-add-if1
 add-if1 c = search needs
