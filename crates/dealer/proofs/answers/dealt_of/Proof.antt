@@ -9,7 +9,7 @@ answer-of-requires : tie.Need-answer-of-requires
 answer-of-requires c κs = search needs
 
 returns : tie.Need-returns
-returns c = ap (λ (a : Answer). record { dealer = c .before .args .s .dealer; turns = c .before .args .s .turns; answer = a }) (c .answer-of .ensures)
+returns c = ap (λ (a : Answer). record { dealer = c .before .args .run .last; turns = c .before .args .run .made; answer = a }) (c .answer-of .ensures)
 
 pub dealt-of-spec : {M : Type 1} → statement M
 dealt-of-spec = tie.close (tie.spec answer-of-requires returns)
