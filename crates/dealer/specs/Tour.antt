@@ -1,6 +1,7 @@
 -- A run of dealt turns over lent memory, candidate by candidate: each look at one leaves the outcome of the run as it was, and brings its end nearer.
 --     Touring, Sound                  what a run that goes on keeps; what any run does
---     wanted, todo                    the outcome of a run, from where it stands; how much is left
+--     wanted, wanted-ended            the outcome of a run, from where it stands; where it has ended
+--     todo                            how much is left
 --     visitable                       the look at the candidate may be made
 --     Moved, moves                    what the look leaves is sound, wants the same, and has less to do
 --     sound-start, wanted-start       the run that has just begun
@@ -63,6 +64,11 @@ Sound whole sh turns r s t = r .going ≡ true → Touring whole sh turns r s t
 unfoldable pub wanted : Bool → Shape → ℕ → Run → List ℕ → List Worker → Deal
 wanted whole sh turns r s t = cond (r .going) (dealtOn whole sh (turns - r .made) (running (lent s t) (r .last) (r .made))) (leavesDeal s t r)
 
+pub wanted-ended : (whole : Bool) (sh : Shape) (turns : ℕ) (r : Run) (s : List ℕ) (t : List Worker) → r .going ≡ false
+    → wanted whole sh turns r s t ≡ leavesDeal s t r
+unfolding wanted
+wanted-ended whole sh turns r s t e = rw e
+
 -- the turns that are left, each with a round of candidates, and the candidates left in this round
 unfoldable pub todo : Shape → ℕ → Run → ℕ
 todo sh turns r = cond (r .going) (suc ((turns - r .made) * suc (sh .workers) + r .rest)) 0
@@ -112,16 +118,12 @@ module _ (whole : Bool) (sh : Shape) (turns : ℕ) (r : Run) (s : List ℕ) (t :
   unfolding todo
   ends-less x e = rw (e, on) (omega arith)
 
-  ended : (x : Run) (s′ : List ℕ) (t′ : List Worker) → x .going ≡ false → wanted whole sh turns x s′ t′ ≡ leavesDeal s′ t′ x
-  unfolding wanted
-  ended x s′ t′ e = rw e
-
   -- where the run ends with what it wants
   ends : (x : Run) (s′ : List ℕ) (u : Worker) → x .going ≡ false → leavesDeal s′ (set t (r .at) u) x ≡ goal → length s′ ≡ length s
       → Moved whole sh turns r s t (record { run = x; worker = u; store = s′ })
   ends x s′ u e is long = record {
     sound = λ up. never (sym e ∙ up);
-    same = ended x s′ (set t (r .at) u) e ∙ is;
+    same = wanted-ended whole sh turns x s′ (set t (r .at) u) e ∙ is;
     less = ends-less x e;
     long = long;
   }
