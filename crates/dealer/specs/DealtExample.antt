@@ -3,9 +3,11 @@
 --     starts, at-work            the two starts; the memory then
 --     in-turn                    0 and 2 are served in turn until both calls are answered; then nobody is left, 16
 --     in-runs                    the same in runs: one ends with the take, one with the put, and one deals no turn
+--     as-requests                the requests that are made: two turns; none for a dealer that is refused
 --     at-stage, by-hand          a record by its stage; whom a dealer of three serves, by hand
 --     outside                    a dealer that remembers worker 3 is refused by 4
 --     nobody-left                a dealer that remembers worker 1 remembers it still when it is refused by 16
+--     lowest-first               where 16 applies too, 1 to 4 go before it
 --     torn, damaged              one record out of range: a narrow turn is refused by 3 where that is the worker to be served, a whole one in any case
 --     spent, late, at-the-end    a pool whose epochs are spent; the put makes four turns there, and then the take begins; the memory then
 --     moves-on                   the put's fifth turn is refused by 11: the memory stays, the dealer moves on, and the next turn is the take's
@@ -18,7 +20,7 @@ use lib.ListN.{replicate, set}
 use Rattle.arrival.specs.declared.Shape.{Shape}
 use Rattle.arrival.specs.declared.Worker.{Worker}
 use Rattle.arrival.specs.declared.Action.the-variants.{Enqueue, Dequeue, Step}
-use Rattle.arrival.specs.declared.Request.the-variants.{Whole}
+use Rattle.arrival.specs.declared.Request.the-variants.{Whole, Narrow}
 use Rattle.arrival.specs.declared.Response.the-variants.{Begun, On, Stored, Empty, Refused}
 use Rattle.arrival.specs.Keys.{bucketOf}
 use Rattle.laws.specs.Counting.{every}
@@ -37,7 +39,7 @@ use Rattle.calendar.specs.rules.Operations.{Memory, open-pool, act}
 use Rattle.calendar.specs.rules.NarrowCalls.{narrowRefusal, narrowAct, turnsAfter, narrowCall}
 use Rattle.calendar.specs.facts.Starred.{arrival, lent}
 use Rattle.dealer.specs.Dealing.{newDealer, firstBusyOf, nextServed, dealRefusal, dealt, dealtOn, dealtRun}
-use Rattle.dealer.specs.DealtHistory.{Move, asks, deals, memoryAfter, dealerAfter, answersTo, servedIn}
+use Rattle.dealer.specs.DealtHistory.{Move, asks, deals, memoryAfter, dealerAfter, answersTo, servedIn, requestsIn, refusedIn}
 
 unfoldable pub three : Shape
 three = record { workers = 3; nodes = 2; buckets = 1; width = 1 }
@@ -79,6 +81,18 @@ unfolding three starts at-work arrival lent address read write every blank store
     dequeueRefusal stepRefusal open-pool act bucketOf firstBusyOf dealRefusal dealt dealtOn memoryAfter
 in-runs = (refl, refl, refl, refl, refl, refl, refl, refl, refl)
 
+-- ── as requests ──
+pub as-requests :
+    (requestsIn three at-work 2 (dealing true 2) ≡ Whole (Step 0) ∷ Whole (Step 2) ∷ [])
+    × (refusedIn three at-work 2 (dealing true 2) ≡ 0 ∷ 0 ∷ [])
+    × (requestsIn three at-work 2 (dealing false 2) ≡ Narrow (Step 0) 0 ∷ Narrow (Step 2) 0 ∷ [])
+    × (requestsIn three at-work 3 (dealing true 2) ≡ [])
+    × (refusedIn three at-work 3 (dealing true 2) ≡ 4 ∷ 4 ∷ [])
+unfolding three starts at-work dealing arrival lent address read write every blank storeInRange tableInRange isFree firstFreeOf firstFree wordsFrom openStore
+    openTable enqueueStart dequeueStart found settle step-1 step-8 step openRefusal enqueueRefusal dequeueRefusal stepRefusal open-pool act narrowRefusal
+    narrowAct turnsAfter narrowCall bucketOf firstBusyOf dealRefusal dealt memoryAfter requestsIn refusedIn
+as-requests = (refl, refl, refl, refl, refl)
+
 -- ── by hand ──
 unfoldable pub at-stage : ℕ → Worker
 at-stage k = record { stage = k; kind = 1; own = 0; bucket = 0; left = 0; right = 0; seen = 0; current = 0; ticket = 0 }
@@ -118,6 +132,18 @@ pub nobody-left :
 unfolding three dealing lent address read write every blank storeInRange tableInRange wordsFrom openStore openTable openRefusal open-pool firstBusyOf
     dealRefusal dealt memoryAfter dealerAfter answersTo servedIn
 nobody-left = (refl, refl, refl, refl, refl, refl)
+
+-- no bucket; no store; a third word that names no node; a remembered worker that there is not
+pub lowest-first : (whole : Bool)
+    → let idle = open-pool three lent .memory in
+    (answersTo (record { workers = 3; nodes = 2; buckets = 0; width = 1 }) idle 1 (deals whole ∷ []) ≡ Refused 1 ∷ [])
+    × (answersTo three (record { store = []; table = idle .table }) 1 (deals whole ∷ []) ≡ Refused 2 ∷ [])
+    × (answersTo three (record { store = set (idle .store) 2 4; table = idle .table }) 1 (deals whole ∷ []) ≡ Refused 3 ∷ [])
+    × (answersTo three idle 3 (deals whole ∷ []) ≡ Refused 4 ∷ [])
+unfolding three lent address read write every blank storeInRange tableInRange wordsFrom openStore openTable openRefusal open-pool firstBusyOf dealRefusal dealt
+    answersTo
+lowest-first true = (refl, refl, refl, refl)
+lowest-first false = (refl, refl, refl, refl)
 
 -- ── a record out of range ──
 -- the pool at work, with worker i at a stage that there is not
