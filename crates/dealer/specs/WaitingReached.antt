@@ -3,6 +3,7 @@
 --     reached                            two dealt turns pass worker 2 by, and the third is its own
 --     all-turns-needed-begun             so one turn fewer than workers is too few, where the call is in progress at the beginning
 --     all-turns-needed                   so where it stays in progress; all-turns-needed-opened, also after an opening
+--     helped-by-host                     the host makes one turn of worker 2 itself, and its call stays in progress: it is served by the third dealt turn
 --     ended-by-host                      the host makes the turns of worker 2 itself
 --     no-turn-needed                     and ends its call: the dealer then has no turn for it; no-turn-needed-opened, also after an opening
 --     leaky                              a memory in range
@@ -11,7 +12,7 @@
 -- Assumes nothing.
 use mathlib.Core.Path.{_≡_, refl, sym, ap, _∙_}
 use mathlib.Core.List.{List, [], _∷_, _++_}
-use mathlib.Core.Bool.{Bool, true, false}
+use mathlib.Core.Bool.{true, false}
 use Prim.Native.Nat.{ℕ, _-_, _<_, _≤_}
 use native.Mathlib.Omega.{arith}
 use lib.ListN.{replicate}
@@ -37,7 +38,7 @@ use Rattle.calendar.specs.rules.NarrowCalls.{narrowRefusal, narrowAct, turnsAft
 use Rattle.calendar.specs.facts.Starred.{lent}
 use Rattle.lists.specs.NodeReuse.{always-in-range}
 use Rattle.dealer.specs.Dealing.{newDealer, firstBusyOf, dealRefusal, dealt}
-use Rattle.dealer.specs.DealtHistory.{Move, asks, deals, memoryAfter, dealerAfter, answersTo, servedIn, among, dealsIn, noTurnOf}
+use Rattle.dealer.specs.DealtHistory.{Move, asks, memoryAfter, dealerAfter, answersTo, servedIn, among, dealsIn, noTurnOf}
 use Rattle.dealer.specs.DealtHistory.{Unrefused3, StaysInProgress}
 use Rattle.dealer.specs.DealtExample.{three, dealing, at-stage}
 use Rattle.dealer.specs.DealtInRange.{never-3, kept-after}
@@ -98,7 +99,14 @@ all-turns-needed-opened claim =
     let late = claim three lent refl 2 2 begins (dealing true 2) (omega arith) (omega arith) (reached .1) refl (omega arith) in
     never (sym (ap (λ d. among 2 (servedIn three pool d (dealing true 2))) (reached .0) ∙ ap (among 2) (reached .2)) ∙ late)
 
--- ── no turn of the host's ──
+-- ── turns of the host's ──
+pub helped-by-host :
+    let xs = asks (Whole (Step 2)) ∷ dealing true 3 in
+    (noTurnOf 2 xs ≡ false) × StaysInProgress three pool 2 2 xs × (servedIn three pool 2 xs ≡ 0 ∷ 1 ∷ 2 ∷ [])
+unfolding three begins pool dealing lent address read write every blank storeInRange tableInRange wordsFrom openStore openTable dequeueStart walk step-8
+    step-9 step openRefusal dequeueRefusal stepRefusal open-pool act firstBusyOf dealRefusal dealt memoryAfter servedIn StaysInProgress
+helped-by-host = (refl, (refl, λ a. (refl, λ b. (refl, λ c. tt))), refl)
+
 -- worker 2's three turns by the host end its take; the dealer then goes on with the others
 unfoldable pub ended-by-host : List Move
 ended-by-host = replicate 3 (asks (Whole (Step 2))) ++ dealing true 3
