@@ -4,4 +4,3 @@ pub mod ByValue
 pub mod Forms
 pub mod Passing
 pub mod Asked
-pub mod Again
