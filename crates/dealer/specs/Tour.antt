@@ -300,8 +300,7 @@ module _ (whole : Bool) (sh : Shape) (dealer turns : ℕ) (s : List ℕ) (t : Li
     begins : eqb k 0 ≡ true → Good (startedAt sh dealer 0)
     unfolding wanted
     begins e =
-        let n : turns - 0 ≡ turns = omega arith in
-        (
+        let n : turns - 0 ≡ turns = omega arith in (
           λ up. fresh whole sh turns s t dealer 0 (passed-by sh s t dealer whole (eqb-true k 0 e)) (omega (arith, eqb-false turns 0 some)),
           ap (λ (j : ℕ). dealtOn whole sh j (running (lent s t) dealer 0)) n,
         )

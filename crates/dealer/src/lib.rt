@@ -5,11 +5,16 @@ ghost use Rattle.wubraken.specs.Results.{lent};
 ghost use Rattle.dealer.specs.Dealing.{newDealer, dealt, dealtRun};
 ghost use Rattle.dealer.specs.Answered.{hands, handed};
 use answers::Dealt;
+use answers::dealt_of;
 use arrival::Shape;
 use arrival::Worker;
+use asks::narrow_run;
+use asks::one_turn;
+use asks::whole_run;
 use turns::deal_lent;
 
 pub mod answers;
+pub mod asks;
 pub mod runs;
 pub mod turns;
 pub mod visits;
@@ -36,7 +41,7 @@ pub extern "C" fn wubraken_deal(
     ensures { λ r. ⌜ hands (now (store .exit)) (now (table .exit)) r ≡ handed (dealt true shape (lent (now (store .entry)) (now (table .entry)))
         dealer) ⌝ }
 {
-    deal_lent(shape, true, dealer, 1, store, table)
+    dealt_of(deal_lent(shape, one_turn(dealer), store, table))
 }
 
 // At most so many dealt turns, until a call is answered or a turn is refused. The lent memory is looked at once, and not for every turn.
@@ -51,7 +56,7 @@ pub extern "C" fn wubraken_deal_run(
     ensures { λ r. ⌜ hands (now (store .exit)) (now (table .exit)) r ≡ handed (dealtRun true shape turns (lent (now (store .entry))
         (now (table .entry))) dealer) ⌝ }
 {
-    deal_lent(shape, true, dealer, turns, store, table)
+    dealt_of(deal_lent(shape, whole_run(dealer, turns), store, table))
 }
 
 // The same by narrow turns, each of which looks only at what it needs.
@@ -66,5 +71,5 @@ pub extern "C" fn wubraken_narrow_deal(
     ensures { λ r. ⌜ hands (now (store .exit)) (now (table .exit)) r ≡ handed (dealtRun false shape turns (lent (now (store .entry))
         (now (table .entry))) dealer) ⌝ }
 {
-    deal_lent(shape, false, dealer, turns, store, table)
+    dealt_of(deal_lent(shape, narrow_run(dealer, turns), store, table))
 }

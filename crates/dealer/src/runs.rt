@@ -4,6 +4,7 @@ ghost use mathlib.Core.Bool.{true};
 ghost use Prim.Native.Nat.{_<_};
 ghost use Rattle.dealer.specs.Dealing.{workerAfter, turnOf};
 ghost use Rattle.dealer.specs.Runs.{flagOf, stoppedBy, startedAt, begun, passedBy, movedOn};
+use super::asks::Ask;
 use admission::gate;
 use admission::is_near;
 use admission::is_sound;
@@ -25,10 +26,10 @@ pub struct Run {
 }
 
 // What the look over the records goes by: a turn, by a look at all of them or at none.
-pub fn look_of(whole: bool) -> Request
-    ensures { λ r. ⌜ r ≡ turnOf whole 0 ⌝ }
+pub fn look_of(ask: Ask) -> Request
+    ensures { λ r. ⌜ r ≡ turnOf (ask .whole) 0 ⌝ }
 {
-    if whole {
+    if ask.whole {
         return Request::Whole(Action::Step(0));
     }
     Request::Narrow(Action::Step(0), 0)
@@ -82,34 +83,26 @@ pub fn started_at(shape: Shape, last: u64, made: u64) -> Run
 }
 
 // Before the first turn: past refusals 1 to 4, or ended by one of them.
-pub fn begin(
-    shape: Shape,
-    whole: bool,
-    dealer: u64,
-    turns: u64,
-    n: usize,
-    seen: Survey,
-    store: &[u64],
-) -> Run
-    ensures { λ r. ⌜ r ≡ begun whole shape dealer turns (now (store .entry)) n (seen .ok) ⌝ }
+pub fn begin(shape: Shape, ask: Ask, n: usize, seen: Survey, store: &[u64]) -> Run
+    ensures { λ r. ⌜ r ≡ begun (ask .whole) shape (ask .dealer) (ask .turns) (now (store .entry)) n (seen .ok) ⌝ }
 {
     let idle = Run {
         going: false,
         at: 0,
         rest: 0,
-        last: dealer,
+        last: ask.dealer,
         made: 0,
         response: Response::On,
     };
-    if turns == 0 {
+    if ask.turns == 0 {
         return idle;
     }
-    let flag = flag_of(shape, whole, n, seen.ok, store);
-    let k = gate(shape, store.len(), n, dealer, flag);
+    let flag = flag_of(shape, ask.whole, n, seen.ok, store);
+    let k = gate(shape, store.len(), n, ask.dealer, flag);
     if k != 0 {
         return stopped_by(idle, Response::Refused(k));
     }
-    started_at(shape, dealer, 0)
+    started_at(shape, ask.dealer, 0)
 }
 
 // The candidate has no call in progress: on to the next, if one is left.

@@ -3,10 +3,9 @@ ghost use mathlib.Core.Path.{_≡_};
 ghost use mathlib.Core.Bool.{true, cond, not, _||_};
 ghost use Rattle.wubraken.specs.Results.{lent};
 ghost use Rattle.dealer.specs.Dealing.{dealtRun};
-ghost use Rattle.dealer.specs.Answered.{leavesDeal, hands, handed};
+ghost use Rattle.dealer.specs.Answered.{leavesDeal};
 ghost use Rattle.dealer.specs.Tour.{Sound, wanted};
-use super::answers::Dealt;
-use super::answers::dealt_of;
+use super::asks::Ask;
 use super::runs::Run;
 use super::runs::begin;
 use super::runs::look_of;
@@ -37,21 +36,13 @@ pub fn deal_turns(
     run
 }
 
-// At most `turns` dealt turns, over whatever is lent.
-pub fn deal_lent(
-    shape: Shape,
-    whole: bool,
-    dealer: u64,
-    turns: u64,
-    store: &mut [u64],
-    table: &mut [Worker],
-) -> Dealt
-    ensures { λ r. ⌜ hands (now (store .exit)) (now (table .exit)) r
-        ≡ handed (dealtRun whole shape turns (lent (now (store .entry)) (now (table .entry))) dealer) ⌝ }
+// At most so many dealt turns as are asked for, over whatever is lent.
+pub fn deal_lent(shape: Shape, ask: Ask, store: &mut [u64], table: &mut [Worker]) -> Run
+    ensures { λ r. ⌜ leavesDeal (now (store .exit)) (now (table .exit)) r
+        ≡ dealtRun (ask .whole) shape (ask .turns) (lent (now (store .entry)) (now (table .entry))) (ask .dealer) ⌝ }
 {
     let n = table.len();
-    let seen = survey_table(shape, look_of(whole), table);
-    let start = begin(shape, whole, dealer, turns, n, seen, store);
-    let run = deal_turns(shape, whole, turns, start, store, table);
-    dealt_of(run)
+    let seen = survey_table(shape, look_of(ask), table);
+    let start = begin(shape, ask, n, seen, store);
+    deal_turns(shape, ask.whole, ask.turns, start, store, table)
 }

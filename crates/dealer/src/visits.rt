@@ -74,8 +74,5 @@ pub fn look_at(
     let worker = reply.worker;
     let response = reply.response;
     let moved = moved_on(shape, turns, run, leak, response);
-    Visit {
-        run: moved,
-        worker,
-    }
+    Visit { run: moved, worker }
 }

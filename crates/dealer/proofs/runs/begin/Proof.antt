@@ -18,32 +18,32 @@ flag-of-requires c κs = search needs
 
 gate-requires : tie.Need-gate-requires
 gate-requires c κs = λ up.
-    let a = c .before .before .before .args in
-    flag-tight (a .whole) (a .shape) (a .store .now) (a .n) (a .seen .ok) (sym (c .flag-of .ensures) ∙ up)
+    let a = c .before .before .before .before .args in
+    flag-tight (a .ask .whole) (a .shape) (a .store .now) (a .n) (a .seen .ok) (sym (c .flag-of .ensures) ∙ up)
 
 stopped-by-requires : tie.Need-stopped-by-requires
 stopped-by-requires c κs = search needs
 
 returns-2 : tie.Need-returns-2
 returns-2 c =
-    let a = c .before .before .before .before .before .before .args in
+    let a = c .before .before .before .before .before .before .before .args in
     let f = c .before .before .before .flag-of in
     let g = c .before .before .gate in
-    refused-begun (a .whole) (a .shape) (a .dealer) (a .turns) (a .store .now) (a .n) (a .seen .ok) (c .before .before .before .before .if1 .left) (f .result) (f .ensures) (g .result)
+    refused-begun (a .ask .whole) (a .shape) (a .ask .dealer) (a .ask .turns) (a .store .now) (a .n) (a .seen .ok) (c .before .before .before .before .if1 .left) (f .result) (f .ensures) (g .result)
     (g .ensures) (c .before .if2 .taken) (c .stopped-by .result) (c .stopped-by .ensures)
 
 started-at-requires : tie.Need-started-at-requires
 started-at-requires c κs =
-    let a = c .before .before .before .before .before .args in
+    let a = c .before .before .before .before .before .before .args in
     let f = c .before .before .flag-of in
-    gate-passed (a .shape) (length (a .store .now)) (a .n) (a .dealer) (f .result) (sym (c .before .gate .ensures) ∙ c .if2 .left) .1
+    gate-passed (a .shape) (length (a .store .now)) (a .n) (a .ask .dealer) (f .result) (sym (c .before .gate .ensures) ∙ c .if2 .left) .1
 
 returns-3 : tie.Need-returns-3
 returns-3 c =
-    let a = c .before .before .before .before .before .before .args in
+    let a = c .before .before .before .before .before .before .before .args in
     let f = c .before .before .before .flag-of in
     let g = c .before .before .gate in
-    goes-begun (a .whole) (a .shape) (a .dealer) (a .turns) (a .store .now) (a .n) (a .seen .ok) (c .before .before .before .before .if1 .left) (f .result) (f .ensures) (g .result)
+    goes-begun (a .ask .whole) (a .shape) (a .ask .dealer) (a .ask .turns) (a .store .now) (a .n) (a .seen .ok) (c .before .before .before .before .if1 .left) (f .result) (f .ensures) (g .result)
     (g .ensures) (c .before .if2 .left) (c .started-at .result) (c .started-at .ensures)
 
 pub begin-spec : {M : Type 1} → statement M
