@@ -14,7 +14,30 @@ use base.Logic.{ent, sep, ex}
 use base.Fml.{Lft, GName, fdead, flent}
 use prog.Wp.{Heap}
 use ghost.Atoms.{Atoms, sem}
-use types.Kit.{Given, ‵, _⊛_, some, later, _$_, _∵_, !, qed, move, use1, drop, split, join, pick, rewrite, fsplit, frame, await, updating, now as at-once, show}
+use types.Kit.{
+  Given,
+  ‵,
+  _⊛_,
+  some,
+  later,
+  _$_,
+  _∵_,
+  !,
+  qed,
+  move,
+  use1,
+  drop,
+  split,
+  join,
+  pick,
+  rewrite,
+  fsplit,
+  frame,
+  await,
+  updating,
+  now as at-once,
+  show,
+}
 use types.Kit.{done}
 use types.SemTy.{cells, Arr}
 use denote.RattleType.{RattleType}
@@ -34,7 +57,8 @@ module _ {M : Type 1} (𝓤 : URA M) (H : Heap 𝓤) (A : Atoms 𝓤) (W : Given
       (A .lent κ′ (Held R (length ys) b o δ)))))
   lends-row ys n e room =
       qed W (‵ (row R fullShare ys b o) ∷ []) ∵ updating ! $ use1 W (‵ (cells (mem R) ys b o)) (whole-in 𝓤 H A W R ys b o) $
-      use1 W (later (some (λ (δ : GName). ‵ (MutSlice ℓ κ′ R .own (at-list δ ys) (sliceVal (b, o) (length ys) ∷ [])) ⊛ ‵ (flent κ′ (Held R (length ys) b o δ)))))
+      use1 W (later (some (λ (δ : GName). ‵ (MutSlice ℓ κ′ R .own (at-list δ ys) (sliceVal (b, o) (length ys) ∷ [])) ⊛ ‵ (flent κ′ (Held R
+      (length ys) b o δ)))))
       (lends-slice 𝓤 H A W R ℓ κ′ ys b o room) $ await ! tt $ pick ! (λ δ. split ! $
       rewrite ! 0 (λ (m : ℕ). ‵ (MutSlice ℓ κ′ R .own (at-list δ ys) (sliceVal (b, o) m ∷ []))) e refl $
       at-once ! $ show ! (λ (δ′ : GName). sep 𝓤 (sem 𝓤 H A (MutSlice ℓ κ′ R .own (at-list δ′ ys) (sliceVal (b, o) n ∷ [])))

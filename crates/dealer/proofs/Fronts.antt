@@ -66,5 +66,6 @@ hands-on sh x s t r a s′ t′ deals answers = handed-is s′ t′ r a (dealtRu
 abbrev pub ask-of : Bool → ℕ → ℕ → Ask
 ask-of whole dealer turns = record { whole = whole; dealer = dealer; turns = turns }
 
-pub ask-is : (whole : Bool) (dealer turns : ℕ) → dealer < 2 ^ 64 → turns < 2 ^ 64 → Is Ak.the-row (ask-of whole dealer turns) (vals ask (ask-of whole dealer turns))
+pub ask-is : (whole : Bool) (dealer turns : ℕ) → dealer < 2 ^ 64 → turns < 2 ^ 64 → Is Ak.the-row (ask-of whole dealer turns) (vals ask
+    (ask-of whole dealer turns))
 ask-is whole dealer turns h g = LL.owes Ak.the-type Ak′.the-laws (ask-of whole dealer turns) (refl, ((refl, h), ((refl, g), tt)))

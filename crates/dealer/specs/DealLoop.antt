@@ -34,7 +34,21 @@ use Rattle.admission.specs.NarrowGate.{nearOf, near-opens}
 use Rattle.wubraken.specs.Results.{lent}
 use Rattle.wubraken.specs.Survey.{survey, survey-ok-is}
 use Rattle.dealer.specs.Runs.{flagOf}
-use Rattle.dealer.specs.Dealing.{allIdle, servedInRange, dealOut, dealRefusal, Deal, serving, turnedAway, dealt, undealt, behind, dealtOn, dealtRun, turnOf}
+use Rattle.dealer.specs.Dealing.{
+  allIdle,
+  servedInRange,
+  dealOut,
+  dealRefusal,
+  Deal,
+  serving,
+  turnedAway,
+  dealt,
+  undealt,
+  behind,
+  dealtOn,
+  dealtRun,
+  turnOf,
+}
 use Rattle.dealer.specs.Dealable.{Kept, Dealable}
 
 pub flag-tight : (whole : Bool) (sh : Shape) (s : List ℕ) (n : ℕ) (ok : Bool) → Tight sh (length s) n (flagOf whole sh s n ok)
@@ -72,7 +86,8 @@ module _ (sh : Shape) (s : List ℕ) (t : List Worker) (last : ℕ) where
   kept-by true L up = sym (watched L) ∙ up
   kept-by false L up = word-ranges sh s (parts (wordsInRange sh s) true (sym (near-words L) ∙ up) .0)
 
-  pub passed-by : (whole : Bool) → gateOf sh (length s) (length t) last (flagOf whole sh s (length t) (okOf whole sh t)) ≡ 0 → Dealable whole sh (lent s t) last
+  pub passed-by : (whole : Bool) → gateOf sh (length s) (length t) last (flagOf whole sh s (length t) (okOf whole sh t)) ≡ 0 → Dealable whole sh
+      (lent s t) last
   passed-by whole e =
       let (up, inside) = gate-passed sh (length s) (length t) last (flagOf whole sh s (length t) (okOf whole sh t)) e in
       let L = lent-by (gate-opens sh (length s) (length t) last (flagOf whole sh s (length t) (okOf whole sh t)) e) in

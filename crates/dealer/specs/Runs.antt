@@ -109,7 +109,8 @@ module _ (sh : Shape) (turns : ℕ) (r : Run) (leak : Bool) (x : Response) (next
     goes-moved e = is ∙ rw (sym same-test ∙ more, e)
 
 -- ── the arms of `begun` ──
-module _ (whole : Bool) (sh : Shape) (dealer turns : ℕ) (s : List ℕ) (n : ℕ) (ok : Bool) (some : turns ≢ 0) (flag : Bool) (flag-is : flag ≡ flagOf whole sh s n ok)
+module _ (whole : Bool) (sh : Shape) (dealer turns : ℕ) (s : List ℕ) (n : ℕ) (ok : Bool) (some : turns ≢ 0) (flag : Bool)
+    (flag-is : flag ≡ flagOf whole sh s n ok)
     (k : ℕ) (k-is : k ≡ gateOf sh (length s) n dealer flag) where
   whole-gate : gateOf sh (length s) n dealer (flagOf whole sh s n ok) ≡ k
   whole-gate = ap (gateOf sh (length s) n dealer) (sym flag-is) ∙ sym k-is

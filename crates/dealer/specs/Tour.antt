@@ -2,8 +2,8 @@
 --     Touring, Sound                  what a run that goes on keeps; what any run does
 --     wanted, wanted-ended            the outcome of a run, from where it stands; where it has ended
 --     todo                            how much is left
---     visitable                       the look at the candidate may be made
---     Moved, moves                    what the look leaves is sound, wants the same, and has less to do
+--     Moved                           what the look leaves is sound, wants the same, and has less to do
+--     visitable, moves                the look at the candidate may be made; it leaves that
 --     sound-start, wanted-start       the run that has just begun
 -- Assumes nothing.
 use mathlib.Core.Path.{_≡_, refl, sym, ap, subst, _∙_}

@@ -29,7 +29,8 @@ returns-2 c =
     let a = c .before .before .before .before .before .before .before .args in
     let f = c .before .before .before .flag-of in
     let g = c .before .before .gate in
-    refused-begun (a .ask .whole) (a .shape) (a .ask .dealer) (a .ask .turns) (a .store .now) (a .n) (a .seen .ok) (c .before .before .before .before .if1 .left) (f .result) (f .ensures) (g .result)
+    refused-begun (a .ask .whole) (a .shape) (a .ask .dealer) (a .ask .turns) (a .store .now) (a .n) (a .seen .ok)
+    (c .before .before .before .before .if1 .left) (f .result) (f .ensures) (g .result)
     (g .ensures) (c .before .if2 .taken) (c .stopped-by .result) (c .stopped-by .ensures)
 
 started-at-requires : tie.Need-started-at-requires
@@ -43,7 +44,8 @@ returns-3 c =
     let a = c .before .before .before .before .before .before .before .args in
     let f = c .before .before .before .flag-of in
     let g = c .before .before .gate in
-    goes-begun (a .ask .whole) (a .shape) (a .ask .dealer) (a .ask .turns) (a .store .now) (a .n) (a .seen .ok) (c .before .before .before .before .if1 .left) (f .result) (f .ensures) (g .result)
+    goes-begun (a .ask .whole) (a .shape) (a .ask .dealer) (a .ask .turns) (a .store .now) (a .n) (a .seen .ok)
+    (c .before .before .before .before .if1 .left) (f .result) (f .ensures) (g .result)
     (g .ensures) (c .before .if2 .left) (c .started-at .result) (c .started-at .ensures)
 
 pub begin-spec : {M : Type 1} → statement M

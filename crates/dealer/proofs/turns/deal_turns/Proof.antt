@@ -36,11 +36,59 @@ use prog.Wp.{Heap, Out, Env, afterSeq, afterBlock, afterTurn, Calls, Loops, Wp, 
 use ghost.Atoms.{Atoms, sem}
 use contract.Monad.{Fun, fact}
 use contract.Running.{givenOf, tables, tablesOf}
-use types.Kit.{Given, Item, Sq, runs, anyQ, atRet, ‵, raw, _⊛_, ⋆, some, later, _$_, _∵_, !, qed, by, move, keep, drop, use1, use2, split, join, pick, rewrite}
+use types.Kit.{
+  Given,
+  Item,
+  Sq,
+  runs,
+  anyQ,
+  atRet,
+  ‵,
+  raw,
+  _⊛_,
+  ⋆,
+  some,
+  later,
+  _$_,
+  _∵_,
+  !,
+  qed,
+  by,
+  move,
+  keep,
+  drop,
+  use1,
+  use2,
+  split,
+  join,
+  pick,
+  rewrite,
+}
 use types.Kit.{fsplit, fjoin, feqL, suffices, frame, await, done}
 use types.Tokens.{lft-new, lft-end}
 use types.Part.{agg, whole as entire, sub, look-in}
-use types.Run.{look, look-raw, store, store-raw, init, forget, stop, hop, fld, from, load, addr, lit, of-opd, and-then, no-more, bin, assigns, assigns-last, land}
+use types.Run.{
+  look,
+  look-raw,
+  store,
+  store-raw,
+  init,
+  forget,
+  stop,
+  hop,
+  fld,
+  from,
+  load,
+  addr,
+  lit,
+  of-opd,
+  and-then,
+  no-more,
+  bin,
+  assigns,
+  assigns-last,
+  land,
+}
 use types.Run.{first, blocks, stays, leaves-loop, exec, Below, again, loops, returns, enter, alloc1, alloc0, params1, pass1, pass0, free1, free0}
 use sound.WpLaws.{fmOf, WpFn-mono}
 use denote.RattleType.{owns}
@@ -276,7 +324,8 @@ module _ {M : Type 1} (𝓤 : URA M) (H : Heap 𝓤) (A : Atoms 𝓤) (W : Given
   moved k on x zs d =
       subst (Moved whole sh turns (k .run) (k .store) (k .table)) (sym d) (moves whole sh turns (k .run) (k .store) (k .table) on (k .sound on))
 
-  abbrev next : (k : Kt) → k .run .going ≡ true → (x : Visit) (v : Val) → Is Vi.the-row x (v ∷ []) → (zs : List ℕ) → Said k x zs → length zs ≡ length (k .store)
+  abbrev next : (k : Kt) → k .run .going ≡ true → (x : Visit) (v : Val) → Is Vi.the-row x (v ∷ []) → (zs : List ℕ) → Said k x zs → length zs ≡ length
+      (k .store)
       → Kt
   next k on x v is zs d same = record {
     run = x .run;
@@ -326,8 +375,10 @@ module _ {M : Type 1} (𝓤 : URA M) (H : Heap 𝓤) (A : Atoms 𝓤) (W : Given
         ∷ ‵ (froom tyPtr l₁₆ 0) ∷ ‵ (fdies tyPtr l₁₆) ∷ ‵ (froom ty-again l₁₅ 0) ∷ ‵ (fdies ty-again l₁₅) ∷ ‵ (froom ty-ref l₁₄ 0) ∷ ‵ (fdies ty-ref l₁₄)
         ∷ ‵ (froom ty-w l₁₃ 0) ∷ ‵ (fdies ty-w l₁₃) ∷ ‵ (froom tyPtr l₁₂ 0) ∷ ‵ (fdies tyPtr l₁₂) ∷ ‵ (froom word l₁₁ 0) ∷ ‵ (fdies word l₁₁)
         ∷ ‵ (froom tyBool l₁₀ 0) ∷ ‵ (fdies tyBool l₁₀) ∷ ‵ (froom ty-v l₉ 0) ∷ ‵ (fdies ty-v l₉) ∷ ‵ (froom ty-w l₈ 0) ∷ ‵ (fdies ty-w l₈)
-        ∷ ‵ (fat fullShare ty-r l₇ 0 (val-r (k .run))) ∷ ‵ (fdies ty-r l₇) ∷ ‵ (fat fullShare ty-t l₆ 0 tv) ∷ ‵ (fdies ty-t l₆) ∷ ‵ (fat fullShare ty-s l₅ 0 sv) ∷ ‵ (fdies ty-s l₅)
-        ∷ ‵ (fat fullShare ty-r l₄ 0 (val-r start)) ∷ ‵ (fdies ty-r l₄) ∷ ‵ (fat fullShare word l₃ 0 (vint w64 turns)) ∷ ‵ (fdies word l₃) ∷ ‵ (fat fullShare tyBool l₂ 0 (vbool whole)) ∷ ‵ (fdies tyBool l₂)
+        ∷ ‵ (fat fullShare ty-r l₇ 0 (val-r (k .run))) ∷ ‵ (fdies ty-r l₇) ∷ ‵ (fat fullShare ty-t l₆ 0 tv) ∷ ‵ (fdies ty-t l₆) ∷ ‵
+        (fat fullShare ty-s l₅ 0 sv) ∷ ‵ (fdies ty-s l₅)
+        ∷ ‵ (fat fullShare ty-r l₄ 0 (val-r start)) ∷ ‵ (fdies ty-r l₄) ∷ ‵ (fat fullShare word l₃ 0 (vint w64 turns)) ∷ ‵ (fdies word l₃) ∷ ‵
+        (fat fullShare tyBool l₂ 0 (vbool whole)) ∷ ‵ (fdies tyBool l₂)
         ∷ ‵ (fat fullShare ty-sh l₁ 0 (val-sh sh)) ∷ ‵ (fdies ty-sh l₁) ∷ ‵ (froom ty-r l₀ 0) ∷ ‵ (fdies ty-r l₀) ∷ []
 
     abbrev Turned : Kt → Out → SProp 𝓤
@@ -339,7 +390,8 @@ module _ {M : Type 1} (𝓤 : URA M) (H : Heap 𝓤) (A : Atoms 𝓤) (W : Given
     turn-at k true e =
         assigns ! (of-opd ! (load ! (from ! (fld ! refl (stop !))) (look-in ! 26 (sub ! 0 refl (entire !))))) (from ! (stop !)) (init ! 20 refl (tt, tt)) $
         rewrite ! 20 (λ (t : Bool). ‵ (fat fullShare tyBool l₁₀ 0 (vbool t))) e refl $ stays ! (load ! (from ! (stop !)) (look ! 20 refl)) $
-        assigns ! (bin ! (load ! (from ! (fld ! refl (stop !))) (look-in ! 26 (sub ! 1 refl (entire !)))) (lit ! tt) (record { fits = place-fits })) (from ! (stop !)) (init ! 18 refl
+        assigns ! (bin ! (load ! (from ! (fld ! refl (stop !))) (look-in ! 26 (sub ! 1 refl (entire !)))) (lit ! tt) (record { fits = place-fits }))
+        (from ! (stop !)) (init ! 18 refl
         (tt, record { fits = place-fits })) $
         assigns ! (bin ! (load ! (from ! (fld ! refl (stop !))) (look-in ! 28 (sub ! 0 refl (entire !)))) (load ! (from ! (stop !)) (look ! 18 refl)) tt)
         (from ! (stop !)) (init ! 16 refl (tt, tt)) $
@@ -362,7 +414,9 @@ module _ {M : Type 1} (𝓤 : URA M) (H : Heap 𝓤) (A : Atoms 𝓤) (W : Given
         use2 W (raw (Look 𝓤 H A mem run .pre (to-look ν δ k))) (goes-look ν δ k e g) $
         -- `look_at`
         calls-at ! (fmOf 𝓤 H (W .laws) 𝓣) (Look 𝓤 H A mem run) known (to-look ν δ k)
-        (and-then ! (load ! (from ! (stop !)) (look ! 41 refl)) (and-then ! (load ! (from ! (stop !)) (look ! 39 refl)) (and-then ! (load ! (from ! (stop !)) (look ! 37 refl)) (and-then ! (load ! (from ! (stop !)) (look ! 29 refl)) (and-then ! (load ! (from ! (stop !)) (look ! 27 refl)) (and-then ! (load ! (from ! (stop !)) (look ! 13 refl)) (no-more !))))))) (λ v.
+        (and-then ! (load ! (from ! (stop !)) (look ! 41 refl)) (and-then ! (load ! (from ! (stop !)) (look ! 39 refl)) (and-then ! (load ! (from !
+        (stop !)) (look ! 37 refl)) (and-then ! (load ! (from ! (stop !)) (look ! 29 refl)) (and-then ! (load ! (from ! (stop !)) (look ! 27 refl))
+        (and-then ! (load ! (from ! (stop !)) (look ! 13 refl)) (no-more !))))))) (λ v.
         use1 W (later (some (λ (x : Visit). ((‵ (flft (ν ∷ []) fullShare) ⊛ ‵ ftrue) ⊛ ‵ (Vi.the-row .own x (v ∷ [])))
         ⊛ raw (ensured 𝓤 H A look-fn.ended (look-fn.clauses 𝓤 H A mem run) (ν ∷ [], tt) (look-args δ k) tt x)))) (id⊢ 𝓤 _) $
         await ! tt $ pick ! (λ x. split ! $ move ! (1 ∷ []) $ use1 W
@@ -379,7 +433,8 @@ module _ {M : Type 1} (𝓤 : URA M) (H : Heap 𝓤) (A : Atoms 𝓤) (W : Given
         use2 W (later (‵ (row u64 fullShare (zs .1 .1 .1 .1 .1 .0) b o)))
         (row-back 𝓤 H A W u64 (named 0) (ν ∷ []) b o δ (length (k .store)) (zs .1 .1 .1 .1 .1 .0)) $ await ! tt $
         -- [the store's row; true; true; table[i]; what it owns; the others; the open borrow, obs, auth of each; the locals]
-        assigns ! (bin ! (load ! (from ! (fld ! refl (stop !))) (look-in ! 30 (sub ! 1 refl (entire !)))) (lit ! tt) (record { fits = place-fits })) (from ! (stop !)) (store ! 22 refl
+        assigns ! (bin ! (load ! (from ! (fld ! refl (stop !))) (look-in ! 30 (sub ! 1 refl (entire !)))) (lit ! tt) (record { fits = place-fits }))
+        (from ! (stop !)) (store ! 22 refl
         (tt, record { fits = place-fits })) $
         assigns ! (bin ! (load ! (from ! (fld ! refl (stop !))) (look-in ! 32 (sub ! 0 refl (entire !)))) (load ! (from ! (stop !)) (look ! 22 refl)) tt)
         (from ! (stop !)) (init ! 12 refl (tt, tt)) $
@@ -391,8 +446,10 @@ module _ {M : Type 1} (𝓤 : URA M) (H : Heap 𝓤) (A : Atoms 𝓤) (W : Given
         -- [the table's row; the store's; true; true; the open borrow, obs, auth of each; the locals]
         assigns-last ! (of-opd ! (load ! (from ! (fld ! refl (stop !))) (look-in ! 24 (sub ! 0 refl (entire !))))) (from ! (stop !)) (store ! 28 refl
         (typed-r (x .run) (run-is x v is))) $
-        keep ! (1 ∷ 4 ∷ 5 ∷ 6 ∷ 0 ∷ 7 ∷ 8 ∷ 9 ∷ 10 ∷ 11 ∷ 12 ∷ 13 ∷ 14 ∷ 15 ∷ 16 ∷ 17 ∷ 18 ∷ 19 ∷ 20 ∷ 21 ∷ 22 ∷ 23 ∷ 24 ∷ 25 ∷ 26 ∷ 27 ∷ 28 ∷ 29 ∷ 30 ∷ 31 ∷ 32 ∷ 33 ∷ 34 ∷ 35 ∷ 36 ∷ 37 ∷ 38 ∷ 39 ∷ 40 ∷ 41 ∷ 42 ∷ 43 ∷ []) $
-        forget ! 8 refl $ forget ! 10 refl $ forget ! 12 refl $ forget ! 14 refl $ forget ! 16 refl $ forget ! 18 refl $ forget ! 20 refl $ forget ! 22 refl $ forget ! 24 refl $
+        keep ! (1 ∷ 4 ∷ 5 ∷ 6 ∷ 0 ∷ 7 ∷ 8 ∷ 9 ∷ 10 ∷ 11 ∷ 12 ∷ 13 ∷ 14 ∷ 15 ∷ 16 ∷ 17 ∷ 18 ∷ 19 ∷ 20 ∷ 21 ∷ 22 ∷ 23 ∷ 24 ∷ 25 ∷ 26 ∷ 27 ∷ 28 ∷ 29 ∷ 30 ∷ 31
+        ∷ 32 ∷ 33 ∷ 34 ∷ 35 ∷ 36 ∷ 37 ∷ 38 ∷ 39 ∷ 40 ∷ 41 ∷ 42 ∷ 43 ∷ []) $
+        forget ! 8 refl $ forget ! 10 refl $ forget ! 12 refl $ forget ! 14 refl $ forget ! 16 refl $ forget ! 18 refl $ forget ! 20 refl $ forget ! 22
+        refl $ forget ! 24 refl $
         again ! Nearer At k (next k e x v is (zs .1 .1 .1 .1 .1 .0) d same) (moved k e x (zs .1 .1 .1 .1 .1 .0) d .less))))))))))
       where
         i : ℕ
@@ -414,8 +471,13 @@ module _ {M : Type 1} (𝓤 : URA M) (H : Heap 𝓤) (A : Atoms 𝓤) (W : Given
         closes-slice ! tt T.the-row ys (k .table) (k .long-t) b′ o′ $
         -- [of the table, obs, the borrow and the token; the same of the store; the locals]
         assigns ! (of-opd ! (load ! (from ! (stop !)) (look ! 24 refl))) (from ! (stop !)) (init ! 38 refl (typed-r (k .run) (k .fits))) $
-        returns ! (look ! 38 refl) $ forget ! 18 refl $ forget ! 24 refl $ forget ! 26 refl $ forget ! 28 refl $ forget ! 30 refl $ forget ! 32 refl $ forget ! 34 refl $ forget ! 36 refl $ forget ! 38 refl $
-        move ! (38 ∷ 39 ∷ []) $ free1 ! $ move ! (36 ∷ 37 ∷ []) $ free1 ! $ move ! (34 ∷ 35 ∷ []) $ free1 ! $ move ! (32 ∷ 33 ∷ []) $ free1 ! $ move ! (30 ∷ 31 ∷ []) $ free1 ! $ move ! (28 ∷ 29 ∷ []) $ free1 ! $ move ! (26 ∷ 27 ∷ []) $ free1 ! $ move ! (24 ∷ 25 ∷ []) $ free1 ! $ move ! (22 ∷ 23 ∷ []) $ free1 ! $ move ! (20 ∷ 21 ∷ []) $ free1 ! $ move ! (18 ∷ 19 ∷ []) $ free1 ! $ move ! (16 ∷ 17 ∷ []) $ free1 ! $ move ! (14 ∷ 15 ∷ []) $ free1 ! $ move ! (12 ∷ 13 ∷ []) $ free1 ! $ move ! (10 ∷ 11 ∷ []) $ free1 ! $ move ! (8 ∷ 9 ∷ []) $ free1 ! $ move ! (6 ∷ 7 ∷ []) $ free1 ! $ free0 ! $
+        returns ! (look ! 38 refl) $ forget ! 18 refl $ forget ! 24 refl $ forget ! 26 refl $ forget ! 28 refl $ forget ! 30 refl $ forget ! 32 refl $
+        forget ! 34 refl $ forget ! 36 refl $ forget ! 38 refl $
+        move ! (38 ∷ 39 ∷ []) $ free1 ! $ move ! (36 ∷ 37 ∷ []) $ free1 ! $ move ! (34 ∷ 35 ∷ []) $ free1 ! $ move ! (32 ∷ 33 ∷ []) $ free1 ! $ move !
+        (30 ∷ 31 ∷ []) $ free1 ! $ move ! (28 ∷ 29 ∷ []) $ free1 ! $ move ! (26 ∷ 27 ∷ []) $ free1 ! $ move ! (24 ∷ 25 ∷ []) $ free1 ! $ move !
+        (22 ∷ 23 ∷ []) $ free1 ! $ move ! (20 ∷ 21 ∷ []) $ free1 ! $ move ! (18 ∷ 19 ∷ []) $ free1 ! $ move ! (16 ∷ 17 ∷ []) $ free1 ! $ move !
+        (14 ∷ 15 ∷ []) $ free1 ! $ move ! (12 ∷ 13 ∷ []) $ free1 ! $ move ! (10 ∷ 11 ∷ []) $ free1 ! $ move ! (8 ∷ 9 ∷ []) $ free1 ! $ move !
+        (6 ∷ 7 ∷ []) $ free1 ! $ free0 ! $
         by ! (exits (k .run) (k .store) (k .table)
         (sym (wanted-ended whole sh turns (k .run) (k .store) (k .table) e) ∙ k .same) (k .long-s) (k .long-t) (k .fits))
 
@@ -426,7 +488,9 @@ module _ {M : Type 1} (𝓤 : URA M) (H : Heap 𝓤) (A : Atoms 𝓤) (W : Given
       qed W ((‵ (flft κ q) ⊛ ‵ (flft κ′ q′) ⊛ ‵ ftrue)
       ∷ ‵ (owns (Sh.the-row ∷ bool ∷ u64 ∷ Rn.the-row ∷ MutSlice (named 0) κ u64 ∷ MutSlice (named 1) κ′ T.the-row ∷ []) args at) ∷ []) ∵
       enter ! (𝓣 .C) (𝓣 .Λ) code.function (val-sh sh ∷ vbool whole ∷ vint w64 turns ∷ val-r start ∷ sv ∷ tv ∷ []) _ $
-      alloc1 ! (λ l₀. alloc1 ! (λ l₁. alloc1 ! (λ l₂. alloc1 ! (λ l₃. alloc1 ! (λ l₄. alloc1 ! (λ l₅. alloc1 ! (λ l₆. alloc1 ! (λ l₇. alloc1 ! (λ l₈. alloc1 ! (λ l₉. alloc1 ! (λ l₁₀. alloc1 ! (λ l₁₁. alloc1 ! (λ l₁₂. alloc1 ! (λ l₁₃. alloc1 ! (λ l₁₄. alloc1 ! (λ l₁₅. alloc1 ! (λ l₁₆. alloc0 ! $ params1 ! $
+      alloc1 ! (λ l₀. alloc1 ! (λ l₁. alloc1 ! (λ l₂. alloc1 ! (λ l₃. alloc1 ! (λ l₄. alloc1 ! (λ l₅. alloc1 ! (λ l₆. alloc1 ! (λ l₇. alloc1 !
+      (λ l₈. alloc1 ! (λ l₉. alloc1 ! (λ l₁₀. alloc1 ! (λ l₁₁. alloc1 ! (λ l₁₂. alloc1 ! (λ l₁₃. alloc1 ! (λ l₁₄. alloc1 ! (λ l₁₅. alloc1 !
+      (λ l₁₆. alloc0 ! $ params1 ! $
       pass1 ! (init ! 30 refl typed-sh) $ pass1 ! (init ! 28 refl (tt, tt)) $ pass1 ! (init ! 26 refl (tt, record { fits = turns-fit })) $
       pass1 ! (init ! 24 refl (typed-r start start-is)) $ pass1 ! (init ! 22 refl (tt, (tt, (record { fits = room-s .0 }, tt)))) $
       pass1 ! (init ! 20 refl (tt, (tt, (record { fits = room .0 }, tt)))) $ pass0 ! $
@@ -436,7 +500,8 @@ module _ {M : Type 1} (𝓤 : URA M) (H : Heap 𝓤) (A : Atoms 𝓤) (W : Given
       -- [of the table, obs and the borrow; true; the same of the store; the locals; the tokens]
       move ! (39 ∷ []) $ split ! $ move ! (1 ∷ []) $ split ! $ move ! (6 ∷ 7 ∷ 2 ∷ []) $ opens-slice ! tt u64 S b o $
       move ! (6 ∷ 7 ∷ 4 ∷ []) $ opens-slice ! tt T.the-row ys b′ o′ $
-      keep ! (4 ∷ 5 ∷ 6 ∷ 7 ∷ 0 ∷ 1 ∷ 2 ∷ 3 ∷ 10 ∷ 11 ∷ 12 ∷ 13 ∷ 14 ∷ 15 ∷ 16 ∷ 17 ∷ 18 ∷ 19 ∷ 20 ∷ 21 ∷ 22 ∷ 23 ∷ 24 ∷ 25 ∷ 26 ∷ 27 ∷ 28 ∷ 29 ∷ 30 ∷ 31 ∷ 32 ∷ 33 ∷ 34 ∷ 35 ∷ 36 ∷ 37 ∷ 38 ∷ 39 ∷ 40 ∷ 41 ∷ 42 ∷ 43 ∷ []) $
+      keep ! (4 ∷ 5 ∷ 6 ∷ 7 ∷ 0 ∷ 1 ∷ 2 ∷ 3 ∷ 10 ∷ 11 ∷ 12 ∷ 13 ∷ 14 ∷ 15 ∷ 16 ∷ 17 ∷ 18 ∷ 19 ∷ 20 ∷ 21 ∷ 22 ∷ 23 ∷ 24 ∷ 25 ∷ 26 ∷ 27 ∷ 28 ∷ 29 ∷ 30 ∷ 31 ∷
+      32 ∷ 33 ∷ 34 ∷ 35 ∷ 36 ∷ 37 ∷ 38 ∷ 39 ∷ 40 ∷ 41 ∷ 42 ∷ 43 ∷ []) $
       first ! $ blocks ! $ loops ! 𝓣 Nearer Nearer-wf (At 𝓣 known l₀ l₁ l₂ l₃ l₄ l₅ l₆ l₇ l₈ l₉ l₁₀ l₁₁ l₁₂ l₁₃ l₁₄ l₁₅ l₁₆)
       (λ k. turn-at 𝓣 known l₀ l₁ l₂ l₃ l₄ l₅ l₆ l₇ l₈ l₉ l₁₀ l₁₁ l₁₂ l₁₃ l₁₄ l₁₅ l₁₆ k (k .run .going) refl) begins)))))))))))))))))
 

@@ -31,12 +31,14 @@ returns-2 c =
 leaks-of-requires : tie.Need-leaks-of-requires
 leaks-of-requires c κs =
     let y = c .before .before .may-turn in
-    c .before .before .before .before .before .before .pre .ready (ap not (ne-eqb _ _ (c .before .before .before .if1 .left))) (sym (y .ensures) ∙ not-false _ (c .before .if2 .left))
+    c .before .before .before .before .before .before .pre .ready (ap not (ne-eqb _ _ (c .before .before .before .if1 .left))) (sym (y .ensures)
+    ∙ not-false _ (c .before .if2 .left))
 
 step-requires : tie.Need-step-requires
 step-requires c κs = λ few.
     let y = c .before .before .before .before .may-turn in
-    c .before .before .before .before .before .before .before .before .pre .ready (ap not (ne-eqb _ _ (c .before .before .before .before .before .if1 .left))) (sym (y .ensures) ∙ not-false _ (c .before .before .before .if2 .left))
+    c .before .before .before .before .before .before .before .before .pre .ready (ap not (ne-eqb _ _
+    (c .before .before .before .before .before .if1 .left))) (sym (y .ensures) ∙ not-false _ (c .before .before .before .if2 .left))
 
 moved-on-requires : tie.Need-moved-on-requires
 moved-on-requires c κs = search needs
@@ -52,7 +54,8 @@ returns-3 c =
     let p = c .before .before .before .before .step in
     served-visited (a .whole) (a .shape) (a .turns) (a .run) (a .store .now) (a .w)
     (c .before .before .before .before .before .before .before .before .before .before .if1 .left) (y .result) (y .ensures)
-    (not-false _ (c .before .before .before .before .before .before .before .before .if2 .left)) (k .result) (k .ensures) (p .last .1 .1 .0) (p .result) (p .ensures) (c .moved-on .result)
+    (not-false _ (c .before .before .before .before .before .before .before .before .if2 .left)) (k .result) (k .ensures) (p .last .1 .1 .0) (p .result)
+    (p .ensures) (c .moved-on .result)
     (c .moved-on .ensures)
 
 pub look-at-spec : {M : Type 1} → statement M
