@@ -316,7 +316,7 @@ wubraken_dealt wubraken_deal_run(wubraken_shape shape, uint64_t dealer, uint64_t
                                  wubraken_worker *table, size_t records);
 
 /* The same by narrow turns: 3 looks only at the first three words of the store and at
- * the record of the worker to be served. Of the other records only the stage is read.
+ * the record of the worker to be served. Of the other records only the stage counts.
  * Refusals: 1 to 4, 11, 16; behind the first turn 3, 11. */
 wubraken_dealt wubraken_narrow_deal(wubraken_shape shape, uint64_t dealer, uint64_t turns,
                                     uint64_t *store, size_t words,

@@ -2,7 +2,7 @@
 //! not even read: the lengths count them, but they lie behind a fence. In a
 //! batch that is the shape of which it has the most workers. Of a narrow take or
 //! turn the same holds of the other workers' records, and of the words behind the
-//! last one of its rule. A narrow dealt turn reads the stages of the others.
+//! last one of its rule. A narrow dealt turn goes over the others' records.
 #![cfg(target_os = "linux")]
 
 mod common;
@@ -273,18 +273,7 @@ fn narrow_calls_touch_what_they_need() {
     });
 }
 
-/// The words of a table, without those of the last record behind its stage.
-fn up_to_the_last_stage(table: &[Worker]) -> Vec<u64> {
-    let words = table.iter().flat_map(|it| {
-        [
-            it.stage, it.kind, it.own, it.bucket, it.left, it.right, it.seen, it.current, it.ticket,
-        ]
-    });
-    words.take(9 * table.len() - 8).collect()
-}
-
-/// The words behind the last one that the turn may touch lie behind a fence. So does the
-/// last worker's record but for its stage, unless that worker is served.
+/// The words behind the last one that the turn may touch lie behind a fence.
 #[test]
 fn narrow_dealt_turns_touch_what_they_need() {
     on_seeds("beyond, narrow dealt turns", |random| {
@@ -303,20 +292,8 @@ fn narrow_dealt_turns_touch_what_they_need() {
                 words = words.max(last_word(shape, &table[served as usize]) as usize + 1);
             }
             let store = store_pages.lend(&memory.store[..words], true);
-            let is_last = expected.turns > 0 && served + 1 == shape.workers;
-            let mut lent = match is_last {
-                true => Lent::of(store, table_pages.lend(&table, true)),
-                false => {
-                    let cut = table_pages.lend(&up_to_the_last_stage(&table), true);
-                    Lent {
-                        store: store.as_mut_ptr(),
-                        table: cut.as_mut_ptr().cast(),
-                        words: 0,
-                        records: 0,
-                    }
-                }
-            };
-            (lent.words, lent.records) = (memory.store.len(), table.len());
+            let mut lent = Lent::of(store, table_pages.lend(&table, true));
+            lent.words = memory.store.len();
             let dealt = lent.deal(shape, before, Deal::Narrow(1));
             assert_eq!(dealt, expected);
             assert_eq!(store, &both.store()[..words]);
