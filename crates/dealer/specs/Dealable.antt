@@ -39,6 +39,8 @@ use Rattle.operation.specs.LocalAct.{localAct, Admitted, admitted, back, act-is
 use Rattle.operation.specs.LocalTurns.{act-length, going}
 use Rattle.operation.specs.Leaks.{act-watched}
 use Rattle.dealer.specs.Dealing.{nextServed, allIdle, dealOut, dealRefusal, Deal, turnOf, serving, turnedAway, dealt}
+-- the runs come first: a wrong definition is refused by them
+use Rattle.dealer.specs.DealtExample.{by-hand}
 
 -- what is known to be in range
 abbrev pub Kept : Bool → Shape → Memory → Type 0
