@@ -286,7 +286,8 @@ wubraken_batch_end wubraken_run_batch(wubraken_shape shape,
 /* A dealer of turns: a number, the worker that it served last. The next turn goes to
  * the first worker after that one, going round, that has a call in progress; the one
  * served last comes last. So a call that stays in progress has a turn within as many
- * dealt turns as the shape has workers, whatever begins meanwhile. Starts are as ever.
+ * dealt turns as the shape has workers, whatever begins meanwhile. (In damaged memory a
+ * record out of range that is to be served stops it there, by 3.) Starts are as ever.
  *
  * A dealt turn is a turn of that worker. One that is refused by 11 is dealt, too: it
  * changes nothing in the pool, the dealer moves on, and the others get their turns. By

@@ -8,6 +8,7 @@ use crate::{answer, raw, Pool, Refusal, Shape, Step, Worker};
 /// the first worker after that one, going round, that has a call in progress. So a
 /// worker whose call stays in progress is served within as many dealt turns as the shape
 /// has workers, whatever calls begin meanwhile. When the call ends is another matter.
+/// (In damaged memory a record out of range that is to be served stops it there, by 3.)
 ///
 /// Calls begin by [`Pool::enqueue`] and [`Pool::dequeue`], at any time. A dealer belongs
 /// to no pool: hand it the same one each time.
