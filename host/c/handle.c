@@ -6,6 +6,7 @@
 #include <stdio.h>
 #include <string.h>
 
+#include "answers.h"
 #include "wubraken.h"
 
 static uint64_t store[WUBRAKEN_WORDS(4, 2)]; /* nodes, buckets */
@@ -19,30 +20,6 @@ static void open_for(uint64_t workers)
 
     if (wubraken_pool_open(&pool, shape, store, WUBRAKEN_WORDS(4, 2), table, 2).kind == WUBRAKEN_OPEN)
         puts("open");
-}
-
-static void print(wubraken_answer answer)
-{
-    switch (answer.kind) {
-    case WUBRAKEN_BEGUN:
-        printf("begun %" PRIu64 "\n", answer.ticket);
-        break;
-    case WUBRAKEN_ON:
-        puts("on");
-        break;
-    case WUBRAKEN_STORED:
-        printf("stored %" PRIu64 "\n", answer.ticket);
-        break;
-    case WUBRAKEN_TOOK:
-        printf("took %" PRIu64 " %" PRIu64 " %" PRIu64 " %" PRIu64 "\n",
-               answer.time, answer.path, answer.order, answer.energy);
-        break;
-    case WUBRAKEN_EMPTY:
-        puts("empty");
-        break;
-    default:
-        printf("no %" PRIu64 ": %s\n", answer.number, wubraken_refusal_text(answer.number));
-    }
 }
 
 static const wubraken_arrival arrival = {5, 7, 1, 3}; /* time, path, order, distance */

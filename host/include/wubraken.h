@@ -1,5 +1,5 @@
-/* Wubraken: a pool of arrivals over memory that the caller lends, and an echogram
- * that adds up what was taken.
+/* Wubraken: a pool of arrivals over memory that the caller lends, a dealer of its
+ * workers' turns, and an echogram that adds up what was taken.
  *
  * The pool keeps nothing of its own: every call gets the shape, a store of
  * words and a table with one record a worker. A call of a worker begins with
@@ -16,6 +16,8 @@
  *   wubraken_pool_audit, which does so once, and then the narrow calls.
  * - Where many turns are known beforehand, as in a turn file, wubraken_run_batch,
  *   which looks at every field once a batch.
+ * - Where the turns are to go round among the workers, a dealer: wubraken_pool_deal,
+ *   or wubraken_deal and wubraken_deal_run for memory that came from elsewhere.
  * - For an echogram wubraken_clear_row, then wubraken_record, or for many taken
  *   arrivals at once wubraken_record_series. It is handed a row of its own, and
  *   knows no pool.
@@ -27,8 +29,8 @@
  * recording that cannot be done is refused by a number and changes nothing.
  *
  * Link target/staticlib/libwubraken.a; for wubraken_run_batch
- * target/staticlib/libwubraken_batch.a, and for an echogram
- * target/staticlib/libechogram.a (x86-64, System V). None needs another.
+ * target/staticlib/libwubraken_batch.a, for a dealer target/staticlib/libdealer.a, and
+ * for an echogram target/staticlib/libechogram.a (x86-64, System V). None needs another.
  */
 #ifndef WUBRAKEN_H
 #define WUBRAKEN_H
@@ -116,21 +118,22 @@ enum {
 
 /* Why a call is refused. Of several reasons the lowest number is answered. */
 enum {
-    WUBRAKEN_BAD_SHAPE = 1,     /* a field of the shape is outside its limits */
-    WUBRAKEN_TOO_SHORT = 2,     /* store or table are too short for the shape, or the parts of a series differ in length */
-    WUBRAKEN_OUT_OF_RANGE = 3,  /* a word of the store or a field of the table is out of its range */
-    WUBRAKEN_NO_WORKER = 4,     /* the shape has no such worker */
-    WUBRAKEN_BAD_ARRIVAL = 5,   /* path, order or distance is outside its limits */
-    WUBRAKEN_TOO_LATE = 6,      /* not given since Q-1 */
-    WUBRAKEN_UNKNOWN_MARK = 7,  /* a turn file has two letters that begin no record */
-    WUBRAKEN_CUT_RECORD = 8,    /* a turn file ends inside a record */
-    WUBRAKEN_BUSY = 9,          /* the worker has a call in progress */
-    WUBRAKEN_IDLE = 10,         /* the worker has no call in progress */
-    WUBRAKEN_EXHAUSTED = 11,    /* tickets or epochs are used up: open the pool again */
-    WUBRAKEN_NO_NODE = 12,      /* every node is in use or may still be stood on */
-    WUBRAKEN_BAD_ROW = 13,      /* the row or the slot length is outside its limits */
-    WUBRAKEN_PAST_ROW = 14,     /* the slot of the time lies past the row */
-    WUBRAKEN_SUM_TOO_LARGE = 15 /* the slot or the sum of all slots would pass 2^32 - 1 */
+    WUBRAKEN_BAD_SHAPE = 1,      /* a field of the shape is outside its limits */
+    WUBRAKEN_TOO_SHORT = 2,      /* store or table are too short for the shape, or the parts of a series differ in length */
+    WUBRAKEN_OUT_OF_RANGE = 3,   /* a word of the store or a field of the table is out of its range */
+    WUBRAKEN_NO_WORKER = 4,      /* the shape has no such worker */
+    WUBRAKEN_BAD_ARRIVAL = 5,    /* path, order or distance is outside its limits */
+    WUBRAKEN_TOO_LATE = 6,       /* not given since Q-1 */
+    WUBRAKEN_UNKNOWN_MARK = 7,   /* a turn file has two letters that begin no record */
+    WUBRAKEN_CUT_RECORD = 8,     /* a turn file ends inside a record */
+    WUBRAKEN_BUSY = 9,           /* the worker has a call in progress */
+    WUBRAKEN_IDLE = 10,          /* the worker has no call in progress */
+    WUBRAKEN_EXHAUSTED = 11,     /* tickets or epochs are used up: open the pool again */
+    WUBRAKEN_NO_NODE = 12,       /* every node is in use or may still be stood on */
+    WUBRAKEN_BAD_ROW = 13,       /* the row or the slot length is outside its limits */
+    WUBRAKEN_PAST_ROW = 14,      /* the slot of the time lies past the row */
+    WUBRAKEN_SUM_TOO_LARGE = 15, /* the slot or the sum of all slots would pass 2^32 - 1 */
+    WUBRAKEN_ALL_IDLE = 16       /* no worker has a call in progress */
 };
 
 /* What is wrong, and what to do. */
@@ -167,6 +170,8 @@ static inline const char *wubraken_refusal_text(uint64_t number)
         return "the slot lies past the row; use more slots, or longer ones";
     case WUBRAKEN_SUM_TOO_LARGE:
         return "the slot or the sum of all slots would pass 4294967295; clear the row, or go on in another";
+    case WUBRAKEN_ALL_IDLE:
+        return "no worker has a call in progress; begin one first";
     default:
         return "no refusal has this number";
     }
@@ -277,6 +282,46 @@ wubraken_batch_end wubraken_run_batch(wubraken_shape shape,
                                       uint8_t *out, size_t room,
                                       uint64_t *store, size_t words,
                                       wubraken_worker *table, size_t records);
+
+/* A dealer of turns: a number, the worker that it served last. The next turn goes to
+ * the first worker after that one, going round, that has a call in progress; the one
+ * served last comes last. So a call that stays in progress has a turn within as many
+ * dealt turns as the shape has workers, whatever begins meanwhile. (In damaged memory a
+ * record out of range that is to be served stops it there, by 3.) Starts are as ever.
+ *
+ * A dealt turn is a turn of that worker. One that is refused by 11 is dealt, too: it
+ * changes nothing in the pool, the dealer moves on, and the others get their turns. By
+ * any other refusal no turn is dealt. */
+typedef struct {
+    uint64_t dealer;        /* what it remembers now: the worker served last; as handed in where no turn was dealt */
+    uint64_t turns;         /* how many turns were dealt, one refused by 11 included */
+    wubraken_answer answer; /* of the last turn dealt, or the refusal by which no other was */
+} wubraken_dealt;
+
+/* What a new dealer remembers: the last worker, so that worker 0 comes next. 0 for a
+ * shape without workers. */
+uint64_t wubraken_new_dealer(wubraken_shape shape);
+
+/* One dealt turn. It looks at every field of store and table. Refusals: 1 to 4 (4: the
+ * shape has no such worker as the dealer remembers), 11, 16. */
+wubraken_dealt wubraken_deal(wubraken_shape shape, uint64_t dealer,
+                             uint64_t *store, size_t words,
+                             wubraken_worker *table, size_t records);
+
+/* At most `turns` dealt turns, as wubraken_deal makes them one by one, until one answers
+ * something else than ON. It looks at every field once. With turns 0 the answer is ON,
+ * whatever there is. In memory that no pool has left lists may lead in a circle, and a
+ * run needs a limit. Refusals: 1 to 4, 11, 16; behind the first turn 3, 11. */
+wubraken_dealt wubraken_deal_run(wubraken_shape shape, uint64_t dealer, uint64_t turns,
+                                 uint64_t *store, size_t words,
+                                 wubraken_worker *table, size_t records);
+
+/* The same by narrow turns: 3 looks only at the first three words of the store and at
+ * the record of the worker to be served. Of the other records only the stage counts.
+ * Refusals: 1 to 4, 11, 16; behind the first turn 3, 11. */
+wubraken_dealt wubraken_narrow_deal(wubraken_shape shape, uint64_t dealer, uint64_t turns,
+                                    uint64_t *store, size_t words,
+                                    wubraken_worker *table, size_t records);
 
 /* An echogram: a lent row of 1 to WUBRAKEN_MAX_SLOTS slots, to which the energies
  * of taken arrivals are added. A slot has 1 to WUBRAKEN_MAX_SLOT_LENGTH samples; a
@@ -430,6 +475,19 @@ static inline wubraken_answer wubraken_pool_take(const wubraken_pool *pool, uint
 {
     return wubraken_narrow_dequeue(pool->shape, worker, turns,
                                    pool->store, pool->words, pool->table, pool->records);
+}
+
+/* Deals at most so many turns, until a call has ended: the last answer, ON if the turns
+ * are used up, and the dealer moves on to the worker served last. Begin with a dealer of
+ * wubraken_new_dealer(pool->shape). 0 turns are ON, whatever there is. In memory that no
+ * pool has left lists may lead in a circle, and a run needs a limit.
+ * Refusals, of the next turn: 1 to 4, 16; and 11, of one that is dealt. */
+static inline wubraken_dealt wubraken_pool_deal(const wubraken_pool *pool, uint64_t *dealer, uint64_t turns)
+{
+    wubraken_dealt dealt = wubraken_narrow_deal(pool->shape, *dealer, turns,
+                                                pool->store, pool->words, pool->table, pool->records);
+    *dealer = dealt.dealer;
+    return dealt;
 }
 
 /* wubraken_run_batch on the pool. An opening among the records changes its shape. */

@@ -25,7 +25,7 @@ use Rattle.admission.specs.Gate.{gateOf}
 use Rattle.turn_file.specs.declared.Read.the-variants.{Act}
 use Rattle.turn_file.specs.Reading.{recordAt}
 use Rattle.batch.specs.Batch.{Progress}
-use Rattle.batch.specs.BatchLoop.{actionLeaks}
+use Rattle.operation.specs.Leaks.{actionLeaks}
 use Rattle.batch.specs.Tickets.{ticketsOf, lowFor, low-is}
 use Rattle.batch.specs.RoundArms.{Round, Line, in-use, below-64, let-in, turned-away, performed}
 

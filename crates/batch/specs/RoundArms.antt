@@ -50,7 +50,8 @@ use Rattle.batch.specs.LentPart.{least-taken, over-length}
 use Rattle.laws.specs.Storing.{over-taken}
 use Rattle.admission.specs.Watched.{Watched, opened-sound}
 use Rattle.admission.specs.Gate.{gateOf, openGate, Tight, gate-opens, open-gate-is, usable, refused-is}
-use Rattle.batch.specs.BatchLoop.{Going, going, go-on, drained, halted, full, at-work, actionLeaks, act-watched}
+use Rattle.operation.specs.Leaks.{actionLeaks, act-watched}
+use Rattle.batch.specs.BatchLoop.{Going, going, go-on, drained, halted, full, at-work}
 
 -- What the loop keeps: `words`, `records` and `space` are what is lent, and t is its array, of which the first records are lent; h are held.
 pub record Round (bytes : List ℕ) (p₀ : Progress) (h₀ words records space : ℕ) (sh : Shape) (s : List ℕ) (t : List Worker) (at : ℕ) (lines : List ℕ) (to : ℕ)

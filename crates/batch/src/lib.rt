@@ -2,11 +2,9 @@
 ghost use mathlib.Core.Path.{_≡_};
 ghost use Prim.Native.Nat.{_+_, _<_};
 ghost use lib.Dec.{leb};
-ghost use Rattle.calendar.specs.facts.RangesKept.{leaks};
 ghost use Rattle.words.specs.Done.{gives};
 ghost use Rattle.stages.specs.Ready.{Ready};
 ghost use Rattle.batch.specs.Batch.{workedAll};
-ghost use Rattle.batch.specs.BatchLoop.{actionLeaks};
 ghost use Rattle.batch.specs.Held.{heldAll};
 ghost use Rattle.batch.specs.CodeView.{begins, ends, Sound, heldOf, stoppedOf};
 ghost use Rattle.batch.specs.Tickets.{ticketsOf};
@@ -19,6 +17,7 @@ use arrival::Action;
 use arrival::Shape;
 use arrival::Worker;
 use operation::actor;
+use operation::leaks::action_leaks;
 use operation::open_lent;
 use operation::perform;
 use starts::free::lower_ticket;
@@ -31,9 +30,6 @@ use turn_file::read_record;
 use turn_file::write_line;
 use turn_file::write_opened;
 use turn_file::write_refusal;
-use words::field;
-use words::get_cell;
-use words::get_field;
 use words::replies::Reply;
 use words::replies::refuse;
 use words::word;
@@ -64,31 +60,6 @@ pub struct Progress {
     pub at: usize,
     pub to: usize,
     pub stop: Stop,
-}
-
-// Whether a worker's turn leaves the ranges: stage 3 unlinks a node of distance 0.
-fn turn_leaks(shape: Shape, w: Worker, store: &[u64]) -> bool
-    requires { ⌜ Ready shape (now store) w ⌝ }
-    ensures { λ r. ⌜ r ≡ leaks shape (now (store .entry)) w ⌝ }
-{
-    if w.stage != 3 {
-        return false;
-    }
-    let left = get_cell(shape, w.left, store);
-    let distance = get_field(shape, field::DISTANCE, w.right, store);
-    (left == 2 * w.right) & (distance == 0)
-}
-
-// The same of any action: a start keeps them.
-fn action_leaks(shape: Shape, action: Action, w: Worker, store: &[u64]) -> bool
-    requires { ⌜ Ready shape (now store) w ⌝ }
-    ensures { λ r. ⌜ r ≡ actionLeaks shape (now (store .entry)) action w ⌝ }
-{
-    match action {
-        Action::Enqueue(_, _) => false,
-        Action::Dequeue(_) => false,
-        Action::Step(_) => turn_leaks(shape, w, store),
-    }
 }
 
 // Whether the longest line fits from `to` on.

@@ -1,2 +1,3 @@
 pub mod LocalAct
 pub mod LocalTurns
+pub mod Leaks

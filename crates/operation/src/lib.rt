@@ -24,6 +24,8 @@ use starts::start_enqueue;
 use words::replies::Reply;
 use words::replies::refuse;
 
+pub mod leaks;
+
 // The worker of an action.
 pub fn actor(action: Action) -> u64
     ensures { λ r. ⌜ r ≡ operations.actor action ⌝ }
@@ -49,7 +51,7 @@ pub fn perform(shape: Shape, low: u64, action: Action, w: Worker, store: &mut [u
 }
 
 // Whether a call goes on after this.
-fn goes_on(response: Response) -> bool
+pub fn goes_on(response: Response) -> bool
     ensures { λ r. ⌜ r ≡ goesOn response ⌝ }
 {
     match response {

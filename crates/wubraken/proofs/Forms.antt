@@ -1,7 +1,8 @@
 -- The form of an entry point that hands on: it makes a request of its parameters by value, borrows store and table again, calls a function of `act_lent`'s
--- form, and answers what that responds. The parameters between the shape and the store, one to three, are of any types that hold no reference.
+-- form, and answers what that responds. The parameters between the shape and the store, one to three, the request Rq, the response Q and the answer R are of
+-- any types that hold no reference.
 --     Held, rowOf, Front, Of, row         such a type, with what a walk asks of it; its values, its row
---     number, arrival                     a number of 64 bits, an arrival
+--     held-by, number, arrival            such a type by its row; a number of 64 bits, an arrival
 --     Claim, Answered                     what the function claims of its response and of the last store and table; what the entry does of its answer
 --     lent-rows                           store and table, as each of the functions takes them last
 --     callee, entry                       the signatures: of what is called, and of the form
@@ -36,21 +37,12 @@ use denote.Triple.Spec.{Spec, exits}
 use denote.Exit.{yes, unchanged}
 use Rattle.arrival.specs.declared.Shape.{Shape}
 use Rattle.arrival.specs.declared.Worker.{Worker}
-use Rattle.arrival.specs.declared.Request.{Request}
-use Rattle.arrival.specs.declared.Response.{Response}
-use Rattle.wubraken.specs.declared.answers.Answer.{Answer}
 use Rattle.arrival.proofs.Shape as Sh
 use Rattle.arrival.proofs.Shape.Laws as Sh′
 use Rattle.arrival.proofs.Arrival as Ar
 use Rattle.arrival.proofs.Arrival.Laws as Ar′
-use Rattle.arrival.proofs.Response as Q
-use Rattle.arrival.proofs.Response.Laws as Q′
-use Rattle.arrival.proofs.Request as Rq
-use Rattle.arrival.proofs.Request.Laws as Rq′
 use Rattle.arrival.proofs.Worker as T
 use Rattle.arrival.proofs.Worker.Laws as T′
-use Rattle.wubraken.proofs.answers.Answer as R
-use Rattle.wubraken.proofs.answers.Answer.Laws as R′
 
 -- ── the parameters by value ──
 -- a type of which nothing is had at exit
@@ -88,7 +80,7 @@ Of F = F .held .Denot
 abbrev pub row : Front → RattleType
 row F = rowOf (F .held)
 
-abbrev held-by : RattleType → Ty → Held
+abbrev pub held-by : RattleType → Ty → Held
 held-by R τ = record { Denot = R .Denot; ty = τ; written = R .written; reaches = R .reaches; own = R .own; coded = R .coded }
 
 abbrev pub number : Front
@@ -114,11 +106,11 @@ slots [] = []
 slots (F ∷ Fs) = plain (λ _. row F) ∷ slots Fs
 
 -- of shape, request, store and table: what is claimed of the response, the last store and the last table; and of the answer
-abbrev pub Claim : Type 1
-Claim = Shape → Request → List ℕ → List Worker → Response → List ℕ → List Worker → Type 0
+abbrev pub Claim : Front → Front → Type 1
+Claim Rq Q = Shape → Of Rq → List ℕ → List Worker → Of Q → List ℕ → List Worker → Type 0
 
-abbrev pub Answered : Type 1
-Answered = Shape → Request → List ℕ → List Worker → Answer → List ℕ → List Worker → Type 0
+abbrev pub Answered : Front → Front → Type 1
+Answered Rq R = Shape → Of Rq → List ℕ → List Worker → Of R → List ℕ → List Worker → Type 0
 
 -- ── the signatures ──
 abbrev pub lent-rows : List (Slot 2)
@@ -127,44 +119,44 @@ lent-rows = SliceRefMutOf (0 ∷ []) tt (plain (λ _. u64)) (λ _. tt) ∷ Slice
 abbrev in-front : List (Slot 2) → RattleType → Signature
 in-front rows result = record { lifetimes = 2; outlives = []; params = rows ++ lent-rows; result = plain (λ _. result) }
 
-abbrev pub callee : Signature
-callee = in-front (plain (λ _. Sh.the-row) ∷ plain (λ _. Rq.the-row) ∷ []) Q.the-row
+abbrev pub callee : Front → Front → Signature
+callee Rq Q = in-front (plain (λ _. Sh.the-row) ∷ plain (λ _. row Rq) ∷ []) (row Q)
 
-abbrev pub entry : List Front → Signature
-entry Fs = in-front (plain (λ _. Sh.the-row) ∷ slots Fs) R.the-row
+abbrev pub entry : Front → List Front → Signature
+entry R Fs = in-front (plain (λ _. Sh.the-row) ∷ slots Fs) (row R)
 
 -- ── the contracts ──
-module _ {M : Type 1} (𝓤 : URA M) (H : Heap 𝓤) (A : Atoms 𝓤) (claim : Claim) (told : Answered) where
-  abbrev pub Acts : Spec 𝓤 callee
+module _ {M : Type 1} (𝓤 : URA M) (H : Heap 𝓤) (A : Atoms 𝓤) (Rq Q R : Front) (claim : Claim Rq Q) (told : Answered Rq R) where
+  abbrev pub Acts : Spec 𝓤 (callee Rq Q)
   Acts κs a = record {
     ghost = Unit {0};
     requires = λ _. emp 𝓤;
-    ensures = λ _ r. exits 𝓤 H A callee (yes, (yes, (yes, (yes, tt)))) κs a (λ e.
+    ensures = λ _ r. exits 𝓤 H A (callee Rq Q) (yes, (yes, (yes, (yes, tt)))) κs a (λ e.
         fact 𝓤 (claim (a .0) (a .1 .0) (now (a .1 .1 .0)) (now (a .1 .1 .1 .0)) r (now (e .1 .1 .0)) (now (e .1 .1 .1 .0))));
   }
 
   -- of the request that `asks` makes of the parameters
-  abbrev pub One : (F : Front) → (Of F → Request) → Spec 𝓤 (entry (F ∷ []))
+  abbrev pub One : (F : Front) → (Of F → Of Rq) → Spec 𝓤 (entry R (F ∷ []))
   One F asks κs a = record {
     ghost = Unit {0};
     requires = λ _. emp 𝓤;
-    ensures = λ _ r. exits 𝓤 H A (entry (F ∷ [])) (yes, (yes, (yes, (yes, tt)))) κs a (λ e.
+    ensures = λ _ r. exits 𝓤 H A (entry R (F ∷ [])) (yes, (yes, (yes, (yes, tt)))) κs a (λ e.
         fact 𝓤 (told (a .0) (asks (a .1 .0)) (now (a .1 .1 .0)) (now (a .1 .1 .1 .0)) r (now (e .1 .1 .0)) (now (e .1 .1 .1 .0))));
   }
 
-  abbrev pub Two : (F G : Front) → (Of F → Of G → Request) → Spec 𝓤 (entry (F ∷ G ∷ []))
+  abbrev pub Two : (F G : Front) → (Of F → Of G → Of Rq) → Spec 𝓤 (entry R (F ∷ G ∷ []))
   Two F G asks κs a = record {
     ghost = Unit {0};
     requires = λ _. emp 𝓤;
-    ensures = λ _ r. exits 𝓤 H A (entry (F ∷ G ∷ [])) (yes, (yes, (yes, (yes, (yes, tt))))) κs a (λ e.
+    ensures = λ _ r. exits 𝓤 H A (entry R (F ∷ G ∷ [])) (yes, (yes, (yes, (yes, (yes, tt))))) κs a (λ e.
         fact 𝓤 (told (a .0) (asks (a .1 .0) (a .1 .1 .0)) (now (a .1 .1 .1 .0)) (now (a .1 .1 .1 .1 .0)) r (now (e .1 .1 .1 .0)) (now (e .1 .1 .1 .1 .0))));
   }
 
-  abbrev pub Three : (F G K : Front) → (Of F → Of G → Of K → Request) → Spec 𝓤 (entry (F ∷ G ∷ K ∷ []))
+  abbrev pub Three : (F G K : Front) → (Of F → Of G → Of K → Of Rq) → Spec 𝓤 (entry R (F ∷ G ∷ K ∷ []))
   Three F G K asks κs a = record {
     ghost = Unit {0};
     requires = λ _. emp 𝓤;
-    ensures = λ _ r. exits 𝓤 H A (entry (F ∷ G ∷ K ∷ [])) (yes, (yes, (yes, (yes, (yes, (yes, tt)))))) κs a (λ e.
+    ensures = λ _ r. exits 𝓤 H A (entry R (F ∷ G ∷ K ∷ [])) (yes, (yes, (yes, (yes, (yes, (yes, tt)))))) κs a (λ e.
         fact 𝓤 (told (a .0) (asks (a .1 .0) (a .1 .1 .0) (a .1 .1 .1 .0)) (now (a .1 .1 .1 .1 .0)) (now (a .1 .1 .1 .1 .1 .0)) r
         (now (e .1 .1 .1 .1 .0)) (now (e .1 .1 .1 .1 .1 .0))));
   }
@@ -180,8 +172,8 @@ abbrev record-name : Ty
 record-name = pointee (T.the-row .written)
 
 -- the response; the request; what is borrowed again
-abbrev temporaries : List Local
-temporaries = local Q′.mir valueLocal ∷ local Rq′.mir valueLocal ∷ local (tyRef erased mut word) valueLocal ∷ slice erased word
+abbrev temporaries : Front → Front → List Local
+temporaries Rq Q = local (Q .held .ty) valueLocal ∷ local (Rq .held .ty) valueLocal ∷ local (tyRef erased mut word) valueLocal ∷ slice erased word
     ∷ local (tyRef erased mut record-name) valueLocal ∷ slice erased record-name ∷ []
 
 -- the parameters as locals, as many as there are, and copied from place k on
@@ -208,11 +200,11 @@ hands makes f tell Fs m =
     (seq (call f (copy (place 1 []) ∷ copy (place (m + 5) []) ∷ copy (place (m + 7) []) ∷ copy (place (m + 9) []) ∷ []) (place (m + 4) []))
     (seq (call tell (copy (place (m + 4) []) ∷ []) (place 0 [])) return))))))
 
-abbrev pub entry-code : Name → Name → Name → List Front → Fn
-entry-code makes f tell Fs = record {
+abbrev pub entry-code : Front → Front → Front → Name → Name → Name → List Front → Fn
+entry-code Rq Q R makes f tell Fs = record {
   lifetimes = 2;
   outlives = [];
   params = many Fs + 3;
-  locals = local R′.mir valueLocal ∷ local Sh′.mir valueLocal ∷ fronts Fs ++ (slice (named 0) word ∷ slice (named 1) record-name ∷ temporaries);
+  locals = local (R .held .ty) valueLocal ∷ local Sh′.mir valueLocal ∷ fronts Fs ++ (slice (named 0) word ∷ slice (named 1) record-name ∷ temporaries Rq Q);
   body = hands makes f tell Fs (many Fs);
 }

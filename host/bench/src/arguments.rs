@@ -10,8 +10,8 @@ contestants take turns, and the best of several rounds counts.
 
 options:
   --quick          everything small, only to see that it runs
-  --only PART      one part: schedules, turn, narrow, hold, threads, calls, growth, tail or
-                   echogram
+  --only PART      one part: schedules, turn, narrow, hold, threads, calls, growth, tail,
+                   echogram or dealer
   --records N      records of a schedule       (default 10,000,000)
   --rounds N       rounds of each contest      (default 7)
   --svg PATH       the picture of growth       (default target/bench/growth.svg)
@@ -19,6 +19,7 @@ options:
   --turns PATH     the program under test      (default target/bin/turns)
   --second PATH    the second program          (default host/target/release/second)
   --narrow PATH    the contest of narrow calls (default host/target/contest/narrow)
+  --dealer PATH    the contest of dealt turns  (default host/target/contest/dealer)
   --tbb PATH       host/bench/tbb_hold.cpp compiled    (default target/bench/tbb_hold)
   --help           prints this text
 ";
@@ -35,9 +36,10 @@ pub enum Part {
     Growth,
     Tail,
     Echogram,
+    Dealer,
 }
 
-const PARTS: [(&str, Part); 9] = [
+const PARTS: [(&str, Part); 10] = [
     ("schedules", Part::Schedules),
     ("turn", Part::InnerTurn),
     ("narrow", Part::NarrowCalls),
@@ -47,6 +49,7 @@ const PARTS: [(&str, Part); 9] = [
     ("growth", Part::Growth),
     ("tail", Part::Tail),
     ("echogram", Part::Echogram),
+    ("dealer", Part::Dealer),
 ];
 
 #[derive(Clone, Debug)]
@@ -64,6 +67,7 @@ pub struct Arguments {
     pub turns: PathBuf,
     pub second: PathBuf,
     pub narrow: PathBuf,
+    pub dealer: PathBuf,
     pub tbb: PathBuf,
 }
 
@@ -80,6 +84,7 @@ impl Arguments {
             turns: "target/bin/turns".into(),
             second: "host/target/release/second".into(),
             narrow: "host/target/contest/narrow".into(),
+            dealer: "host/target/contest/dealer".into(),
             tbb: "target/bench/tbb_hold".into(),
         }
     }
@@ -112,6 +117,7 @@ impl Arguments {
                 "--turns" => arguments.turns = value.into(),
                 "--second" => arguments.second = value.into(),
                 "--narrow" => arguments.narrow = value.into(),
+                "--dealer" => arguments.dealer = value.into(),
                 "--tbb" => arguments.tbb = value.into(),
                 _ => return None,
             }

@@ -29,7 +29,7 @@ pub trait Engine {
 }
 
 pub struct BatchEntry {
-    pool: Pool,
+    pub pool: Pool,
     block: Vec<u8>,
 }
 
@@ -40,8 +40,12 @@ impl BatchEntry {
     /// Lends so many words and records, with no pool open in them.
     pub fn lending(words: usize, records: usize) -> Self {
         let (store, table) = (vec![0; words], vec![Worker::default(); records]);
+        Self::of(Pool::resume(Shape::default(), store, table))
+    }
+
+    pub fn of(pool: Pool) -> Self {
         Self {
-            pool: Pool::resume(Shape::default(), store, table),
+            pool,
             block: vec![0; BLOCK],
         }
     }

@@ -105,18 +105,8 @@ fn cell(width: usize, decimals: usize, number: Option<f64>) -> String {
     }
 }
 
-/// About four arrivals a bucket, as far as half of the buckets go; and nodes to
-/// spare for those that rest.
 pub fn model(workers: u32, pending: usize) -> Model {
-    const WIDTH: u32 = 1_000;
-    let shape = Shape {
-        workers,
-        nodes: (pending as u32 + 64).min(Shape::MAX_NODES),
-        buckets: Shape::MAX_BUCKETS,
-        width: WIDTH,
-    };
-    let buckets = (pending as u32 / 4).min(shape.buckets / 2);
-    Model::new(shape, pending, buckets * WIDTH)
+    Model::with_spare(workers, pending, 64)
 }
 
 fn contest(arguments: &Arguments, model: &Model) -> Times {

@@ -61,6 +61,20 @@ impl Model {
         }
     }
 
+    /// About four arrivals a bucket, as far as half of the buckets go; and nodes to
+    /// spare for those that rest.
+    pub fn with_spare(workers: u32, pending: usize, spare: u32) -> Self {
+        const WIDTH: u32 = 1_000;
+        let shape = Shape {
+            workers,
+            nodes: (pending as u32 + spare).min(Shape::MAX_NODES),
+            buckets: Shape::MAX_BUCKETS,
+            width: WIDTH,
+        };
+        let buckets = (pending as u32 / 4).min(shape.buckets / 2);
+        Self::new(shape, pending, buckets * WIDTH)
+    }
+
     /// The same with no more holds than this.
     pub fn at_most(self, holds: usize) -> Self {
         Self {

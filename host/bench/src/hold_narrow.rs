@@ -3,7 +3,7 @@
 use std::time::{Duration, Instant};
 
 use second::Record;
-use wubraken::{Arrival, Pool, Put, Refusal, Step, Take};
+use wubraken::{Arrival, Pool, Put, Refusal, Step, Take, Worker};
 
 use crate::hold_model::{fold, latest_first, Draws, Model, Run, Starts};
 use crate::shapes::of_wrapper;
@@ -128,7 +128,11 @@ pub fn open(model: &Model) -> Pool {
 }
 
 /// Opens the pool again and puts the first arrivals of a run in.
-pub fn fill(pool: &mut Pool, run: &Draws) {
+pub fn fill<S, T>(pool: &mut Pool<S, T>, run: &Draws)
+where
+    S: AsMut<[u64]>,
+    T: AsMut<[Worker]>,
+{
     pool.reopen(pool.shape()).expect("it fits");
     for time in latest_first(run.times.clone()) {
         let arrival = Arrival {
@@ -142,7 +146,11 @@ pub fn fill(pool: &mut Pool, run: &Draws) {
 }
 
 #[inline]
-fn put(pool: &mut Pool, worker: u64, arrival: Arrival) {
+fn put<S, T>(pool: &mut Pool<S, T>, worker: u64, arrival: Arrival)
+where
+    S: AsMut<[u64]>,
+    T: AsMut<[Worker]>,
+{
     let put = pool.put(worker, arrival, u64::MAX).expect("a node is free");
     assert!(matches!(put, Put::Stored(_)));
 }

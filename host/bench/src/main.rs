@@ -63,11 +63,15 @@ fn run(arguments: &Arguments) -> io::Result<()> {
             Part::InnerTurn => inner_turn::run(arguments),
             Part::Hold => hold::run(arguments),
             Part::Threads => threads::run(arguments),
-            Part::NarrowCalls => programs::run_narrow(&arguments.narrow, arguments.rounds)?,
+            Part::NarrowCalls => programs::run_contest(&arguments.narrow, &[arguments.rounds])?,
             Part::SingleCalls => single_calls::run(arguments),
             Part::Growth => growth::run(arguments)?,
             Part::Tail => tail::run(arguments)?,
             Part::Echogram => echogram::run(arguments),
+            Part::Dealer => {
+                let numbers = [arguments.rounds, arguments.holds];
+                programs::run_contest(&arguments.dealer, &numbers)?;
+            }
         }
     }
     Ok(())

@@ -89,9 +89,11 @@ impl Drop for Pair<'_> {
     }
 }
 
-/// The contest of narrow calls, which prints its part of the report.
-pub fn run_narrow(program: &Path, rounds: usize) -> io::Result<()> {
-    let status = Command::new(program).arg(rounds.to_string()).status();
+/// A contest in a program of its own, which is given numbers, and prints its part of the
+/// report.
+pub fn run_contest(program: &Path, numbers: &[usize]) -> io::Result<()> {
+    let words = numbers.iter().map(usize::to_string);
+    let status = Command::new(program).args(words).status();
     let failed = match status {
         Ok(status) if status.success() => return Ok(()),
         Ok(status) => status.to_string(),

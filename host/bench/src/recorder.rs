@@ -33,9 +33,7 @@ impl Recorder {
     }
 
     pub fn record(&mut self, record: Record) -> Answer {
-        record.encode(&mut self.batch.bytes);
-        self.batch.records.push(record);
-        self.batch.turns += usize::from(matches!(record, Record::Step { .. }));
+        self.batch.push(record);
         self.program.apply(record)
     }
 
@@ -62,6 +60,12 @@ impl Recorder {
 }
 
 impl Batch {
+    pub fn push(&mut self, record: Record) {
+        record.encode(&mut self.bytes);
+        self.records.push(record);
+        self.turns += usize::from(matches!(record, Record::Step { .. }));
+    }
+
     /// All records but the turns.
     pub fn starts(&self) -> Vec<Record> {
         let records = self.records.iter();

@@ -3,7 +3,7 @@
 use wubraken::{Echogram, Shape};
 
 use crate::geometry::{Hall, GREATEST_ORDER, SAMPLES_PER_MILLISECOND};
-use crate::tracer::{Job, SLOTS};
+use crate::tracer::{Interleaving, Job, SLOTS};
 
 pub fn help() -> String {
     format!(
@@ -17,7 +17,11 @@ distance in metres, energy), an account, and the echogram, the energies added up
 time. The same options print the same.
 
 options:
-  --seed N       the order of the workers' turns (default 1)
+  --seed N       the workers' starts and turns come in a random order, made from
+                 this seed (default 1)
+  --dealer       instead of a random order, a dealer: each worker that is idle
+                 begins its next call at once, and the turns go round among those
+                 that have one in progress; not together with --seed
   --workers N    1 to {} (default 3)
   --nodes N      how many arrivals the pool has room for, 1 to {} (default 12)
   --order N      no reflections beyond this order, 0 to {GREATEST_ORDER} (default 2)
@@ -37,7 +41,7 @@ options:
 
 #[derive(Clone, Copy, Debug, PartialEq, Eq)]
 pub struct Arguments {
-    pub seed: u64,
+    pub interleaving: Interleaving,
     pub workers: u64,
     pub nodes: u64,
     pub order: u32,
@@ -48,7 +52,7 @@ pub struct Arguments {
 impl Default for Arguments {
     fn default() -> Self {
         Self {
-            seed: 1,
+            interleaving: Interleaving::AtRandom(1),
             workers: 3,
             nodes: 12,
             order: 2,
@@ -65,11 +69,16 @@ impl Arguments {
     /// None for words that make no sense.
     pub fn parse(words: &[String]) -> Option<Self> {
         let mut arguments = Self::default();
+        let (mut seed, mut is_dealt) = (None, false);
         let mut words = words.iter();
         while let Some(name) = words.next() {
+            if name == "--dealer" {
+                is_dealt = true;
+                continue;
+            }
             let number: u64 = words.next()?.parse().ok()?;
             match name.as_str() {
-                "--seed" => arguments.seed = number,
+                "--seed" => seed = Some(number),
                 "--workers" => arguments.workers = number,
                 "--nodes" => arguments.nodes = number,
                 "--order" => arguments.order = u32::try_from(number).ok()?,
@@ -77,6 +86,13 @@ impl Arguments {
                 "--slot" => arguments.slot = Some(number),
                 _ => return None,
             }
+        }
+        match (seed, is_dealt) {
+            (None, false) => {}
+            (Some(seed), false) => arguments.interleaving = Interleaving::AtRandom(seed),
+            (None, true) => arguments.interleaving = Interleaving::Dealt,
+            // A dealer leaves nothing to a seed.
+            (Some(_), true) => return None,
         }
         (arguments.order <= GREATEST_ORDER).then_some(arguments)
     }
@@ -92,7 +108,7 @@ impl Arguments {
                 buckets: BUCKETS,
                 width: self.span.saturating_mul(WIDTH_PER_MILLISECOND),
             },
-            seed: self.seed,
+            interleaving: self.interleaving,
             slot: self.slot,
         }
     }

@@ -2,7 +2,8 @@
 //!
 //! A worker takes the earliest arrival, mirrors its source once more at each
 //! wall it may, and puts the new arrivals back, until nothing is left. The
-//! workers are simulated: one host deals their turns, at random from a seed.
+//! workers are simulated: one host deals their turns, at random from a seed, or by the
+//! library's dealer, going round.
 //!
 //! An arrival is never earlier than the one it was reflected from ([`Hall`] says
 //! why), but taking one and putting back its reflections are several calls. So
@@ -31,4 +32,4 @@ pub use arguments::{help, Arguments};
 pub use geometry::{Hall, Image, GREATEST_ORDER, SAMPLES_PER_SECOND};
 pub use report::report;
 pub use trace::{Call, Event, Trace};
-pub use tracer::{trace, Job, SLOTS};
+pub use tracer::{trace, Interleaving, Job, SLOTS};

@@ -1,13 +1,22 @@
 //! The workers, and the host that deals their turns.
 
 use random::Random;
-use wubraken::{Arrival, Echogram, Pool, Refusal, Shape, Step, Taken};
+use wubraken::{Arrival, Dealer, Echogram, Pool, Refusal, Shape, Step, Taken};
 
 use crate::geometry::{Hall, Image, SAMPLES_PER_MILLISECOND};
 use crate::trace::{Call, Event, Trace};
 
 /// The echogram has so many.
 pub const SLOTS: usize = 40;
+
+/// Who acts next.
+#[derive(Clone, Copy, Debug, PartialEq, Eq)]
+pub enum Interleaving {
+    /// Any worker that can, at random from this seed, by a start or a turn.
+    AtRandom(u64),
+    /// Whoever is idle begins its next call; a dealer deals the turns.
+    Dealt,
+}
 
 /// What to trace, with which pool.
 #[derive(Clone, Copy, Debug)]
@@ -16,8 +25,7 @@ pub struct Job {
     /// No reflections beyond this order.
     pub order: u32,
     pub shape: Shape,
-    /// Of the order of turns.
-    pub seed: u64,
+    pub interleaving: Interleaving,
     /// Milliseconds of a slot of the echogram; none for the fewest that will do.
     pub slot: Option<u64>,
 }
@@ -37,13 +45,9 @@ impl Job {
 /// Traces a hall until nothing is left; a refusal is one that no worker expects.
 pub fn trace(job: &Job) -> Result<Trace, Refusal> {
     let mut host = Host::new(job)?;
-    let mut random = Random::new(job.seed);
-    loop {
-        let movable = host.movable();
-        if movable.is_empty() {
-            break;
-        }
-        host.act(random.choose(&movable))?;
+    match job.interleaving {
+        Interleaving::AtRandom(seed) => host.act_at_random(seed)?,
+        Interleaving::Dealt => host.act_as_dealt()?,
     }
     // The low half of word 0.
     host.trace.epochs = host.pool.store()[0] & u64::from(u32::MAX);
@@ -109,6 +113,44 @@ impl<'a> Host<'a> {
         })
     }
 
+    fn act_at_random(&mut self, seed: u64) -> Result<(), Refusal> {
+        let mut random = Random::new(seed);
+        loop {
+            let movable = self.movable();
+            if movable.is_empty() {
+                return Ok(());
+            }
+            self.act(random.choose(&movable))?;
+        }
+    }
+
+    /// Each run of turns ends with a call, and then its worker is idle.
+    fn act_as_dealt(&mut self) -> Result<(), Refusal> {
+        let mut dealer = Dealer::new(self.job.shape);
+        loop {
+            self.begin_all()?;
+            let dealt = match dealer.run(&mut self.pool, u64::MAX) {
+                Err(Refusal::AllIdle) => return Ok(()),
+                dealt => dealt?,
+            };
+            self.pass(dealt.turns as usize);
+            self.trace.turns += dealt.turns as usize;
+            self.answer(dealt.worker as usize, dealt.step?)?;
+        }
+    }
+
+    /// A put that is too far begins no call.
+    fn begin_all(&mut self) -> Result<(), Refusal> {
+        let next = |host: &Self| {
+            let mut movable = host.movable().into_iter();
+            movable.find(|&worker| host.workers[worker].call.is_none())
+        };
+        while let Some(worker) = next(self) {
+            self.act(worker)?;
+        }
+        Ok(())
+    }
+
     /// The workers that have a call to end, something to put or to look for.
     fn movable(&self) -> Vec<usize> {
         let can_move =
@@ -120,12 +162,9 @@ impl<'a> Host<'a> {
 
     /// One turn of a worker, or the start of its next call.
     fn act(&mut self, worker: usize) -> Result<(), Refusal> {
-        self.moment += 1;
-        if self.workers.iter().any(Worker::has_to_put) {
-            self.had_to_put = self.moment;
-        }
+        self.pass(1);
         match self.workers[worker].call {
-            Some(begun) => self.turn(worker, begun),
+            Some(_) => self.turn(worker),
             None => match self.workers[worker].in_hand.pop() {
                 Some(arrival) => self.start_put(worker, arrival),
                 None => self.start_take(worker),
@@ -133,16 +172,32 @@ impl<'a> Host<'a> {
         }
     }
 
-    fn turn(&mut self, worker: usize, begun: Begun) -> Result<(), Refusal> {
+    /// So many moments, in which nobody's hands change.
+    fn pass(&mut self, moments: usize) {
+        self.moment += moments;
+        if self.workers.iter().any(Worker::has_to_put) {
+            self.had_to_put = self.moment;
+        }
+    }
+
+    fn turn(&mut self, worker: usize) -> Result<(), Refusal> {
         self.trace.turns += 1;
-        let event = match (self.pool.step(worker as u64)?, begun.put) {
-            (Step::On, _) => return Ok(()),
+        match self.pool.step(worker as u64)? {
+            Step::On => Ok(()),
+            end => self.answer(worker, end),
+        }
+    }
+
+    /// A worker's call has ended.
+    fn answer(&mut self, worker: usize, end: Step) -> Result<(), Refusal> {
+        let begun = self.workers[worker].call.take();
+        let begun = begun.expect("the worker has begun a call");
+        let event = match (end, begun.put) {
             (Step::Stored(_), Some(arrival)) => Event::Put(arrival),
             (Step::Took(taken), None) => Event::Took(taken),
             (Step::Empty, None) => Event::Empty,
             (other, _) => panic!("{other:?} is the answer to another call"),
         };
-        self.workers[worker].call = None;
         self.trace.calls.push(Call {
             worker: worker as u64,
             ticket: begun.ticket,

@@ -1,6 +1,6 @@
 //! The echogram of a run, and its picture.
 
-use hall::{report, trace, Arguments, Hall, Image, Trace, SLOTS};
+use hall::{report, trace, Arguments, Hall, Image, Interleaving, Trace, SLOTS};
 use wubraken::Shape;
 
 const SHAPE: Shape = Shape {
@@ -15,7 +15,7 @@ const SHAPE: Shape = Shape {
 fn every_taken_arrival_is_recorded() {
     for seed in 0..20 {
         let arguments = Arguments {
-            seed,
+            interleaving: Interleaving::AtRandom(seed),
             workers: 1 + seed % 5,
             order: seed as u32 % 6,
             ..Arguments::default()

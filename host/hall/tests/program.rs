@@ -23,6 +23,21 @@ fn the_same_seed_prints_the_same() {
     assert_ne!(text(&["--seed", "1"]), text(&["--seed", "2"]));
 }
 
+/// It leaves nothing to a seed, and takes the same arrivals.
+#[test]
+fn a_dealer_instead_of_a_seed() {
+    for options in [&[][..], &["--workers", "8", "--order", "5"]] {
+        let dealt = text(&[&["--dealer"], options].concat());
+        assert_eq!(dealt, text(&[options, &["--dealer"]].concat()));
+        let (mut dealt, mut random) = (taken(&dealt), taken(&text(options)));
+        dealt.sort_unstable();
+        random.sort_unstable();
+        assert_eq!(dealt, random);
+    }
+    let alone = ["--workers", "1", "--seed", "5"];
+    assert_eq!(text(&["--dealer", "--workers", "1"]), text(&alone));
+}
+
 /// The direct sound, 6 reflections and 18 second ones; the account; then the echogram:
 /// its heading, a line for each slot, and the sums.
 #[test]
@@ -207,6 +222,9 @@ fn words_that_make_no_sense() {
         &["--order", "16"][..],
         &["--seed"],
         &["--seed", "x"],
+        &["--seed", "1", "--dealer"],
+        &["--dealer", "--seed", "1"],
+        &["--dealer", "1"],
         &["12"],
     ] {
         let output = hall(words);
@@ -219,4 +237,5 @@ fn words_that_make_no_sense() {
         help.contains("--slot MS      how many milliseconds a slot of the echogram has, 1 to 100;")
     );
     assert!(help.contains("comes after 40 slots is refused"));
+    assert!(help.contains("--dealer       instead of a random order, a dealer:"));
 }

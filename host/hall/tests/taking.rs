@@ -3,7 +3,7 @@
 use std::collections::HashMap;
 use std::iter::successors;
 
-use hall::{trace, Arguments, Call, Event, Hall, Image, Trace};
+use hall::{trace, Arguments, Call, Event, Hall, Image, Interleaving, Trace};
 use order::{find_order, Answer, End, Kind};
 use wubraken::{Arrival, Shape, Taken};
 
@@ -14,18 +14,25 @@ fn run(arguments: Arguments) -> Trace {
 /// Milliseconds: all but the tail is empty, some is behind, nothing is.
 const SPANS: [u64; 3] = [1, 100, 1_000];
 
+/// At random, and by a dealer.
+fn interleavings(seeds: u64) -> impl Iterator<Item = Interleaving> {
+    (0..seeds)
+        .map(Interleaving::AtRandom)
+        .chain([Interleaving::Dealt])
+}
+
 /// Few and many workers and nodes, with several orders of turns and several spans.
 fn runs() -> Vec<Trace> {
     let mut runs = Vec::new();
     for workers in [1, 2, 3, 8, 64] {
         for nodes in [1, 5, 12, 500] {
-            for seed in 0..6 {
+            for (interleaving, span) in interleavings(6).zip(SPANS.into_iter().cycle()) {
                 runs.push(run(Arguments {
-                    seed,
+                    interleaving,
                     workers,
                     nodes,
                     order: 3,
-                    span: SPANS[seed as usize % 3],
+                    span,
                     slot: None,
                 }));
             }
@@ -103,6 +110,54 @@ fn several_workers_may_take_out_of_order() {
         .map(|taken| taken.time)
         .collect();
     assert!(times.windows(2).any(|pair| pair[0] > pair[1]));
+}
+
+/// One worker has every turn, whoever deals them.
+#[test]
+fn one_worker_does_the_same_by_a_dealer() {
+    for nodes in [1, 12] {
+        let alone = |interleaving| {
+            run(Arguments {
+                interleaving,
+                workers: 1,
+                nodes,
+                ..Arguments::default()
+            })
+        };
+        let (dealt, other) = (alone(Interleaving::Dealt), alone(Interleaving::AtRandom(1)));
+        assert_eq!((dealt.taken(), dealt.turns), (other.taken(), other.turns));
+    }
+}
+
+/// One bucket: an empty pool is found empty in 3 turns, and a put has 5. All begin before
+/// the first turn, and whoever has ended begins again at once, a moment each.
+#[test]
+fn a_dealer_goes_round() {
+    let first_ends = |workers, count: usize| {
+        let mut job = Arguments::default().job();
+        (job.order, job.interleaving) = (0, Interleaving::Dealt);
+        (job.shape.workers, job.shape.buckets) = (workers, 1);
+        let calls = trace(&job).unwrap().calls;
+        let ends = calls.iter().map(|call| (call.worker, call.start, call.end));
+        ends.take(count).collect::<Vec<_>>()
+    };
+    // Turns of 0, 1, 0, 1, 0, 1 from moment 3 on, a start, and of 0, 1, 0.
+    assert_eq!(first_ends(2, 2), [(1, 2, 8), (0, 1, 12)]);
+    // Turns of 0, 1, 2 from moment 4 on, with a start behind each of those that end.
+    assert_eq!(first_ends(3, 3), [(1, 2, 11), (2, 3, 13), (0, 1, 18)]);
+}
+
+/// A reflection that is too far begins no call, and its worker goes on with the next.
+#[test]
+fn what_is_too_far_does_not_end_a_dealt_run() {
+    let mut job = Arguments::default().job();
+    job.hall.size[0] = 40_000;
+    (job.order, job.interleaving) = (4, Interleaving::Dealt);
+    for workers in [1, 3, 64] {
+        job.shape.workers = workers;
+        let trace = trace(&job).unwrap();
+        assert_eq!((trace.taken().len(), trace.too_far), (129 - 7, 2));
+    }
 }
 
 /// An arrival that was taken after a later one.
@@ -224,16 +279,16 @@ fn the_energy_is_of_the_distance() {
 fn there_is_a_sequential_order() {
     for workers in [1, 2, 3] {
         for nodes in [3, 12] {
-            for seed in 0..20 {
+            for interleaving in interleavings(20) {
                 let trace = run(Arguments {
-                    seed,
+                    interleaving,
                     workers,
                     nodes,
                     ..Arguments::default()
                 });
                 let mut calls: Vec<_> = trace.calls.iter().map(seen_from_outside).collect();
                 calls.sort_by_key(|call| call.start);
-                assert!(find_order(&calls).is_some(), "seed {seed}");
+                assert!(find_order(&calls).is_some(), "{interleaving:?}");
             }
         }
     }

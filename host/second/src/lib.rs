@@ -7,6 +7,7 @@
 //! [`narrow_step`] do the same, but check only what they need, and can go on with
 //! the call. [`run`] is the streaming turn-file program.
 //!
+//! [`deal`], [`deal_run`] and [`narrow_deal`] deal turns, going round among the workers.
 //! [`clear_row`], [`record`] and [`record_series`] keep an echogram of what was taken.
 //!
 //! Names of the document and their names here: put is enqueue, take is dequeue,
@@ -14,6 +15,7 @@
 //! retired, in use is live, never used is unused, answer is response.
 #![forbid(unsafe_code)]
 
+mod dealer;
 mod echogram;
 mod energy;
 mod lines;
@@ -32,6 +34,7 @@ mod worker;
 pub mod layout;
 pub mod word;
 
+pub use dealer::{deal, deal_run, narrow_deal, new_dealer, Dealt};
 pub use echogram::{clear_row, record, record_series, MAX_SLOTS, MAX_SLOT_LENGTH};
 pub use energy::energy;
 pub use lines::{push_line, Lines};

@@ -44,6 +44,7 @@ pub enum Refusal {
     EchogramOutsideLimits = 13,
     SlotPastRow = 14,
     SumTooLarge = 15,
+    AllIdle = 16,
 }
 
 impl Refusal {

@@ -57,18 +57,22 @@
 //! Threads that share a pool lock it for a step, or for a call
 //! (`examples/threads.rs`).
 //!
+//! A [`Dealer`] deals the steps for the host, going round among the workers that have a
+//! call in progress (`examples/dealer.rs`).
+//!
 //! An [`Echogram`] adds up the energies of what was taken, by their times
 //! (`examples/echogram.rs`).
 //!
 //! The library is linked from the repository's `target/staticlib`, where
-//! `rt staticlib wubraken`, `rt staticlib wubraken_batch` and `rt staticlib echogram`
-//! write it, or from the directory `WUBRAKEN_LIB_DIR`.
+//! `rt staticlib wubraken`, `rt staticlib wubraken_batch`, `rt staticlib echogram` and
+//! `rt staticlib dealer` write it, or from the directory `WUBRAKEN_LIB_DIR`.
 #![warn(missing_docs)]
 
 #[cfg(not(all(target_arch = "x86_64", target_pointer_width = "64")))]
 compile_error!("the proved library is compiled for 64-bit x86-64");
 
 mod answer;
+mod dealer;
 mod echogram;
 mod limits;
 mod pool;
@@ -78,6 +82,7 @@ mod types;
 pub mod raw;
 
 pub use answer::{BatchEnd, Put, Step, Stop, Take, Taken};
+pub use dealer::{Dealer, Dealt};
 pub use echogram::Echogram;
 pub use limits::OutsideLimits;
 pub use pool::Pool;

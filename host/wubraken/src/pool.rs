@@ -273,6 +273,12 @@ impl<S: AsMut<[u64]>, T: AsMut<[Worker]>> Pool<S, T> {
         ))
     }
 
+    /// Deals at most so many turns, behind the worker served last.
+    #[inline]
+    pub(crate) fn deal(&mut self, served: u64, turns: u64) -> raw::Dealt {
+        call!(self, wubraken_narrow_deal(self.shape, served, turns))
+    }
+
     /// Works through the records of a turn file and writes one line a record, as
     /// the whole calls of [`raw`](crate::raw) would answer them. The memory is looked through once, not
     /// once a record. An opening among the records changes the pool's shape.

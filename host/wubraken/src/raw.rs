@@ -1,12 +1,12 @@
 //! The functions of `host/include/wubraken.h`, as C declares them.
 //!
-//! `wubraken_enqueue`, `wubraken_dequeue` and `wubraken_step` look at every field
-//! of the memory they are handed. The narrow ones look at what they need, and do
-//! the same on memory that only the pool writes to.
+//! `wubraken_enqueue`, `wubraken_dequeue`, `wubraken_step`, `wubraken_deal` and
+//! `wubraken_deal_run` look at every field of the memory they are handed. The narrow
+//! ones look at what they need, and do the same on memory that only the pool writes to.
 //!
 //! They are unsafe for one reason only: pointers and lengths must be those of
-//! slices that lie apart, but for two that are only read. [`Pool`](crate::Pool) and
-//! [`Echogram`](crate::Echogram) hand in nothing else.
+//! slices that lie apart, but for two that are only read. [`Pool`](crate::Pool),
+//! [`Dealer`](crate::Dealer) and [`Echogram`](crate::Echogram) hand in nothing else.
 
 use crate::{Arrival, Shape, Worker};
 
@@ -70,6 +70,19 @@ pub mod stop {
     pub const DRAINED: u64 = 0;
     /// Fewer than [`LINE`](crate::LINE) bytes of room are left.
     pub const FULL: u64 = 1;
+}
+
+/// What dealt turns led to.
+#[repr(C)]
+#[derive(Clone, Copy, Debug, Default, PartialEq, Eq)]
+pub struct Dealt {
+    /// What the dealer remembers now: the worker served last; as handed in where no
+    /// turn was dealt.
+    pub dealer: u64,
+    /// How many turns were dealt, one refused by 11 included.
+    pub turns: u64,
+    /// Of the last turn, or the refusal by which there was no other.
+    pub answer: Answer,
 }
 
 extern "C" {
@@ -162,6 +175,41 @@ extern "C" {
         table: *mut Worker,
         records: usize,
     ) -> BatchEnd;
+
+    /// What a new dealer remembers: the last worker of the shape.
+    pub fn wubraken_new_dealer(shape: Shape) -> u64;
+
+    /// Deals one turn.
+    pub fn wubraken_deal(
+        shape: Shape,
+        dealer: u64,
+        store: *mut u64,
+        words: usize,
+        table: *mut Worker,
+        records: usize,
+    ) -> Dealt;
+
+    /// Deals at most so many turns, until one ends a call.
+    pub fn wubraken_deal_run(
+        shape: Shape,
+        dealer: u64,
+        turns: u64,
+        store: *mut u64,
+        words: usize,
+        table: *mut Worker,
+        records: usize,
+    ) -> Dealt;
+
+    /// As `wubraken_deal_run`, by narrow turns.
+    pub fn wubraken_narrow_deal(
+        shape: Shape,
+        dealer: u64,
+        turns: u64,
+        store: *mut u64,
+        words: usize,
+        table: *mut Worker,
+        records: usize,
+    ) -> Dealt;
 
     /// Clears the row of an echogram: 0, or the refusal's number.
     pub fn wubraken_clear_row(slot_length: u64, row: *mut u32, slots: usize) -> u64;

@@ -7,7 +7,8 @@ use crate::{Arrival, Echogram, Shape};
 
 /// The reasons, by their numbers. Of several the lowest is answered. What is
 /// refused, a start, a turn or a recording, changes nothing; turns before it are
-/// done. As text, a refusal says what to do.
+/// done. (A dealt turn that 11 refuses moves its dealer on.) As text, a refusal says
+/// what to do.
 ///
 /// ```
 /// let text = wubraken::Refusal::Busy.to_string();
@@ -49,6 +50,8 @@ pub enum Refusal {
     PastRow = 14,
     /// The slot, or the sum of all slots, would pass 2^32 − 1.
     SumTooLarge = 15,
+    /// No worker has a call in progress, and a dealer has no turn to deal.
+    AllIdle = 16,
 }
 
 impl Refusal {
@@ -69,6 +72,7 @@ impl Refusal {
         Refusal::BadRow,
         Refusal::PastRow,
         Refusal::SumTooLarge,
+        Refusal::AllIdle,
     ];
 
     /// The number that a `no` line prints.
@@ -104,6 +108,7 @@ impl fmt::Display for Refusal {
             Self::BadRow => return limits_of_a_row(f),
             Self::PastRow => "the slot lies past the row; use more slots, or longer ones",
             Self::SumTooLarge => "the slot or the sum of all slots would pass 4294967295; clear the row, or go on in another",
+            Self::AllIdle => "no worker has a call in progress; begin one first",
         })
     }
 }

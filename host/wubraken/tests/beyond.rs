@@ -2,7 +2,7 @@
 //! not even read: the lengths count them, but they lie behind a fence. In a
 //! batch that is the shape of which it has the most workers. Of a narrow take or
 //! turn the same holds of the other workers' records, and of the words behind the
-//! last one of its rule.
+//! last one of its rule. A narrow dealt turn goes over the others' records.
 #![cfg(target_os = "linux")]
 
 mod common;
@@ -12,13 +12,13 @@ use std::collections::BTreeSet;
 use common::both::Both;
 use common::draw::any_arrival;
 use common::fenced::Fenced;
-use common::lent::{Call, Lent};
+use common::lent::{Call, Deal, Lent};
 use common::seeds::on_seeds;
 use common::translate;
 use schedule::lent::{small_shape, Memory};
 use schedule::script::{bytes, put_arrival, take, turn};
 use schedule::Random;
-use second::layout::{field, LAST_ALLOCATED};
+use second::layout::{field, HEADS, LAST_ALLOCATED};
 use second::Record;
 use wubraken::raw::kind::{BEGUN, EMPTY, ON, REFUSED, STORED, TOOK};
 use wubraken::raw::{kind, stop};
@@ -89,6 +89,29 @@ fn single_calls_stay_inside() {
         open(lent, shape);
         let no_record = lent.records as u64;
         assert_eq!(refusals(lent, random, shape, no_record), [4; 6]);
+    });
+}
+
+#[test]
+fn dealt_turns_stay_inside() {
+    on_each_memory("beyond, dealt turns", 0, |random, shape, lent| {
+        // Such memory may lead in a circle.
+        let turns = random.below(12).into();
+        let forms = [Deal::One, Deal::Run(turns), Deal::Narrow(turns)];
+        for served in 0..shape.workers {
+            for form in forms {
+                assert_ne!(lent.deal(shape, served, form).answer.number, 4);
+            }
+        }
+        open(lent, shape);
+        for served in shape.workers..=lent.records as u64 {
+            for form in Deal::ones() {
+                assert_eq!(lent.deal(shape, served, form).answer.number, 4);
+            }
+        }
+        for form in Deal::ones() {
+            assert_eq!(lent.deal(shape, 0, form).answer.number, 16);
+        }
     });
 }
 
@@ -247,5 +270,37 @@ fn narrow_calls_touch_what_they_need() {
         }
         let all = [BEGUN, ON, STORED, TOOK, EMPTY, REFUSED];
         assert_eq!(kinds, BTreeSet::from(all));
+    });
+}
+
+/// The words behind the last one that the turn may touch lie behind a fence.
+#[test]
+fn narrow_dealt_turns_touch_what_they_need() {
+    on_seeds("beyond, narrow dealt turns", |random| {
+        let (mut store_pages, mut table_pages) = (Fenced::new(), Fenced::new());
+        let mut kinds = BTreeSet::new();
+        for _ in 0..2 * MEMORIES {
+            let small = small_shape(random);
+            let shape = translate::shape_back(small);
+            let memory = Memory::in_range(random, small);
+            let before = random.draw() % (shape.workers + 1);
+            let mut both = Both::with_spare(&memory, 0, 0);
+            let expected = both.deal(shape, before, Deal::Narrow(1));
+            let (served, table) = (expected.dealer, translate::table_back(&memory.workers));
+            let mut words = HEADS;
+            if expected.turns > 0 {
+                words = words.max(last_word(shape, &table[served as usize]) as usize + 1);
+            }
+            let store = store_pages.lend(&memory.store[..words], true);
+            let mut lent = Lent::of(store, table_pages.lend(&table, true));
+            lent.words = memory.store.len();
+            let dealt = lent.deal(shape, before, Deal::Narrow(1));
+            assert_eq!(dealt, expected);
+            assert_eq!(store, &both.store()[..words]);
+            kinds.insert((dealt.answer.kind, dealt.answer.number));
+        }
+        let ended = [ON, STORED, TOOK, EMPTY].map(|kind| (kind, 0));
+        let refused = [4, 11, 16].map(|number| (REFUSED, number));
+        assert_eq!(kinds, ended.into_iter().chain(refused).collect());
     });
 }

@@ -3,6 +3,9 @@
 #[path = "../examples/batches.rs"]
 #[allow(dead_code)]
 mod batches;
+#[path = "../examples/dealer.rs"]
+#[allow(dead_code)]
+mod dealer;
 #[path = "../examples/echogram.rs"]
 #[allow(dead_code)]
 mod echogram;
@@ -34,6 +37,15 @@ fn the_tail_is_taken_in_its_order() {
 fn an_echogram_of_what_was_taken() {
     let expected = vec![0, 0, 335_544, 0, 0, 93_724, 0, 26_843, 0, 0];
     assert_eq!(echogram::run(), Ok(expected));
+}
+
+/// The turns go round, and so do the calls: each worker puts in its turn, the latest time
+/// first, and takes in its turn.
+#[test]
+fn a_dealer_serves_one_worker_after_the_other() {
+    let times = [100, 200, 300, 400, 500, 600];
+    let expected = [0, 1, 2, 0, 1, 2].into_iter().zip(times).collect();
+    assert_eq!(dealer::run(), Ok(expected));
 }
 
 /// Among them files that end by 7 and by 8.

@@ -6,20 +6,26 @@ mod common;
 
 use common::draw::{any_arrival, any_memory, Drawn};
 use common::fenced::Fenced;
-use common::lent::{Call, Lent};
+use common::lent::{Call, Deal, Lent};
 use common::seeds::on_seeds;
 use common::{shape, translate};
 use schedule::lent::small_shape;
 use schedule::{write_damaged, Options, Random};
-use wubraken::{Pool, Shape, Worker};
+use wubraken::{Dealer, Pool, Shape, Worker};
 
 /// Calls that look at all of the memory, one after the other; all that they answer.
 fn whole_calls(random: &mut Random, shape: Shape, lent: Lent) -> String {
     let calls = (0..8).map(|_| {
         let worker = random.draw() % 4;
-        let calls = Call::of_worker(worker, any_arrival(random, shape));
-        let call = random.choose(&calls);
-        format!("{:?}", lent.call(shape, call))
+        let turns = random.below(12).into();
+        let deals = [Deal::One, Deal::Run(turns)];
+        match random.below(4) {
+            0 => format!("{:?}", lent.deal(shape, worker, random.choose(&deals))),
+            _ => {
+                let calls = Call::of_worker(worker, any_arrival(random, shape));
+                format!("{:?}", lent.call(shape, random.choose(&calls)))
+            }
+        }
     });
     calls.collect()
 }
@@ -32,6 +38,7 @@ fn all_calls<S: AsMut<[u64]>, T: AsMut<[Worker]>>(
     out: &mut [u8],
 ) -> String {
     let mut said = String::new();
+    let mut dealer = Dealer::new(pool.shape());
     for _ in 0..16 {
         let worker = random.draw() % 4;
         let shape = pool.shape();
@@ -43,6 +50,8 @@ fn all_calls<S: AsMut<[u64]>, T: AsMut<[Worker]>>(
             3 => format!("{:?}", pool.take(worker, turns)),
             4 => format!("{:?}", pool.run(worker, turns)),
             5 => format!("{:?}", pool.audit()),
+            6 => format!("{:?}", dealer.deal(pool)),
+            7 => format!("{:?}", dealer.run(pool, turns)),
             _ => format!("{:?}", pool.step(worker)),
         };
     }

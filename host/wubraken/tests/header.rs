@@ -3,7 +3,7 @@
 use std::mem::{align_of, size_of};
 
 use second::layout::{HEADS, NODE_WORDS};
-use wubraken::raw::{kind, stop, Answer, BatchEnd};
+use wubraken::raw::{kind, stop, Answer, BatchEnd, Dealt};
 use wubraken::{Arrival, Echogram, Refusal, Shape, Worker, LINE};
 
 const HEADER: &str = include_str!("../../include/wubraken.h");
@@ -70,6 +70,8 @@ fn structs_are_declared_alike() {
     check!(BatchEnd "wubraken_batch_end" 56 BatchEnd::default(),
         shape: "wubraken_shape" at 0, read: "uint64_t" at 32,
         written: "uint64_t" at 40, stop: "uint64_t" at 48);
+    check!(Dealt "wubraken_dealt" 80 Dealt::default(),
+        dealer: "uint64_t" at 0, turns: "uint64_t" at 8, answer: "wubraken_answer" at 16);
     let handle = [
         ("shape", "wubraken_shape"),
         ("*store", "uint64_t"),
@@ -90,6 +92,7 @@ fn structs_are_declared_alike() {
         [8; 3]
     );
     assert_eq!((align_of::<Arrival>(), align_of::<BatchEnd>()), (4, 8));
+    assert_eq!(align_of::<Dealt>(), 8);
 }
 
 /// `BadShape` is `BAD_SHAPE` in C.
@@ -150,10 +153,11 @@ fn texts_of_refusals_are_the_same() {
 /// What the wrapper says of it is compared above.
 #[test]
 fn number_6_is_reserved() {
-    assert!(HEADER.contains("WUBRAKEN_TOO_LATE = 6,      /* not given since Q-1 */\n"));
+    assert!(HEADER.contains("WUBRAKEN_TOO_LATE = 6,       /* not given since Q-1 */\n"));
     for list in HEADER.split("Refusals").skip(1) {
         let (list, _) = list.split_once("*/").unwrap();
-        assert!(!list.contains('6'), "{list}");
+        let mut numbers = list.split(|letter: char| !letter.is_ascii_digit());
+        assert!(numbers.all(|number| number != "6"), "{list}");
     }
 }
 
@@ -214,6 +218,7 @@ fn type_in_rust(kind: &str, is_pointer: bool) -> String {
         "wubraken_worker" => "Worker",
         "wubraken_answer" => "Answer",
         "wubraken_batch_end" => "BatchEnd",
+        "wubraken_dealt" => "Dealt",
         other => panic!("{other} is new"),
     };
     format!("{}{name}", if is_pointer { access } else { "" })
@@ -238,11 +243,12 @@ fn functions_in_rust() -> Vec<Function> {
 fn functions_are_declared_alike() {
     let functions = functions_in_c();
     assert_eq!(functions, functions_in_rust());
-    assert_eq!(functions.len(), 12);
+    assert_eq!(functions.len(), 16);
 }
 
 /// The handle has a function for each method of a pool that works on it, with the
-/// same parameters; what else a pool has, C has in its struct.
+/// same parameters, and one for the runs of a dealer; what else a pool has, C has in its
+/// struct.
 #[test]
 fn the_handle_has_the_methods_of_a_pool() {
     let methods = POOL.split("    pub fn ").skip(1).map(|text| {
@@ -256,6 +262,7 @@ fn the_handle_has_the_methods_of_a_pool() {
     let in_rust_only = ["new", "resume", "shape", "into_parts", "store", "table"];
     let mut methods: Vec<_> = methods
         .filter(|(name, _)| !in_rust_only.contains(name))
+        .chain([("deal", vec!["dealer", "turns"])])
         .collect();
     let text = without_comments(HEADER);
     let handle = text.split("wubraken_pool_").skip(1).filter_map(|text| {
@@ -273,5 +280,5 @@ fn the_handle_has_the_methods_of_a_pool() {
     methods.sort();
     handle.sort();
     assert_eq!(handle, methods);
-    assert_eq!(handle.len(), 12);
+    assert_eq!(handle.len(), 13);
 }

@@ -8,7 +8,7 @@ use common::{shape, ARRIVAL};
 use schedule::to_the_end;
 use second::layout::{field, node_at, CURRENT, STARTED};
 use second::word::MAX_COUNT;
-use wubraken::{Arrival, BatchEnd, Echogram, Pool, Put};
+use wubraken::{Arrival, BatchEnd, Dealer, Echogram, Pool, Put};
 use wubraken::{Refusal, Shape, Step, Stop, Take, Taken, Worker};
 
 const SHAPE: Shape = shape(2, 2, 2, 10);
@@ -61,6 +61,8 @@ fn every_refusal_by_name() {
     };
     assert_eq!(pool.enqueue(0, far), Err(Refusal::BadArrival));
     assert_eq!(pool.step(0), Err(Refusal::Idle));
+    let idle = Dealer::new(SHAPE).deal(&mut pool);
+    assert_eq!(idle, Err(Refusal::AllIdle));
     assert_eq!(pool.enqueue(0, ARRIVAL), Ok(1));
     assert_eq!(pool.dequeue(0), Err(Refusal::Busy));
     assert_eq!(finish(&mut pool, 0), Step::Stored(1));
@@ -112,7 +114,7 @@ fn numbers_and_sentences_of_refusals() {
         let sentence = text.strip_prefix(&format!("refused by {number}: "));
         assert!(sentences.insert(sentence.unwrap().to_string()));
     }
-    for number in [0, 16, u64::MAX, 1 << 32 | 1] {
+    for number in [0, 17, u64::MAX, 1 << 32 | 1] {
         assert_eq!(Refusal::from_number(number), None);
     }
 }

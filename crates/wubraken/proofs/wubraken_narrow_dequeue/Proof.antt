@@ -5,10 +5,11 @@ use denote.Triple.Spec.{tripleOf}
 use denote.Triple.Table.{entered, cited}
 use Rattle.arrival.specs.declared.Action.the-variants.{Dequeue}
 use Rattle.arrival.specs.declared.Request.the-variants.{Narrow}
+use Rattle.wubraken.specs.Answers.{answerOf}
 use Rattle.wubraken.specs.Results.{ActsAs, AnswersAs, answered}
 use Rattle.wubraken.proofs.Forms.{number}
 use Rattle.wubraken.proofs.Passing.{two-meets}
-use Rattle.wubraken.proofs.Asked.{dequeue-is, narrow-is}
+use Rattle.wubraken.proofs.Asked.{request, response, answer, dequeue-is, narrow-is}
 use Rattle.wubraken.proofs.requests.narrow_dequeue as make
 use Rattle.wubraken.proofs.requests.narrow_dequeue.Symbol as make-def
 use Rattle.wubraken.proofs.requests.narrow_dequeue.Symbol.{name as #make}
@@ -31,7 +32,8 @@ unfolding code.routine tablesOf
 wubraken-narrow-dequeue-spec 𝓤 H 𝓜 𝓖 𝓡 =
     entered 𝓤 H (tripleOf 𝓤 H (𝓖 .A) f.signature (f.spec 𝓤 H (𝓖 .A) (𝓜 .mem) (𝓡 .run)))
     (tables 𝓤 H 𝓜 𝓡 code.env .C) (tables 𝓤 H 𝓜 𝓡 code.env .Λ) #key code.function (code.unfolded 𝓤 H 𝓜 𝓡)
-    (two-meets 𝓤 H (𝓖 .A) (givenOf 𝓤 H 𝓜 𝓖) ActsAs AnswersAs answered (tablesOf 𝓤 H 𝓜 (tables 𝓤 H 𝓜 𝓡 code.env)) #make #callee #tell
+    (two-meets 𝓤 H (𝓖 .A) (givenOf 𝓤 H 𝓜 𝓖) request response answer answerOf ActsAs AnswersAs answered (tablesOf 𝓤 H 𝓜
+    (tables 𝓤 H 𝓜 𝓡 code.env)) #make #callee #tell
     (cited 𝓤 H (tripleOf 𝓤 H (𝓖 .A) callee.signature (callee.spec 𝓤 H (𝓖 .A) (𝓜 .mem) (𝓡 .run))) 𝓜 𝓡 code.env #callee callee-def.routine
     code.calls-wubraken·act-lent (callee-thm.met 𝓤 H 𝓜 𝓖 𝓡))
     (cited 𝓤 H (tripleOf 𝓤 H (𝓖 .A) tell.signature (tell.spec 𝓤 H (𝓖 .A) (𝓜 .mem) (𝓡 .run))) 𝓜 𝓡 code.env #tell tell-def.routine

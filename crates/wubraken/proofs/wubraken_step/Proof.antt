@@ -5,10 +5,11 @@ use denote.Triple.Spec.{tripleOf}
 use denote.Triple.Table.{entered, cited}
 use Rattle.arrival.specs.declared.Action.the-variants.{Step}
 use Rattle.arrival.specs.declared.Request.the-variants.{Whole}
+use Rattle.wubraken.specs.Answers.{answerOf}
 use Rattle.wubraken.specs.Results.{ActsAs, AnswersAs, answered}
 use Rattle.wubraken.proofs.Forms.{number}
 use Rattle.wubraken.proofs.Passing.{one-meets}
-use Rattle.wubraken.proofs.Asked.{step-is, whole-is}
+use Rattle.wubraken.proofs.Asked.{request, response, answer, step-is, whole-is}
 use Rattle.wubraken.proofs.requests.whole_step as make
 use Rattle.wubraken.proofs.requests.whole_step.Symbol as make-def
 use Rattle.wubraken.proofs.requests.whole_step.Symbol.{name as #make}
@@ -31,10 +32,12 @@ unfolding code.routine tablesOf
 wubraken-step-spec 𝓤 H 𝓜 𝓖 𝓡 =
     entered 𝓤 H (tripleOf 𝓤 H (𝓖 .A) f.signature (f.spec 𝓤 H (𝓖 .A) (𝓜 .mem) (𝓡 .run)))
     (tables 𝓤 H 𝓜 𝓡 code.env .C) (tables 𝓤 H 𝓜 𝓡 code.env .Λ) #key code.function (code.unfolded 𝓤 H 𝓜 𝓡)
-    (one-meets 𝓤 H (𝓖 .A) (givenOf 𝓤 H 𝓜 𝓖) ActsAs AnswersAs answered (tablesOf 𝓤 H 𝓜 (tables 𝓤 H 𝓜 𝓡 code.env)) #make #callee #tell
+    (one-meets 𝓤 H (𝓖 .A) (givenOf 𝓤 H 𝓜 𝓖) request response answer answerOf ActsAs AnswersAs answered (tablesOf 𝓤 H 𝓜
+    (tables 𝓤 H 𝓜 𝓡 code.env)) #make #callee #tell
     (cited 𝓤 H (tripleOf 𝓤 H (𝓖 .A) callee.signature (callee.spec 𝓤 H (𝓖 .A) (𝓜 .mem) (𝓡 .run))) 𝓜 𝓡 code.env #callee callee-def.routine
     code.calls-wubraken·act-lent (callee-thm.met 𝓤 H 𝓜 𝓖 𝓡))
     (cited 𝓤 H (tripleOf 𝓤 H (𝓖 .A) tell.signature (tell.spec 𝓤 H (𝓖 .A) (𝓜 .mem) (𝓡 .run))) 𝓜 𝓡 code.env #tell tell-def.routine
     code.calls-wubraken·answers·answer-of (tell-thm.met 𝓤 H 𝓜 𝓖 𝓡)) number (λ i. Whole (Step i))
     (cited 𝓤 H (tripleOf 𝓤 H (𝓖 .A) make.signature (make.spec 𝓤 H (𝓖 .A) (𝓜 .mem) (𝓡 .run))) 𝓜 𝓡 code.env #make make-def.routine
-    code.calls-wubraken·requests·whole-step (make-thm.met 𝓤 H 𝓜 𝓖 𝓡)) (λ i h. whole-is (Step i) (step-is i (h .1))) (f.spec 𝓤 H (𝓖 .A) (𝓜 .mem) (𝓡 .run)) refl)
+    code.calls-wubraken·requests·whole-step (make-thm.met 𝓤 H 𝓜 𝓖 𝓡)) (λ i h. whole-is (Step i) (step-is i (h .1))) (f.spec 𝓤 H (𝓖 .A) (𝓜 .mem)
+    (𝓡 .run)) refl)

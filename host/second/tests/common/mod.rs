@@ -56,6 +56,7 @@ pub fn refused(number: u8) -> Answer {
         13 => EchogramOutsideLimits,
         14 => SlotPastRow,
         15 => SumTooLarge,
+        16 => AllIdle,
         _ => panic!("no refusal is {number}"),
     };
     assert_eq!(refusal.number(), number);
@@ -72,7 +73,7 @@ pub enum Call {
 
 /// Memory with something spare behind it.
 #[derive(Clone, Debug, PartialEq)]
-pub struct Lent(Memory);
+pub struct Lent(pub Memory);
 
 impl Deref for Lent {
     type Target = Memory;
@@ -255,7 +256,7 @@ impl Lent {
     }
 
     /// Words and records beyond the shape's are as they were.
-    fn keeps_beyond(&self, before: &Self) {
+    pub fn keeps_beyond(&self, before: &Self) {
         let words = self.shape.store_words();
         let records = self.shape.workers as usize;
         assert_eq!(self.store.len(), before.store.len());

@@ -12,7 +12,7 @@ use second::{Answer, Record, Records};
 use wubraken::{raw, BatchEnd, Pool, Shape, Stop, Worker, LINE};
 
 use super::guarded::{Guarded, GARBAGE, GARBAGE_RECORD};
-use super::lent::{Call, Lent};
+use super::lent::{Call, Deal, Lent};
 use super::translate;
 
 /// What a byte of room is filled with.
@@ -85,6 +85,26 @@ impl Both {
             Call::Dequeue(worker) => self.second.take(worker as usize),
             Call::Step(worker) => self.second.turn(worker as usize),
             narrow => call_second_narrow(&mut self.second, narrow),
+        }
+    }
+
+    /// Deals turns behind the worker served last.
+    pub fn deal(&mut self, shape: Shape, served: u64, deal: Deal) -> raw::Dealt {
+        CALLS.fetch_add(1, Ordering::Relaxed);
+        let dealt = Lent::of(self.store.lent(), self.table.lent()).deal(shape, served, deal);
+        let expected = translate::dealt(self.deal_second(shape, served, deal));
+        assert_eq!(dealt, expected, "{shape:?} {served} {deal:?}");
+        self.compare(shape, deal);
+        dealt
+    }
+
+    fn deal_second(&mut self, shape: Shape, served: u64, deal: Deal) -> second::Dealt {
+        let (shape, served) = (translate::shape(shape), served as usize);
+        let (store, workers) = (&mut self.second.store, &mut self.second.workers);
+        match deal {
+            Deal::One => second::deal(shape, store, workers, served),
+            Deal::Run(turns) => second::deal_run(shape, store, workers, served, turns),
+            Deal::Narrow(turns) => second::narrow_deal(shape, store, workers, served, turns),
         }
     }
 

@@ -1,6 +1,7 @@
 //! Memory as C hands it in, and the calls on it.
 
 use wubraken::raw::{self, wubraken_dequeue, wubraken_enqueue, wubraken_open, wubraken_step};
+use wubraken::raw::{wubraken_deal, wubraken_deal_run, wubraken_narrow_deal};
 use wubraken::raw::{wubraken_narrow_dequeue, wubraken_narrow_enqueue, wubraken_narrow_step};
 use wubraken::{Arrival, Shape, Worker};
 
@@ -46,6 +47,29 @@ impl Call {
     }
 }
 
+/// How turns are dealt.
+#[derive(Clone, Copy, Debug, PartialEq, Eq)]
+pub enum Deal {
+    /// One turn, looking at all lent memory.
+    One,
+    /// At most so many of them.
+    Run(u64),
+    /// At most so many narrow ones.
+    Narrow(u64),
+}
+
+impl Deal {
+    /// All ways to deal at most so many.
+    pub fn runs(turns: u64) -> [Self; 2] {
+        [Self::Run(turns), Self::Narrow(turns)]
+    }
+
+    /// All ways to deal one.
+    pub fn ones() -> [Self; 3] {
+        [Self::One, Self::Run(1), Self::Narrow(1)]
+    }
+}
+
 /// Pointers and lengths. A test may claim more than is there, where that is not to
 /// be touched.
 #[derive(Clone, Copy)]
@@ -87,6 +111,22 @@ impl Lent {
                 }
                 Call::NarrowStep(worker, turns) => {
                     wubraken_narrow_step(shape, worker, turns, store, words, table, records)
+                }
+            }
+        }
+    }
+
+    pub fn deal(self, shape: Shape, dealer: u64, deal: Deal) -> raw::Dealt {
+        let (store, words, table, records) = (self.store, self.words, self.table, self.records);
+        // SAFETY: as above.
+        unsafe {
+            match deal {
+                Deal::One => wubraken_deal(shape, dealer, store, words, table, records),
+                Deal::Run(turns) => {
+                    wubraken_deal_run(shape, dealer, turns, store, words, table, records)
+                }
+                Deal::Narrow(turns) => {
+                    wubraken_narrow_deal(shape, dealer, turns, store, words, table, records)
                 }
             }
         }

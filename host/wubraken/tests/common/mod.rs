@@ -3,6 +3,7 @@
 
 pub mod both;
 pub mod both_rows;
+pub mod dealt;
 pub mod draw;
 #[cfg(target_os = "linux")]
 pub mod fenced;

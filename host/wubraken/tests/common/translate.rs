@@ -120,3 +120,11 @@ pub fn answer(answer: Answer) -> raw::Answer {
         },
     }
 }
+
+pub fn dealt(dealt: second::Dealt) -> raw::Dealt {
+    raw::Dealt {
+        dealer: dealt.served as u64,
+        turns: dealt.turns,
+        answer: answer(dealt.answer),
+    }
+}

@@ -2,8 +2,8 @@
 use native.Mathlib.Omega.{arith}
 use borrow.Author.Tests.{eq-eqb, ne-eqb}
 use borrow.Author.Needs.{needs}
-use Rattle.batch.proofs.turn_leaks.Statement.{statement}
-use Rattle.batch.proofs.turn_leaks.Tie as tie
+use Rattle.operation.proofs.leaks.turn_leaks.Statement.{statement}
+use Rattle.operation.proofs.leaks.turn_leaks.Tie as tie
 
 returns : tie.Need-returns
 returns c = rw (ne-eqb _ _ (c .if1 .taken))

@@ -1,7 +1,7 @@
 -- An action leaves the ranges just by a turn's leak. Assumes nothing.
 use borrow.Author.Needs.{needs}
-use Rattle.batch.proofs.action_leaks.Statement.{statement}
-use Rattle.batch.proofs.action_leaks.Tie as tie
+use Rattle.operation.proofs.leaks.action_leaks.Statement.{statement}
+use Rattle.operation.proofs.leaks.action_leaks.Tie as tie
 
 enum-told : tie.Need-enum-told
 enum-told c = search needs
