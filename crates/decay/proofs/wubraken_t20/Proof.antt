@@ -1,0 +1,73 @@
+use mathlib.Core.Path.{ap, _∙_}
+use Prim.Native.Nat.{_*_, _-_}
+use native.Mathlib.Omega.{arith}
+use Rattle.decay.specs.Decay.{t20}
+use Rattle.decay.specs.Crossings.{t20-is, square-fits, slot-is, from-start, from-higher, lower-limit, limits-rise}
+use Rattle.decay.specs.Totals.{when-refused, when-measured, sum-is, is-sound}
+use borrow.Author.Needs.{needs}
+use Rattle.decay.proofs.wubraken_t20.Statement.{statement}
+use Rattle.decay.proofs.wubraken_t20.Tie as tie
+use Rattle.decay.proofs.wubraken_t20.Reads as reads
+use Rattle.decay.proofs.wubraken_t20.Lts as lts
+use Rattle.decay.proofs.crossings.fall_to.Reads as fall-to-reads
+use Rattle.decay.proofs.total.total_of.Reads as total-of-reads
+
+total-of-requires : tie.Need-total-of-requires
+total-of-requires c κs = search needs
+
+returns : tie.Need-returns
+returns c = let row = c .before .before .before .before .args .row .now in
+    when-refused row 0 (c .before .before .total-of .result) (c .before .before .total-of .ensures) (c .if1 .taken) (t20 row)
+
+mul-square : tie.Need-mul-square
+mul-square c = let row = c .before .before .before .before .before .args .row .now in
+    let sum = sum-is row 0 (c .before .before .before .total-of .result) (c .before .before .before .total-of .ensures) (c .before .if1 .left) in
+    let sound = is-sound row 0 (c .before .before .before .total-of .result) (c .before .before .before .total-of .ensures) (c .before .if1 .left) in
+    record { fits = square-fits (c .before .before .before .total-of .result .sum) (omega (arith, sound .sum-most)) }
+
+fall-to-requires : tie.Need-fall-to-requires
+fall-to-requires c κs = let row = c .before .before .before .before .before .args .row .now in
+    let sum = sum-is row 0 (c .before .before .before .total-of .result) (c .before .before .before .total-of .ensures) (c .before .if1 .left) in
+    let sound = is-sound row 0 (c .before .before .before .total-of .result) (c .before .before .before .total-of .ensures) (c .before .if1 .left) in
+    from-start row _ _ sum (sound .sum-most)
+
+fall-to-requires-2 : tie.Need-fall-to-requires-2
+fall-to-requires-2 c κs = let row = c .before .before .before .before .before .before .args .row .now in
+    let total = c .before .before .before .before .total-of .result in
+    let sound = is-sound row 0 total (c .before .before .before .before .total-of .ensures) (c .before .before .if1 .left) in
+    from-higher row _ _ (lower-limit (total .sum * total .sum)) (sound .sum-most) (c .fall-to .result) (c .fall-to .ensures)
+
+sub-t9 : tie.Need-sub-t9
+sub-t9 c = let row = c .before .before .before .before .before .before .before .before .before .args .row .now in
+    let total = c .before .before .before .before .before .before .before .total-of .result in
+    let early = slot-is row _ (c .before .before .before .fall-to .result) (c .before .before .before .fall-to .ensures) .0 in
+    let late = slot-is row _ (c .before .before .fall-to2 .result) (c .before .before .fall-to2 .ensures) .0 in
+    omega (arith, limits-rise row _ _ (lower-limit (total .sum * total .sum)))
+
+mul-t10 : tie.Need-mul-t10
+mul-t10 c = let row = c .before .before .before .before .before .before .before .before .before .args .row .now in
+    let sound = is-sound row 0 (c .before .before .before .before .before .before .before .total-of .result) (c .before .before .before .before .before .before .before .total-of .ensures) (c .before .before .before .before .before .if1 .left) in
+    record { fits = omega (arith, sound .few, slot-is row _ (c .before .before .fall-to2 .result) (c .before .before .fall-to2 .ensures) .1) }
+
+returns-2 : tie.Need-returns-2
+returns-2 c = let row = c .before .before .before .before .before .before .before .before .before .args .row .now in
+    let total = c .before .before .before .before .before .before .before .total-of .result in
+    let is = c .before .before .before .before .before .before .before .total-of .ensures in
+    let none = c .before .before .before .before .before .if1 .left in
+    let early = slot-is row _ (c .before .before .before .fall-to .result) (c .before .before .before .fall-to .ensures) .0 in
+    let late = slot-is row _ (c .before .before .fall-to2 .result) (c .before .before .fall-to2 .ensures) .0 in
+    when-measured row 0 total is none (3 * (c .before .before .fall-to2 .result .slot - c .before .before .before .fall-to .result .slot)) (t20 row)
+    ((λ i. 3 * (late i - early i)) ∙ t20-is row (total .sum) (sum-is row 0 total is none))
+
+pub wubraken-t20-spec : {M : Type 1} → statement M
+wubraken-t20-spec =
+    tie.close
+    (tie.spec
+    total-of-requires
+    returns
+    mul-square
+    fall-to-requires
+    fall-to-requires-2
+    sub-t9
+    mul-t10
+    returns-2)
