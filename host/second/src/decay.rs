@@ -64,8 +64,8 @@ impl<'a> Decay<'a> {
             return Err(Refusal::EchogramOutsideLimits);
         }
         match sum(row) {
-            0 => Err(Refusal::SilentRow),
             whole if whole > u64::from(u32::MAX) => Err(Refusal::SumTooLarge),
+            0 => Err(Refusal::SilentRow),
             whole => Ok(Self { row, whole }),
         }
     }

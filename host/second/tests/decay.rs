@@ -227,8 +227,8 @@ fn nearly_5_decibels() {
         assert_eq!(difference, if is_down { 1 } else { -1 });
         // 25 dB are at the end.
         let row = [whole - part, part].map(|slot: u64| slot as u32);
-        let slots = if is_down { 2 - 1 } else { 2 - 2 };
-        assert_eq!(t20(&row), Ok(3 * slots), "{whole} {part}");
+        let start = if is_down { 1 } else { 2 };
+        assert_eq!(t20(&row), Ok(3 * (2 - start)), "{whole} {part}");
     }
 }
 
