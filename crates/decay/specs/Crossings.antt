@@ -1,35 +1,21 @@
--- The first slots at which so much is left: that there are such slots, and in a form that 64 bits hold.
---     Crosses, crosses                       a test holds of a slot and of none before it; so of the first, wherever it holds where nothing is left
+-- The first slots at which so little is left: that there are such slots.
+--     Crosses, crosses                       a test holds of a slot and of none before it; so of the first, if it holds where nothing is left
 --     early-crosses, square-crosses          so of the slots of early decay and of T20
---     t20-rises                              the slot at which less is left comes no earlier, so that the difference is never negative
---     within                                 R(k)² at most a limit: the test as it is computed
---     square-within, early-within            both tests are such a test, for a limit that 64 bits hold
---     early-is, t20-is                       so early decay and T20 are found by such tests
---     square-fits                            the square of the sum has 64 bits
---     placeAt                                a slot and what is left there
---     slot-is                                the slot of such a place
---     Before                                 no slot before a place passes such a test
---     from-start, from-higher                so from the start; and from where one with a higher limit was passed
---     lower-limit, limits-rise               the limits of T20: a lower one is passed no earlier
---     one-more                               one slot more that does not pass
---     left-most, slot-in-left                what is left has 32 bits, and no slot is above it
---     fallen                                 what the search has found
+--     t20-rises, t20-exact                   the slot at which less is left comes no earlier, so that the difference of T20 is never negative
 -- Assumes nothing.
-use mathlib.Core.Path.{_≡_, refl, sym, ap, subst⁻¹, _∙_}
+use mathlib.Core.Path.{_≡_, ap, _∙_}
 use mathlib.Core.List.{List}
 use mathlib.Core.Bool.{Bool, true, false}
-use Prim.Native.Nat.{ℕ, suc, _+_, _-_, _*_, _/_, _≤_, _<_}
-use native.Mathlib.Nat.{le-div-iff-mul-le, div-mul-le-self, mul-le-mul, mul-zero}
+use Prim.Native.Nat.{ℕ, _+_, _*_, _≤_, _<_}
+use native.Mathlib.Nat.{mul-zero}
 use native.Mathlib.Omega.{arith}
-use lib.Dec.{leb, lit≤}
-use lib.ListN.{length, getD}
-use borrow.Author.Tests.{leb-true, leb-false, le-leb, lt-leb}
+use lib.Dec.{leb}
+use lib.ListN.{length}
+use borrow.Author.Tests.{leb-true, le-leb}
 use Rattle.laws.specs.Tests.{by-size}
-use Rattle.laws.specs.Searching.{firstBelow, first-most, first-holds, first-not-before, first-is, first-same, first-wider}
-use Rattle.echogram.specs.Row.{sumOf, most}
-use Rattle.decay.specs.Decay.{rest, first, earlyFallen, earlyDecay, squareFallen, t20}
-use Rattle.decay.specs.Rest.{rest-all, rest-past, rest-next, rest-in-sum}
-use Rattle.decay.specs.declared.crossings.Place.{Place}
+use Rattle.laws.specs.Searching.{first-holds, first-not-before, first-wider}
+use Rattle.decay.specs.Decay.{rest, first, earlyFallen, squareFallen, t20}
+use Rattle.decay.specs.Rest.{rest-past}
 
 -- k is the first number with a test
 abbrev pub Crosses : (ℕ → Bool) → ℕ → Type 0
@@ -56,108 +42,7 @@ t20-rises row =
     (λ k e. le-leb (10 * (rest row k * rest row k)) (rest row 0 * rest row 0)
     (omega (arith, leb-true (100000 * (rest row k * rest row k)) (rest row 0 * rest row 0) e)))
 
--- ── as it is computed ──
--- R(k)² ≤ a limit
-abbrev pub within : List ℕ → ℕ → ℕ → Bool
-within row limit k = leb (rest row k * rest row k) limit
-
--- two tests that hold together
-alike : (a b c d : ℕ) → (a ≤ b → c ≤ d) → (c ≤ d → a ≤ b) → leb a b ≡ leb c d
-alike a b c d to from =
-    by-size b a (λ l. lt-leb a b l ∙ sym (by-size d c (λ m. lt-leb c d m) (λ m. absurd (omega (arith, from m)))))
-    (λ l. le-leb a b l ∙ sym (le-leb c d (to l)))
-
-pub square-within : (c : ℕ) (row : List ℕ) → 1 ≤ c → (k : ℕ) → squareFallen c row k ≡ within row (rest row 0 * rest row 0 / c) k
-square-within c row some k =
-    let x = rest row k * rest row k in
-    let n = rest row 0 * rest row 0 in
-    alike (c * x) n x (n / c) (λ h. le-div-iff-mul-le some .1 (omega arith)) (λ h. omega (arith, le-div-iff-mul-le {k = c} {x = x} {y = n} some .0 h))
-
--- 10 × R(k) ≤ R(0) where 100 × R(k)² ≤ R(0)²
-early-square : (x n : ℕ) → leb (10 * x) n ≡ leb (100 * (x * x)) (n * n)
-early-square x n =
-    alike (10 * x) n (100 * (x * x)) (n * n) (λ h. omega (arith, mul-le-mul h h))
-    (λ h. by-size n (10 * x) (λ l. absurd (let up : n + 1 ≤ 10 * x = omega arith in omega (arith, mul-le-mul up up))) (λ l. l))
-
-pub early-within : (row : List ℕ) (k : ℕ) → earlyFallen row k ≡ within row (rest row 0 * rest row 0 / 100) k
-early-within row k = early-square (rest row k) (rest row 0) ∙ square-within 100 row (omega arith) k
-
-module _ (row : List ℕ) (sum : ℕ) (whole : sum ≡ sumOf row) where
-  square-is : sum * sum ≡ rest row 0 * rest row 0
-  square-is = ap (λ x. x * x) (whole ∙ sym (rest-all row))
-
-  first-within : (c : ℕ) → 1 ≤ c → first row (within row (sum * sum / c)) ≡ first row (squareFallen c row)
-  first-within c some =
-      ap (λ n. first row (within row (n / c))) square-is
-      ∙ sym (first-same (length row) (squareFallen c row) (within row (rest row 0 * rest row 0 / c)) (λ k _. square-within c row some k))
-
-  pub early-is : 6 * first row (within row (sum * sum / 100)) ≡ earlyDecay row
-  unfolding earlyDecay
-  early-is =
-      ap (λ n. 6 * first row (within row (n / 100))) square-is
-      ∙ ap (λ k. 6 * k) (sym (first-same (length row) (earlyFallen row) (within row (rest row 0 * rest row 0 / 100)) (λ k _. early-within row k)))
-
-  pub t20-is : 3 * (first row (within row (sum * sum / 100000)) - first row (within row (sum * sum / 10))) ≡ t20 row
-  unfolding t20
-  t20-is = ap (λ k. 3 * (k - first row (within row (sum * sum / 10)))) (first-within 100000 (omega arith))
-      ∙ ap (λ k. 3 * (first row (squareFallen 100000 row) - k)) (first-within 10 (omega arith))
-
-pub square-fits : (sum : ℕ) → sum ≤ most → sum * sum < 18446744073709551616
-square-fits sum small = omega (arith, mul-le-mul small small)
-
--- ── the search ──
-abbrev pub placeAt : List ℕ → ℕ → Place
-placeAt row k = record { slot = k; rest = rest row k }
-
--- the slot of such a place lies in the row, or is its end
-pub slot-is : (row : List ℕ) (test : ℕ → Bool) (p : Place) → p ≡ placeAt row (first row test) → (p .slot ≡ first row test) × (p .slot ≤ length row)
-slot-is row test p e = let at : p .slot ≡ first row test = ap (λ (q : Place). q .slot) e in (at, omega (arith, first-most (length row) test))
-
--- a place of the row, what is left there, and that no slot before it passes
-pub record Before (row : List ℕ) (from : Place) (limit : ℕ) : Type 0 where
-  pub in-row : from .slot ≤ length row
-  pub left : from .rest ≡ rest row (from .slot)
-  pub small : sumOf row ≤ most
-  pub none : (j : ℕ) → j < from .slot → within row limit j ≡ false
-
-pub from-start : (row : List ℕ) (sum limit : ℕ) → sum ≡ sumOf row → sumOf row ≤ most → Before row (record { slot = 0; rest = sum }) limit
-from-start row sum limit e few = record { in-row = omega arith; left = e ∙ sym (rest-all row); small = few; none = λ j h. absurd (omega arith) }
-
--- a lower limit is passed no earlier
-pub lower-limit : (n : ℕ) → n / 100000 ≤ n / 10
-lower-limit n = le-div-iff-mul-le (lit≤ tt) .1 (omega (arith, div-mul-le-self n 100000))
-
-pub limits-rise : (row : List ℕ) (high low : ℕ) → low ≤ high → first row (within row high) ≤ first row (within row low)
-limits-rise row high low less =
-    first-wider (length row) (within row high) (within row low)
-    (λ k e. le-leb (rest row k * rest row k) high (omega (arith, leb-true (rest row k * rest row k) low e)))
-
-pub from-higher : (row : List ℕ) (high low : ℕ) → low ≤ high → sumOf row ≤ most → (p : Place) → p ≡ placeAt row (first row (within row high)) → Before row p low
-from-higher row high low less few p e = subst⁻¹ (λ q. Before row q low) e (record {
-  in-row = first-most (length row) (within row high);
-  left = refl;
-  small = few;
-  none = λ j h. lt-leb (rest row j * rest row j) low (omega (arith, leb-false (rest row j * rest row j) high (first-not-before (length row) (within row high) j h)));
-})
-
-module _ {row : List ℕ} {slot left limit : ℕ} (b : Before row (record { slot = slot; rest = left }) limit) where
-  pub left-most : left ≤ most
-  left-most = omega (arith, b .left, b .small, rest-in-sum row slot)
-
-  pub one-more : slot < length row → limit < left * left → Before row (record { slot = slot + 1; rest = left - getD row slot 0 }) limit
-  one-more inside high = record {
-    in-row = omega arith;
-    left = let up : suc slot ≡ slot + 1 = omega arith in omega (arith, b .left, rest-next row slot inside, ap (rest row) up);
-    small = b .small;
-    none = λ j h. by-size j slot (b .none j) (λ l. let same : j ≡ slot = omega arith in
-        subst⁻¹ (λ i. within row limit i ≡ false) same (lt-leb (rest row slot * rest row slot) limit (rw (b .left) at high)));
-  }
-
-  pub slot-in-left : slot < length row → getD row slot 0 ≤ left
-  slot-in-left inside = omega (arith, b .left, rest-next row slot inside)
-
-  pub fallen : (slot < length row → left * left ≤ limit) → _≡_ {A = Place} (record { slot = slot; rest = left }) (placeAt row (first row (within row limit)))
-  fallen here =
-      let at = first-is (length row) (within row limit) slot (b .in-row)
-      (λ l. le-leb (rest row slot * rest row slot) limit (rw (b .left) at (here l))) (b .none) in
-      (λ i. record { slot = at i; rest = (b .left ∙ ap (rest row) at) i })
+-- so no more is taken off than there is
+pub t20-exact : (row : List ℕ) → 3 * first row (squareFallen 100000 row) ≡ t20 row + 3 * first row (squareFallen 10 row)
+unfolding t20
+t20-exact row = omega (arith, t20-rises row)

@@ -1,16 +1,16 @@
 -- A row's sum with what refuses it, and what is left from a slot on, in one pass.
 --     sumRefusal                 15 and 17, by the sum
---     limits-of-slots            what slots within their limits may count on
 --     refusal-outside            outside its limits a row is refused by 13,
 --     refusal-by-sum             within them by its sum
 --     totalOf                    all three
 --     cutAt, cut-most            where a row is cut in two; no further than its end
---     parts-add, part-left       its two parts add up to its sum, and the second is what is left
---     parts-fit                  in 64 bits
+--     parts-add, parts-fit       its two parts add up to its sum, in 64 bits,
+--     part-left                  and the second is what is left
 --     total-outside, total-is    all three, outside the limits and within them
 --     Sound, sound-of            what a row that is not refused may count on
---     when-refused               what is handed back of one that is,
---     when-measured              and of one that is not
+--     number-is, when-refused    what is handed back of one that is,
+--     sum-is, rest-is, is-sound  what was added up of one that is not,
+--     when-measured              and what is handed back
 -- Assumes nothing.
 use mathlib.Core.Path.{_≡_, refl, sym, ap, _∙_}
 use mathlib.Core.List.{List, [], _∷_}
@@ -22,10 +22,11 @@ use lib.Dec.{eqb, ltb}
 use lib.ListN.{length, getD, take, drop, length-drop}
 use lib.Seq.{take-all}
 use borrow.Author.Tests.{ltb-true, ltb-false, eqb-false, ne-eqb}
-use Rattle.laws.specs.Tests.{neither, by-test, by-size}
+use Rattle.laws.specs.Tests.{by-test, by-size}
 use Rattle.laws.specs.Counting.{sum-most}
 use Rattle.laws.specs.FirstOf.{firstOf, first-none}
 use Rattle.echogram.specs.Row.{slotsOutside, sumOf, most}
+use Rattle.echogram.specs.Recorded.{slots-within}
 use Rattle.decay.specs.Decay.{rest, silent, decayTests, decayRefusal, measured}
 use Rattle.decay.specs.Rest.{sum-parts, rest-past, silent-sum}
 use Rattle.decay.specs.declared.Measured.{Measured}
@@ -33,10 +34,6 @@ use Rattle.decay.specs.declared.total.Total.{Total}
 
 unfoldable pub sumRefusal : ℕ → ℕ
 sumRefusal sum = firstOf ((15, ltb most sum) ∷ (17, eqb sum 0) ∷ [])
-
-pub limits-of-slots : (slots : ℕ) → slotsOutside slots ≡ false → (1 ≤ slots) × (slots ≤ 16384)
-limits-of-slots slots limits =
-    let (a, b) = neither (ltb slots 1) (ltb 16384 slots) limits in (ltb-false slots 1 a, ltb-false 16384 slots b)
 
 pub refusal-outside : (row : List ℕ) → slotsOutside (length row) ≡ true → decayRefusal row ≡ 13
 unfolding decayRefusal
@@ -103,7 +100,7 @@ pub sound-of : (row : List ℕ) → decayRefusal row ≡ 0 → (slotsOutside (le
 unfolding decayRefusal
 sound-of row e =
     let (limits, (fits, (heard, _))) = first-none (decayTests row) refl e in
-    let (some, few) = limits-of-slots (length row) limits in
+    let (some, few) = slots-within (length row) limits in
     let loud = eqb-false (sumOf row) 0 (sym (silent-sum row) ∙ heard) in (
       limits,
       record {
@@ -116,14 +113,11 @@ sound-of row e =
 
 -- ── what is handed back ──
 module _ (row : List ℕ) (slot : ℕ) (t : Total) (e : t ≡ totalOf row slot) where
-  number-is : t .number ≡ decayRefusal row
+  pub number-is : t .number ≡ decayRefusal row
   number-is = ap (λ (u : Total). u .number) e
 
   pub when-refused : t .number ≢ 0 → (v : ℕ) → _≡_ {A = Measured} (record { number = t .number; value = 0 }) (measured (decayRefusal row) v)
   when-refused some v = (λ i. record { number = number-is i; value = 0 }) ∙ rw (ne-eqb (decayRefusal row) 0 (λ z. some (number-is ∙ z)))
-
-  pub refused-number : t .number ≡ decayRefusal row
-  refused-number = number-is
 
   pub sum-is : t .number ≡ 0 → t .sum ≡ sumOf row
   sum-is none = ap (λ (u : Total). u .sum) e ∙ rw (sound-of row (sym number-is ∙ none) .0)

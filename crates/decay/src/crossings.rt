@@ -1,10 +1,7 @@
 // The first slot at which little enough is left.
 ghost use mathlib.Core.Path.{_≡_};
-ghost use mathlib.Core.Bool.{false};
-ghost use Prim.Native.Nat.{ℕ, _≤_, _<_};
-ghost use lib.ListN.{length};
 ghost use Rattle.decay.specs.Decay.{first};
-ghost use Rattle.decay.specs.Crossings.{within, placeAt, Before};
+ghost use Rattle.decay.specs.CrossingSearch.{squareAtMost, placeAt, Before};
 
 // A slot, or the row's end, and what is left from there on.
 pub struct Place {
@@ -15,7 +12,7 @@ pub struct Place {
 // From a place on, the first one whose rest squared is at most the limit. None before it is.
 pub fn fall_to(row: &[u32], from: Place, limit: u64) -> Place
     requires { ⌜ Before (now row) from limit ⌝ }
-    ensures { λ r. ⌜ r ≡ placeAt (now (row .entry)) (first (now (row .entry)) (within (now (row .entry)) limit)) ⌝ }
+    ensures { λ r. ⌜ r ≡ placeAt (now (row .entry)) (first (now (row .entry)) (squareAtMost (now (row .entry)) limit)) ⌝ }
 {
     let mut slot = from.slot;
     let mut rest = from.rest;

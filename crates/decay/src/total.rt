@@ -1,6 +1,5 @@
 // What refuses a row; its sum, and what is left of it from a slot on.
 ghost use mathlib.Core.Path.{_≡_};
-ghost use Prim.Native.Nat.{_≤_, _<_};
 ghost use Rattle.decay.specs.Totals.{sumRefusal, totalOf, cutAt};
 use echogram::row::slots_outside;
 use echogram::row::sum_of;

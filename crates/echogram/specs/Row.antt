@@ -1,6 +1,6 @@
 -- The echogram: a row of slots, what a recording does to it and what refuses it, in the words and the order of Q-2.
 --     Recording, slotOf                      what a recording is handed; the slot that it belongs to
---     outside                                13: the row or the slot length outside its limits
+--     slotsOutside, outside                  13: the row or the slot length outside its limits
 --     added                                  the row with an energy added to one slot
 --     pastRow, sumOf, most, tooLarge         14: the slot past the row; 15: the slot or the whole sum above 2^32 − 1
 --     slotTests, recordTests                 the refusals in their order

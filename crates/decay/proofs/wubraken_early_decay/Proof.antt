@@ -1,49 +1,54 @@
+-- `decay::wubraken_early_decay` finds one slot, by squares. Assumes nothing.
 use mathlib.Core.Path.{ap, _∙_}
 use Prim.Native.Nat.{_*_}
 use native.Mathlib.Omega.{arith}
-use Rattle.decay.specs.Decay.{earlyDecay}
-use Rattle.decay.specs.Crossings.{early-is, square-fits, slot-is, from-start}
-use Rattle.decay.specs.Totals.{when-refused, when-measured, sum-is, is-sound}
 use borrow.Author.Needs.{needs}
+use Rattle.decay.specs.Decay.{earlyDecay}
+use Rattle.decay.specs.CrossingSearch.{early-is, square-fits, slot-is, from-start}
+use Rattle.decay.specs.Totals.{when-refused, when-measured, sum-is, is-sound}
 use Rattle.decay.proofs.wubraken_early_decay.Statement.{statement}
 use Rattle.decay.proofs.wubraken_early_decay.Tie as tie
-use Rattle.decay.proofs.wubraken_early_decay.Reads as reads
-use Rattle.decay.proofs.wubraken_early_decay.Lts as lts
-use Rattle.decay.proofs.crossings.fall_to.Reads as fall-to-reads
-use Rattle.decay.proofs.total.total_of.Reads as total-of-reads
 
 total-of-requires : tie.Need-total-of-requires
 total-of-requires c κs = search needs
 
 returns : tie.Need-returns
-returns c = let row = c .before .before .before .before .args .row .now in
-    when-refused row 0 (c .before .before .total-of .result) (c .before .before .total-of .ensures) (c .if1 .taken) (earlyDecay row)
+returns c =
+    let row = c .before .before .before .before .args .row .now in
+    let total = c .before .before .total-of in
+    when-refused row 0 (total .result) (total .ensures) (c .if1 .taken) (earlyDecay row)
 
 mul-fall-to : tie.Need-mul-fall-to
-mul-fall-to c = let row = c .before .before .before .before .before .args .row .now in
-    let sum = sum-is row 0 (c .before .before .before .total-of .result) (c .before .before .before .total-of .ensures) (c .before .if1 .left) in
-    let sound = is-sound row 0 (c .before .before .before .total-of .result) (c .before .before .before .total-of .ensures) (c .before .if1 .left) in
-    record { fits = square-fits (c .before .before .before .total-of .result .sum) (omega (arith, sound .sum-most)) }
+mul-fall-to c =
+    let row = c .before .before .before .before .before .args .row .now in
+    let total = c .before .before .before .total-of in
+    let sum = sum-is row 0 (total .result) (total .ensures) (c .before .if1 .left) in
+    let sound = is-sound row 0 (total .result) (total .ensures) (c .before .if1 .left) in
+    record { fits = square-fits (total .result .sum) (omega (arith, sound .sum-most)) }
 
 fall-to-requires : tie.Need-fall-to-requires
-fall-to-requires c κs = let row = c .before .before .before .before .before .args .row .now in
-    let sum = sum-is row 0 (c .before .before .before .total-of .result) (c .before .before .before .total-of .ensures) (c .before .if1 .left) in
-    let sound = is-sound row 0 (c .before .before .before .total-of .result) (c .before .before .before .total-of .ensures) (c .before .if1 .left) in
+fall-to-requires c κs =
+    let row = c .before .before .before .before .before .args .row .now in
+    let total = c .before .before .before .total-of in
+    let sum = sum-is row 0 (total .result) (total .ensures) (c .before .if1 .left) in
+    let sound = is-sound row 0 (total .result) (total .ensures) (c .before .if1 .left) in
     from-start row _ _ sum (sound .sum-most)
 
 mul-t7 : tie.Need-mul-t7
-mul-t7 c = let row = c .before .before .before .before .before .before .args .row .now in
-    let sound = is-sound row 0 (c .before .before .before .before .total-of .result) (c .before .before .before .before .total-of .ensures) (c .before .before .if1 .left) in
+mul-t7 c =
+    let row = c .before .before .before .before .before .before .args .row .now in
+    let total = c .before .before .before .before .total-of in
+    let sound = is-sound row 0 (total .result) (total .ensures) (c .before .before .if1 .left) in
     record { fits = omega (arith, sound .few, slot-is row _ (c .fall-to .result) (c .fall-to .ensures) .1) }
 
 returns-2 : tie.Need-returns-2
-returns-2 c = let row = c .before .before .before .before .before .before .args .row .now in
-    let total = c .before .before .before .before .total-of .result in
-    let is = c .before .before .before .before .total-of .ensures in
+returns-2 c =
+    let row = c .before .before .before .before .before .before .args .row .now in
+    let total = c .before .before .before .before .total-of in
     let none = c .before .before .if1 .left in
     let slot = slot-is row _ (c .fall-to .result) (c .fall-to .ensures) .0 in
-    when-measured row 0 total is none (6 * c .fall-to .result .slot) (earlyDecay row)
-    (ap (λ k. 6 * k) slot ∙ early-is row (total .sum) (sum-is row 0 total is none))
+    when-measured row 0 (total .result) (total .ensures) none (6 * c .fall-to .result .slot) (earlyDecay row)
+    (ap (λ k. 6 * k) slot ∙ early-is row (total .result .sum) (sum-is row 0 (total .result) (total .ensures) none))
 
 pub wubraken-early-decay-spec : {M : Type 1} → statement M
 wubraken-early-decay-spec =

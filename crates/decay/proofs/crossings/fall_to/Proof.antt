@@ -1,13 +1,12 @@
+-- `decay::crossings::fall_to` goes on slot by slot, with what is left. Assumes nothing.
 use Prim.Native.Nat.{_-_}
 use native.Mathlib.Omega.{arith}
 use native.Mathlib.Nat.{mul-le-mul}
 use lib.ListN.{length}
-use Rattle.decay.specs.Crossings.{Before, left-most, one-more, slot-in-left, fallen}
 use borrow.Author.Needs.{needs}
+use Rattle.decay.specs.CrossingSearch.{Before, left-most, one-more, slot-in-left, fallen}
 use Rattle.decay.proofs.crossings.fall_to.Statement.{statement}
 use Rattle.decay.proofs.crossings.fall_to.Tie as tie
-use Rattle.decay.proofs.crossings.fall_to.Reads as reads
-use Rattle.decay.proofs.crossings.fall_to.Lts as lts
 
 abbrev Inv-loop : tie.InvT-loop
 Inv-loop row limit slot₀ rest₀ slot rest = Before row (record { slot = slot; rest = rest }) limit
@@ -22,7 +21,7 @@ mul-if1 : tie.Need-mul-if1 Inv-loop μ-loop
 mul-if1 c = let low = left-most (c .before .loop .inv) in record { fits = omega (arith, mul-le-mul low low) }
 
 returns : tie.Need-returns Inv-loop μ-loop
-returns c = fallen (c .before .before .loop .inv) (λ _. c .if1 .taken)
+returns c = fallen (c .before .before .loop .inv) (λ _. omega arith)
 
 mul-rest : tie.Need-mul-rest Inv-loop μ-loop
 mul-rest c = search needs
@@ -34,7 +33,7 @@ cast-rest : tie.Need-cast-rest Inv-loop μ-loop
 cast-rest c = omega (arith, c .shared-slice-known .given (c .before .before .before .loop .slot))
 
 sub-rest : tie.Need-sub-rest Inv-loop μ-loop
-sub-rest c = slot-in-left (c .before .before .before .loop .inv) (c .before .before .loop-test .taken)
+sub-rest c = slot-in-left (c .before .before .before .loop .inv) (omega arith)
 
 add-slot : tie.Need-add-slot Inv-loop μ-loop
 add-slot c = search needs
@@ -43,7 +42,7 @@ loop-less : tie.Need-loop-less Inv-loop μ-loop
 loop-less c = search needs
 
 loop-again : tie.Need-loop-again Inv-loop μ-loop
-loop-again c = one-more (c .before .before .before .loop .inv) (c .before .before .loop-test .taken) (c .before .if1 .left)
+loop-again c = one-more (c .before .before .before .loop .inv) (omega arith) (omega arith)
 
 returns-2 : tie.Need-returns-2 Inv-loop μ-loop
 returns-2 c = fallen (c .before .loop .inv) (λ l. absurd (omega arith))

@@ -1,14 +1,11 @@
-use mathlib.Core.Path.{refl}
+-- `decay::curve::step_at` divides once. Assumes nothing.
 use Prim.Native.Nat.{_+_, _*_, _/_}
 use native.Mathlib.Omega.{arith}
 use native.Mathlib.Nat.{mul-le-mul-right}
-use Rattle.decay.specs.Curves.{ratio-most}
 use borrow.Author.Needs.{needs}
+use Rattle.decay.specs.Curves.{ratio-most}
 use Rattle.decay.proofs.curve.step_at.Statement.{statement}
 use Rattle.decay.proofs.curve.step_at.Tie as tie
-use Rattle.decay.proofs.curve.step_at.Reads as reads
-use Rattle.decay.proofs.curve.step_at.Lts as lts
-use Rattle.decay.proofs.logs.level_by.Reads as level-by-reads
 
 div-ratio : tie.Need-div-ratio
 div-ratio c = search needs
@@ -17,15 +14,15 @@ add-t5 : tie.Need-add-t5
 add-t5 c = record { fits = omega (arith, ratio-most (c .args .scaled) (c .args .sum) (c .pre .3)) }
 
 mul-t6 : tie.Need-mul-t6
-mul-t6 c = let r = ratio-most (c .args .scaled) (c .args .sum) (c .pre .3) in
-    record { fits = omega (arith, mul-le-mul-right (c .args .sum) r) }
+mul-t6 c =
+    let most = ratio-most (c .args .scaled) (c .args .sum) (c .pre .3) in record { fits = omega (arith, mul-le-mul-right (c .args .sum) most) }
 
 level-by-requires : tie.Need-level-by-requires
 level-by-requires c κs = (c .pre .0, ratio-most (c .args .scaled) (c .args .sum) (c .pre .3))
 
 returns : tie.Need-returns
-returns c = let sum = c .before .args .sum in
-    (λ i. record { next = (c .before .args .scaled / sum + 1) * sum; level = c .level-by .ensures i })
+returns c =
+    let sum = c .before .args .sum in (λ i. record { next = (c .before .args .scaled / sum + 1) * sum; level = c .level-by .ensures i })
 
 pub step-at-spec : {M : Type 1} → statement M
 step-at-spec = tie.close (tie.spec div-ratio add-t5 mul-t6 level-by-requires returns)

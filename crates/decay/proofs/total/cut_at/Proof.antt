@@ -1,10 +1,7 @@
-use mathlib.Core.Path.{sym}
+-- `decay::total::cut_at` is the lower of the two. Assumes nothing.
 use borrow.Author.Tests.{lt-ltb, le-ltb}
-use borrow.Author.Needs.{needs}
 use Rattle.decay.proofs.total.cut_at.Statement.{statement}
 use Rattle.decay.proofs.total.cut_at.Tie as tie
-use Rattle.decay.proofs.total.cut_at.Reads as reads
-use Rattle.decay.proofs.total.cut_at.Lts as lts
 
 returns : tie.Need-returns
 returns c = rw (lt-ltb (c .before .args .slot) (c .before .args .slots) (c .if1 .taken))
