@@ -185,10 +185,9 @@ pub(crate) fn measured(measured: raw::Measured) -> Result<u64, Refusal> {
 /// The level that was measured of a slot.
 #[inline]
 pub(crate) fn level(measured: raw::Measured) -> Result<Option<u16>, Refusal> {
-    let level = self::measured(measured)?.try_into();
-    Ok(Echogram::level_of(
-        level.unwrap_or_else(|_| another_library()),
-    ))
+    let stored = self::measured(measured)?.try_into();
+    let stored = stored.unwrap_or_else(|_| another_library());
+    Ok(Echogram::level_of(stored))
 }
 
 #[inline]

@@ -352,11 +352,11 @@ fn rows_owned_boxed_or_borrowed() {
     fn crossing<R: AsRef<[u32]>>(row: R) -> Result<u64, Refusal> {
         of(row).early_decay()
     }
-    const ROW: [u32; 3] = [0, 9, 1];
-    assert_eq!(crossing(ROW), Ok(12));
-    assert_eq!(crossing(&ROW), Ok(12));
-    assert_eq!(crossing(ROW.to_vec()), Ok(12));
-    assert_eq!(crossing(Box::new(ROW) as Box<[u32]>), Ok(12));
+    static ROW: [u32; 3] = [0, 9, 1];
+    assert_eq!(crossing([0, 9, 1]), Ok(12));
+    assert_eq!(crossing(vec![0, 9, 1]), Ok(12));
+    assert_eq!(crossing(vec![0, 9, 1].into_boxed_slice()), Ok(12));
+    assert_eq!(crossing(&ROW[..]), Ok(12));
     assert_eq!(crossing(&ROW[1..]), Ok(6));
     let mut recorded = Echogram::new(3, 48).unwrap();
     assert_eq!(recorded.record(50, 9), Ok(()));
