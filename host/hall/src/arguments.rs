@@ -14,7 +14,9 @@ Traces the echoes of a shoebox hall with several workers that share one pool of
 arrivals: each takes the earliest, mirrors its source once more, and puts the
 reflections back. Prints what was taken (time in samples at 48 kHz, path, order,
 distance in metres, energy), an account, and the echogram, the energies added up by
-time. The same options print the same.
+time, with the level of each slot in decibels. In the end come early decay and T20, in
+slots and milliseconds: by first crossing, in whole slots, without the line fit of
+ISO 3382. The same options print the same.
 
 options:
   --seed N       the workers' starts and turns come in a random order, made from
