@@ -29,6 +29,11 @@ impl Decay {
             levels: levels.into_iter().map(Echogram::level_of).collect(),
         })
     }
+
+    /// The first slot from which on a tenth of the energy is left, or less.
+    pub fn first_at_a_tenth(&self) -> u64 {
+        self.early_decay / 6
+    }
 }
 
 /// Early decay and T20; or why there are none.
@@ -54,11 +59,11 @@ pub fn push_decay(text: &mut String, trace: &Trace, decay: &Result<Decay, Refusa
 }
 
 /// So that nobody takes them for the standard's.
-const HOW_CROSSED: &str =
+pub const HOW_CROSSED: &str =
     "crossings: of the sums, not of the rounded levels; in whole slots, without the line fit of ISO 3382";
 
 /// In words, for a row that has no decay.
-fn reason(refusal: Refusal) -> String {
+pub fn reason(refusal: Refusal) -> String {
     match refusal {
         Refusal::SilentRow => "nothing was recorded (17)".to_string(),
         other => other.to_string(),

@@ -23,6 +23,7 @@
 #![forbid(unsafe_code)]
 
 mod arguments;
+mod curve;
 mod decay;
 mod geometry;
 mod picture;
@@ -31,6 +32,7 @@ mod trace;
 mod tracer;
 
 pub use arguments::{help, Arguments};
+pub use curve::decay_curve;
 pub use geometry::{Hall, Image, GREATEST_ORDER, SAMPLES_PER_SECOND};
 pub use report::report;
 pub use trace::{Call, Event, Trace};

@@ -226,6 +226,7 @@ fn words_that_make_no_sense() {
         &["--seed", "1", "--dealer"],
         &["--dealer", "--seed", "1"],
         &["--dealer", "1"],
+        &["--curve"],
         &["12"],
     ] {
         let output = hall(words);
@@ -239,5 +240,6 @@ fn words_that_make_no_sense() {
     );
     assert!(help.contains("comes after 40 slots is refused"));
     assert!(help.contains("--dealer       instead of a random order, a dealer:"));
+    assert!(help.contains("--curve FILE   writes the decay curve"));
     assert!(help.contains("without the line fit of\nISO 3382."));
 }
