@@ -20,7 +20,7 @@ use Rattle.decay.specs.Decay.{rest, earlyDecay, t20, ratio, logOf, none,
 four : List ℕ
 four = 900 ∷ 90 ∷ 9 ∷ 1 ∷ []
 
-left : wordsFrom (rest four) 0 6 ≡ 1000 ∷ 100 ∷ 10 ∷ 1 ∷ 0 ∷ 0 ∷ []
+pub left : wordsFrom (rest four) 0 6 ≡ 1000 ∷ 100 ∷ 10 ∷ 1 ∷ 0 ∷ 0 ∷ []
 unfolding four wordsFrom rest sumOf
 left = refl
 
@@ -47,7 +47,7 @@ unfolding four pair earlyDecay t20 rest sumOf
 crossings = (refl, refl, refl, refl, refl, refl, refl, refl, refl, refl, refl, refl)
 
 -- 9^100 has 96 digits, 10^100 one more than a hundred, 11^100 has 105
-logs :
+pub logs :
     (logOf 1 ≡ 0)
     × (logOf 9 ≡ 95)
     × (logOf 10 ≡ 100)

@@ -22,6 +22,8 @@ use Rattle.laws.specs.Tests.{parts, by-size}
 use Rattle.laws.specs.Lists.{wordsFrom, words-at}
 use Rattle.laws.specs.Searching.{last-holds, last-last, last-is}
 use Rattle.decay.specs.Decay.{logOf, none, levelOf}
+-- the runs come first: a wrong definition is refused by them
+use Rattle.decay.specs.DecayRun.{logs}
 
 -- v is the largest whole number with 10^v ≤ r^100
 abbrev pub Largest : ℕ → ℕ → Type 0

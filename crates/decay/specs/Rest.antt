@@ -20,6 +20,8 @@ use Rattle.laws.specs.Counting.{every-at, every-all, sum-front, tally-none}
 use Rattle.echogram.specs.Row.{sumOf}
 use Rattle.echogram.specs.AtSlot.{slot-in-sum}
 use Rattle.decay.specs.Decay.{rest, silent}
+-- the runs come first: a wrong definition is refused by them
+use Rattle.decay.specs.DecayRun.{left}
 
 pub sum-first : (x : ℕ) (row : List ℕ) → sumOf (x ∷ row) ≡ x + sumOf row
 unfolding sumOf

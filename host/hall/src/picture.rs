@@ -1,23 +1,41 @@
-//! The echogram as bars, a line a slot.
+//! The echogram as bars, a line a slot, with its levels.
 
 use std::fmt::Write;
 
-use crate::geometry::SAMPLES_PER_MILLISECOND;
+use crate::decay::{decibels, push_decay, Decay};
 use crate::trace::Trace;
 
 /// Of the strongest slot. The square of a bar is to the square of this as the energies
 /// are: so weak slots show, beside strong ones.
 const MOST_MARKS: u64 = 60;
 
-/// All slots; then the sums, which are the same unless a recording was refused.
+/// All slots; then the sums, which are the same unless a recording was refused; then
+/// early decay and T20.
 pub fn push_picture(text: &mut String, trace: &Trace) {
-    let milliseconds = trace.slot_length / SAMPLES_PER_MILLISECOND;
+    let decay = Decay::of(trace);
+    push_heading(text, trace);
+    match &decay {
+        Ok(decay) => push_bars(text, trace, &decay.levels),
+        Err(_) => push_bars(text, trace, &vec![None; trace.row.len()]),
+    }
+    push_sums(text, trace);
+    push_decay(text, trace, &decay);
+}
+
+fn push_heading(text: &mut String, trace: &Trace) {
     let _ = writeln!(
         text,
-        "echogram: {} slots of {milliseconds} ms; bars by the square root of the energy, the strongest slot has {MOST_MARKS}",
-        trace.row.len()
+        "echogram: {} slots of {} ms; bars by the square root of the energy, the strongest slot has {MOST_MARKS}",
+        trace.row.len(),
+        trace.milliseconds(1)
     );
-    push_bars(text, &trace.row, milliseconds);
+    let _ = writeln!(
+        text,
+        "level: the sum from a slot to the end, rounded down to 1,024ths of all, in dB; a dash for none"
+    );
+}
+
+fn push_sums(text: &mut String, trace: &Trace) {
     let _ = writeln!(
         text,
         "sum of the slots: {}; of the energies taken: {}",
@@ -31,12 +49,13 @@ pub fn push_picture(text: &mut String, trace: &Trace) {
     );
 }
 
-fn push_bars(text: &mut String, row: &[u32], milliseconds: u64) {
-    let strongest = row.iter().copied().max().unwrap_or(0);
-    let _ = writeln!(text, " slot     ms     energy");
-    for (slot, &energy) in (0..).zip(row) {
-        let (start, bar) = (slot * milliseconds, "#".repeat(marks(energy, strongest)));
-        let line = format!("{slot:>5}{start:>7} {energy:>10} {bar}");
+fn push_bars(text: &mut String, trace: &Trace, levels: &[Option<u16>]) {
+    let strongest = trace.row.iter().copied().max().unwrap_or(0);
+    let _ = writeln!(text, " slot     ms     energy  level");
+    for ((slot, &energy), &level) in (0..).zip(&trace.row).zip(levels) {
+        let (start, level) = (trace.milliseconds(slot), decibels(level));
+        let bar = "#".repeat(marks(energy, strongest));
+        let line = format!("{slot:>5}{start:>7} {energy:>10}{level:>7} {bar}");
         let _ = writeln!(text, "{}", line.trim_end());
     }
 }

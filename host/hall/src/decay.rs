@@ -1,0 +1,80 @@
+//! How the sound of a run dies away, as the library has it.
+
+use std::fmt::Write;
+
+use wubraken::{Echogram, Refusal};
+
+use crate::trace::Trace;
+
+/// Early decay, T20 and the levels of a row.
+#[derive(Clone, Debug, PartialEq, Eq)]
+pub struct Decay {
+    /// In slots.
+    pub early_decay: u64,
+    /// In slots.
+    pub t20: u64,
+    /// Of each slot: tenths of a decibel below the start.
+    pub levels: Vec<Option<u16>>,
+}
+
+impl Decay {
+    /// A row in which nothing was recorded is refused (17).
+    pub fn of(trace: &Trace) -> Result<Self, Refusal> {
+        let echogram = Echogram::resume(&trace.row[..], trace.slot_length);
+        let mut levels = vec![Echogram::NO_LEVEL; trace.row.len()];
+        echogram.decay_curve(&mut levels)?;
+        Ok(Self {
+            early_decay: echogram.early_decay()?,
+            t20: echogram.t20()?,
+            levels: levels.into_iter().map(Echogram::level_of).collect(),
+        })
+    }
+
+    /// The first slot from which on a tenth of the energy is left, or less.
+    pub fn first_at_a_tenth(&self) -> u64 {
+        self.early_decay / 6
+    }
+}
+
+/// Early decay and T20; or why there are none.
+pub fn push_decay(text: &mut String, trace: &Trace, decay: &Result<Decay, Refusal>) {
+    let decay = match decay {
+        Ok(decay) => decay,
+        Err(refusal) => {
+            let _ = writeln!(text, "no early decay and no T20: {}", reason(*refusal));
+            return;
+        }
+    };
+    let _ = writeln!(
+        text,
+        "early decay: {} (6 times the first crossing of -10 dB)",
+        trace.length(decay.early_decay)
+    );
+    let _ = writeln!(
+        text,
+        "T20: {} (3 times the way from the first crossing of -5 dB to that of -25 dB)",
+        trace.length(decay.t20)
+    );
+    let _ = writeln!(text, "{HOW_CROSSED}");
+}
+
+/// So that nobody takes them for the standard's.
+pub const HOW_CROSSED: &str =
+    "crossings: of the sums, not of the rounded levels; in whole slots, without the line fit of ISO 3382";
+
+/// In words, for a row that has no decay.
+pub fn reason(refusal: Refusal) -> String {
+    match refusal {
+        Refusal::SilentRow => "nothing was recorded (17)".to_string(),
+        other => other.to_string(),
+    }
+}
+
+/// A level in decibels; a dash for none.
+pub fn decibels(level: Option<u16>) -> String {
+    match level {
+        None => "-".to_string(),
+        Some(0) => "0.0".to_string(),
+        Some(tenths) => format!("-{}.{}", tenths / 10, tenths % 10),
+    }
+}
