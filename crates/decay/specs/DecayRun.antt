@@ -20,7 +20,7 @@ use Rattle.decay.specs.Decay.{rest, earlyDecay, t20, ratio, logOf, none,
 four : List ℕ
 four = 900 ∷ 90 ∷ 9 ∷ 1 ∷ []
 
-pub left : wordsFrom (rest four) 0 6 ≡ 1000 ∷ 100 ∷ 10 ∷ 1 ∷ 0 ∷ 0 ∷ []
+left : wordsFrom (rest four) 0 6 ≡ 1000 ∷ 100 ∷ 10 ∷ 1 ∷ 0 ∷ 0 ∷ []
 unfolding four wordsFrom rest sumOf
 left = refl
 

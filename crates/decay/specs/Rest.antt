@@ -21,7 +21,7 @@ use Rattle.echogram.specs.Row.{sumOf}
 use Rattle.echogram.specs.AtSlot.{slot-in-sum}
 use Rattle.decay.specs.Decay.{rest, silent}
 -- the runs come first: a wrong definition is refused by them
-use Rattle.decay.specs.DecayRun.{left}
+use Rattle.decay.specs.DecayRun.{logs}
 
 pub sum-first : (x : ℕ) (row : List ℕ) → sumOf (x ∷ row) ≡ x + sumOf row
 unfolding sumOf
