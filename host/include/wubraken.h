@@ -392,9 +392,8 @@ typedef struct {
  * Refusals: 13, 15, 17. */
 wubraken_measured wubraken_early_decay(const uint32_t *row, size_t slots);
 
-/* T20, in slots: 3 times the difference between the first k with
- * 100000 * R(k)^2 <= R(0)^2 and the first with 10 * R(k)^2 <= R(0)^2.
- * Refusals: 13, 15, 17. */
+/* T20, in slots: 3 * (b - a), where a is the first slot with 10 * R(a)^2 <= R(0)^2,
+ * and b the first with 100000 * R(b)^2 <= R(0)^2. Refusals: 13, 15, 17. */
 wubraken_measured wubraken_t20(const uint32_t *row, size_t slots);
 
 /* The level of a slot, which may be any number: past the end there is none, and the

@@ -50,9 +50,8 @@ impl<R: AsRef<[u32]>> Echogram<R> {
         answer::measured(unsafe { raw::wubraken_early_decay(row.as_ptr(), row.len()) })
     }
 
-    /// T20, in slots: 3 times the difference between the first k with
-    /// 100,000 × R(k)² ≤ R(0)² and the first with 10 × R(k)² ≤ R(0)²; or refusal 13, 15
-    /// or 17.
+    /// T20, in slots: 3 × (b − a), where a is the first slot with 10 × R(a)² ≤ R(0)², and b
+    /// the first with 100,000 × R(b)² ≤ R(0)²; or refusal 13, 15 or 17.
     pub fn t20(&self) -> Result<u64, Refusal> {
         let row = self.slots();
         // SAFETY: a slice, only read.
