@@ -371,14 +371,14 @@ uint64_t wubraken_record_series(uint64_t slot_length,
                                 uint8_t *answers, size_t answers_count,
                                 uint32_t *row, size_t slots);
 
-/* The decay of a row, measured from its start: R(k) is the sum of the slots from slot
- * k to the end, 0 past the last. The row is only read, and may lie where nobody can
+/* The decay of a row, measured from its start: R(k) is what slot k and all behind it
+ * add up to, 0 past the last. The row is only read, and may lie where nobody can
  * write. The slot length does not count; what is measured in slots is, times the slot
  * length, in samples.
  *
  * The level of slot k says how far R(k) lies below R(0), in tenths of a decibel. With
  * r = 1024 * R(k) / R(0), rounded down, it is L(1024) - L(r), from 0 to 301; L(r) is
- * the largest whole v with 10^v <= r^100. For r = 0 there is no level. */
+ * the greatest v with 10^v <= r^100. For r = 0 there is no level. */
 
 /* Stands for the level of a slot that has none; print a dash. */
 enum { WUBRAKEN_NO_LEVEL = 65535 };

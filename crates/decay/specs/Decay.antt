@@ -13,7 +13,7 @@
 -- Assumes nothing.
 use mathlib.Core.List.{List, [], _∷_, _++_}
 use mathlib.Core.Bool.{Bool, cond}
-use Prim.Native.Nat.{ℕ, _+_, _-_, _*_, _/_, _^_}
+use Prim.Native.Nat.{ℕ, _-_, _*_, _/_, _^_}
 use lib.Dec.{eqb, leb, ltb}
 use lib.ListN.{length, getD, drop}
 use Rattle.laws.specs.Counting.{every}
@@ -23,7 +23,7 @@ use Rattle.laws.specs.Searching.{firstBelow, lastUpTo}
 use Rattle.echogram.specs.Row.{slotsOutside, sumOf, most}
 use Rattle.decay.specs.declared.Measured.{Measured}
 
--- R(k): the sum of the slots from k to the end; past the last there is none, and the sum is 0
+-- R(k): what slot k and all behind it add up to; past the last slot there is none, and the sum is 0
 unfoldable pub rest : List ℕ → ℕ → ℕ
 rest row k = sumOf (drop k row)
 
@@ -49,7 +49,7 @@ t20 row = 3 * (first row (squareFallen 100000 row) - first row (squareFallen 10 
 unfoldable pub ratio : List ℕ → ℕ → ℕ
 ratio row k = 1024 * rest row k / rest row 0
 
--- L(r): the largest whole v with 10^v ≤ r^100. A ratio is below 10^4, so there is none above 400.
+-- L(r): the largest v for which 10^v is at most r^100. A ratio is below 10^4, so none is above 400.
 unfoldable pub logOf : ℕ → ℕ
 logOf r = lastUpTo 400 (λ v. leb (10 ^ v) (r ^ 100))
 

@@ -7,7 +7,7 @@
 --     curve-length                           it never gets another length
 --     curve-at, curve-beyond                 the levels one by one; and the places behind them as they were
 -- Assumes nothing.
-use mathlib.Core.Path.{_≡_, refl, sym, ap, _∙_}
+use mathlib.Core.Path.{_≡_, refl, ap, _∙_}
 use mathlib.Core.List.{List, [], _∷_, _++_}
 use mathlib.Core.Bool.{Bool, true, false}
 use mathlib.Core.Logic.{_≢_}

@@ -1,5 +1,5 @@
 -- L(r), the logarithms of the ratios: that they are the largest, and one test for all entries of a table.
---     Largest, log-largest       L(r) is the largest whole v with 10^v ≤ r^100, of every ratio but 0
+--     Largest, log-largest       10^L(r) is at most r^100, and that of no greater number is; of every ratio but 0
 --     isLog                      the test of one entry: 10^v ≤ r^100 < 10^(v + 1)
 --     log-is                     an entry that passes it is L(r)
 --     areLogs, logs-are          the test of all entries, which is computed; carried to each of them, the table is the list of the L(r)
@@ -20,7 +20,7 @@ use lib.ListN.{length, getD}
 use borrow.Author.Tests.{leb-true, le-leb, ltb-true, ne-eqb}
 use Rattle.laws.specs.Tests.{parts, by-size}
 use Rattle.laws.specs.Lists.{wordsFrom, words-at}
-use Rattle.laws.specs.Searching.{last-holds, last-last, last-is}
+use Rattle.laws.specs.Searching.{last-holds, last-last}
 use Rattle.decay.specs.Decay.{logOf, none, levelOf}
 -- the runs come first: a wrong definition is refused by them
 use Rattle.decay.specs.DecayRun.{logs}

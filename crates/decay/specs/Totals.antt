@@ -14,7 +14,7 @@
 -- Assumes nothing.
 use mathlib.Core.Path.{_≡_, refl, sym, ap, _∙_}
 use mathlib.Core.List.{List, [], _∷_}
-use mathlib.Core.Bool.{Bool, true, false, cond}
+use mathlib.Core.Bool.{true, false, cond}
 use mathlib.Core.Logic.{_≢_}
 use Prim.Native.Nat.{ℕ, _+_, _-_, _≤_, _<_}
 use native.Mathlib.Omega.{arith}
@@ -27,7 +27,7 @@ use Rattle.laws.specs.Counting.{sum-most}
 use Rattle.laws.specs.FirstOf.{firstOf, first-none}
 use Rattle.echogram.specs.Row.{slotsOutside, sumOf, most}
 use Rattle.echogram.specs.Recorded.{slots-within}
-use Rattle.decay.specs.Decay.{rest, silent, decayTests, decayRefusal, measured}
+use Rattle.decay.specs.Decay.{rest, decayTests, decayRefusal, measured}
 use Rattle.decay.specs.Rest.{sum-parts, rest-past, silent-sum}
 use Rattle.decay.specs.declared.Measured.{Measured}
 use Rattle.decay.specs.declared.total.Total.{Total}

@@ -1,4 +1,4 @@
-// The logarithms of the ratios 1 to 1,024: entry r - 1 is L(r), the largest whole v with 10^v <= r^100.
+// The logarithms of the ratios 1 to 1,024: entry r - 1 is L(r), the greatest v for which 10^v is at most r^100.
 ghost use mathlib.Core.Path.{_≡_};
 ghost use Prim.Native.Nat.{_≤_};
 ghost use Rattle.laws.specs.Lists.{wordsFrom};

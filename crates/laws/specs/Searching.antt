@@ -8,11 +8,10 @@
 --     first-same                     two tests alike below n
 --     first-wider                    where one test implies the other, it comes no earlier
 --     last-holds, last-last          the test holds of it, if of 0; and of none behind it
---     last-is                        so it is the only such number
 -- Assumes nothing.
 use mathlib.Core.Path.{_≡_, refl, sym, ap, _∙_}
 use mathlib.Core.Bool.{Bool, true, false, cond}
-use Prim.Native.Nat.{ℕ, zero, suc, _+_, _<_, _≤_}
+use Prim.Native.Nat.{ℕ, zero, suc, _<_, _≤_}
 use native.Mathlib.Omega.{arith}
 use Rattle.laws.specs.Tests.{never, by-size}
 
@@ -90,6 +89,3 @@ last-last (suc n) f j l h = go (f (suc n)) refl (λ m. last-last n f j m h)
     go true e rec = l
     go false e rec =
         by-size j (suc n) (λ m. rec (omega arith)) (λ m. let same : j ≡ suc n = omega arith in never (sym e ∙ ap f (sym same) ∙ h))
-
-pub last-is : (n : ℕ) (f : ℕ → Bool) (k : ℕ) → k ≤ n → f k ≡ true → ((j : ℕ) → f j ≡ true → j ≤ k) → f 0 ≡ true → k ≡ lastUpTo n f
-last-is n f k most here none zeroth = omega (arith, last-last n f k most here, none (lastUpTo n f) (last-holds n f zeroth))

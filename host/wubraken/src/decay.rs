@@ -20,8 +20,8 @@ impl Echogram {
     }
 }
 
-/// What is measured of a row, from its start. R(k) is the sum of the slots from slot k to
-/// the end, 0 past the last. The row is only read. The slot length does not count; what
+/// What is measured of a row, from its start. R(k) is what slot k and all behind it add up
+/// to, 0 past the last. The row is only read. The slot length does not count; what
 /// is measured in slots is, times the slot length, in samples.
 ///
 /// Refused are rows outside their limits (13), with a sum above 2^32 − 1 (15), and with
@@ -63,7 +63,7 @@ impl<R: AsRef<[u32]>> Echogram<R> {
     /// [`Echogram::decay_curve`] is faster.
     ///
     /// With r = 1,024 × R(k) / R(0), rounded down, it is L(1,024) − L(r), from 0 to 301;
-    /// L(r) is the largest whole v with 10^v ≤ r^100. For r = 0, and so past the end, there
+    /// L(r) is the greatest v with 10^v ≤ r^100. For r = 0, and so past the end, there
     /// is none.
     ///
     /// ```

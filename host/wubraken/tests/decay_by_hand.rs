@@ -106,7 +106,7 @@ fn compare(left: &[u32], right: &[u32]) -> Ordering {
     left.len().cmp(&right.len()).then(highest_first)
 }
 
-/// L(r) is the largest whole v with 10^v ≤ r^100: 10^(v + 1) is above. L(1,024) is 301.
+/// L(r) is the greatest v with 10^v ≤ r^100: 10^(v + 1) is above. L(1,024) is 301.
 #[test]
 fn the_whole_table_by_its_rule() {
     let mut powers_of_ten = vec![vec![1]];
