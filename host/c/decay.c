@@ -33,7 +33,7 @@ static void print_level(uint64_t level)
     if (level == WUBRAKEN_NO_LEVEL)
         puts("-");
     else
-        printf("%" PRIu64 ".%" PRIu64 " dB\n", level / 10, level % 10);
+        printf("%" PRIu64 ".%" PRIu64 " dB below\n", level / 10, level % 10);
 }
 
 static void measure(const uint32_t *row, size_t slots)

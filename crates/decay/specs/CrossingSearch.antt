@@ -6,7 +6,7 @@
 --     placeAt, slot-is                       a slot and what is left there; the slot of such a place
 --     Before                                 no slot before a place passes such a test
 --     from-start                             so from the start,
---     lower-limit, limits-rise               and, since a lower limit is passed no earlier,
+--     lower-limit, slots-rise                and, since a lower limit is passed no earlier,
 --     from-higher                            from where a higher one was passed
 --     left-most, slot-in-left                what is left has 32 bits, and no slot is above it
 --     one-more                               one slot more that does not pass
@@ -16,9 +16,9 @@ use mathlib.Core.Path.{_≡_, refl, sym, ap, subst⁻¹, _∙_}
 use mathlib.Core.List.{List}
 use mathlib.Core.Bool.{Bool, false}
 use Prim.Native.Nat.{ℕ, suc, _+_, _-_, _*_, _/_, _≤_, _<_}
-use native.Mathlib.Nat.{le-div-iff-mul-le, div-mul-le-self, mul-le-mul}
+use native.Mathlib.Nat.{le-div-iff-mul-le, div-mul-le-self, mul-le-mul, mul-le-mul-left}
 use native.Mathlib.Omega.{arith}
-use lib.Dec.{leb, lit≤}
+use lib.Dec.{leb}
 use lib.ListN.{length, getD}
 use borrow.Author.Tests.{leb-true, leb-false, le-leb, lt-leb}
 use Rattle.laws.specs.Tests.{by-size}
@@ -95,13 +95,23 @@ pub from-start : (row : List ℕ) (sum limit : ℕ) → sum ≡ sumOf row → su
 from-start row sum limit e few = record { in-row = omega arith; left = e ∙ sym (rest-all row); small = few; none = λ j h. absurd (omega arith) }
 
 -- a lower limit is passed no earlier
-pub lower-limit : (n : ℕ) → n / 100000 ≤ n / 10
-lower-limit n = le-div-iff-mul-le (lit≤ tt) .1 (omega (arith, div-mul-le-self n 100000))
+pub lower-limit : (n c d : ℕ) → 1 ≤ c → c ≤ d → n / d ≤ n / c
+lower-limit n c d some more = le-div-iff-mul-le some .1 (omega (arith, div-mul-le-self n d, mul-le-mul-left (n / d) more))
 
-pub limits-rise : (row : List ℕ) (high low : ℕ) → low ≤ high → first row (squareAtMost row high) ≤ first row (squareAtMost row low)
+limits-rise : (row : List ℕ) (high low : ℕ) → low ≤ high → first row (squareAtMost row high) ≤ first row (squareAtMost row low)
 limits-rise row high low less =
     first-wider (length row) (squareAtMost row high) (squareAtMost row low)
     (λ k e. le-leb (rest row k * rest row k) high (omega (arith, leb-true (rest row k * rest row k) low e)))
+
+pub slots-rise : (row : List ℕ) (n c d : ℕ) (p q : Place)
+    → p ≡ placeAt row (first row (squareAtMost row (n / c))) → q ≡ placeAt row (first row (squareAtMost row (n / d)))
+    → 1 ≤ c → c ≤ d → p .slot ≤ q .slot
+slots-rise row n c d p q e f some more = omega (
+  arith,
+  slot-is row (squareAtMost row (n / c)) p e .0,
+  slot-is row (squareAtMost row (n / d)) q f .0,
+  limits-rise row (n / c) (n / d) (lower-limit n c d some more),
+)
 
 pub from-higher : (row : List ℕ) (high low : ℕ) → low ≤ high → sumOf row ≤ most
     → (p : Place) → p ≡ placeAt row (first row (squareAtMost row high)) → Before row p low

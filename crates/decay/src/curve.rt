@@ -10,7 +10,7 @@ ghost use Rattle.decay.specs.Curves.{stepAt};
 use super::logs::level_by;
 use super::logs::log_table;
 
-// A level, and the least 1,024-fold rest that has another.
+// The level of a ratio, and the least 1,024-fold rest that has another ratio.
 pub struct Step {
     pub next: u64,
     pub level: u16,

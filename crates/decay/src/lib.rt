@@ -88,7 +88,7 @@ pub extern "C" fn wubraken_level(slot: u64, row: &[u32]) -> Measured
     }
 }
 
-// The levels of all slots, one place each, in one pass from the end. The answer is 0, or the number of the refusal.
+// The levels of all slots, one place each; behind the sum, one pass from the end. The answer is 0, or the number of the refusal.
 #[no_mangle]
 pub extern "C" fn wubraken_decay_curve(row: &[u32], levels: &mut [u16]) -> u64
     ensures { λ r. ⌜ (r ≡ curveRefusal (now (row .entry)) (now (levels .entry)))

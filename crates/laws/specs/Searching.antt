@@ -1,18 +1,20 @@
 -- The first number that a test holds of, and the last, within a bound.
 --     firstBelow                     the first number below n; n where there is none
 --     lastUpTo                       the last number up to n; 0 where there is none
---     first-most                     it is at most n,
+--     by-hand                        both among the numbers to 5
+--     first-most                     the first is at most n,
 --     first-holds                    the test holds of it, unless it is n,
 --     first-not-before               and of none before it;
 --     first-is                       so it is the only such number
 --     first-same                     two tests alike below n
 --     first-wider                    where one test implies the other, it comes no earlier
---     last-holds, last-last          the test holds of it, if of 0; and of none behind it
+--     last-holds, last-last          the test holds of the last, if of 0; and of none behind it
 -- Assumes nothing.
 use mathlib.Core.Path.{_≡_, refl, sym, ap, _∙_}
 use mathlib.Core.Bool.{Bool, true, false, cond}
 use Prim.Native.Nat.{ℕ, zero, suc, _<_, _≤_}
 use native.Mathlib.Omega.{arith}
+use lib.Dec.{leb}
 use Rattle.laws.specs.Tests.{never, by-size}
 
 -- the first k below n with f k; n where there is none
@@ -24,6 +26,15 @@ firstBelow (suc n) f = cond (f 0) 0 (suc (firstBelow n (λ k. f (suc k))))
 abbrev pub lastUpTo : ℕ → (ℕ → Bool) → ℕ
 lastUpTo zero f = 0
 lastUpTo (suc n) f = cond (f (suc n)) (suc n) (lastUpTo n f)
+
+by-hand :
+    (firstBelow 5 (λ k. leb 3 k) ≡ 3)
+    × (firstBelow 5 (λ k. leb k 3) ≡ 0)
+    × (firstBelow 5 (λ _. false) ≡ 5)
+    × (lastUpTo 5 (λ k. leb k 3) ≡ 3)
+    × (lastUpTo 5 (λ k. leb 3 k) ≡ 5)
+    × (lastUpTo 5 (λ _. false) ≡ 0)
+by-hand = (refl, refl, refl, refl, refl, refl)
 
 -- ── the first ──
 pub first-most : (n : ℕ) (f : ℕ → Bool) → firstBelow n f ≤ n

@@ -8,7 +8,7 @@ use wubraken::Echogram;
 
 use crate::arguments::Arguments;
 use crate::echogram::time_passes;
-use crate::report::{heading, row, Target};
+use crate::report::{compared, heading, row, Target};
 use crate::timing::{best, cycles_in, keep, nanoseconds_each, time, unknown};
 
 /// What a piece of a contest takes, about: so many microseconds.
@@ -90,6 +90,21 @@ fn against_passes(arguments: &Arguments, name: &str, slots: &[u32]) {
         "    allowed: {PASSES} passes of {pass:.1} ns, and divisions of {divisions:.1} ns; it takes \
          {passes:.2} passes"
     );
+    // Of the divisions allowed the curve makes one for each new ratio.
+    let made = changes(&left);
+    let fewer = PASSES as f64 * pass + divisions * made as f64 / left.len() as f64;
+    println!(
+        "    were only the {made} divisions allowed that it makes: ratio {:.2}",
+        curve / fewer
+    );
+}
+
+/// How often the ratio at a slot is another than at the slot behind it; behind the last
+/// it is 0.
+fn changes(left: &[u64]) -> usize {
+    let ratios: Vec<u64> = left.iter().map(|&part| 1_024 * part / left[0]).collect();
+    let behind = ratios.iter().skip(1).chain(&[0]);
+    ratios.iter().zip(behind).filter(|(a, b)| a != b).count()
 }
 
 /// What is still to come at each slot.
@@ -129,7 +144,7 @@ fn against_second(arguments: &Arguments, name: &str, slots: &[u32], sides: Sides
         }],
     )
     .map(|time| nanoseconds_each(time, count));
-    row(name, each, "ns", each[1] / each[0], Target::AtLeast(1.0));
+    compared(name, each, "ns", each[1] / each[0]);
 }
 
 /// Row, and a place for the level of each slot; it answers what else it measures.

@@ -17,8 +17,8 @@ Traces the echoes of a shoebox hall with several workers that share one pool of
 arrivals: each takes the earliest, mirrors its source once more, and puts the
 reflections back. Prints what was taken (time in samples at 48 kHz, path, order,
 distance in metres, energy), an account, and the echogram, the energies added up by
-time, with the level of each slot in decibels. In the end come early decay and T20, in
-slots and milliseconds: by first crossing, in whole slots, without the line fit of
+time, with the level of each slot in decibels. At the end come early decay and T20, in
+slots and milliseconds: by first crossings, in whole slots, with no line fitted as in
 ISO 3382. The same options print the same.
 
 options:

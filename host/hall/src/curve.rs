@@ -2,12 +2,12 @@
 
 use std::fmt::Write;
 
-use crate::decay::{reason, Decay, HOW_CROSSED};
+use crate::decay::{self, reason, Decay};
 use crate::geometry::SAMPLES_PER_MILLISECOND;
 use crate::trace::Trace;
 
 const WIDTH: f64 = 840.0;
-const HEIGHT: f64 = 516.0;
+const HEIGHT: f64 = 524.0;
 const MARGIN: f64 = 16.0;
 /// The field of the curve.
 const LEFT: f64 = 56.0;
@@ -48,7 +48,7 @@ pub fn decay_curve(trace: &Trace) -> String {
         }
     }
     field.push_axes(&mut svg);
-    push_notes(&mut svg);
+    push_notes(&mut svg, trace);
     svg.push_str("</svg>\n");
     svg
 }
@@ -99,16 +99,15 @@ fn push_crossed_levels(svg: &mut String) {
     }
 }
 
-fn push_notes(svg: &mut String) {
-    let notes = [
-        "level: the sum from a slot to the end, rounded down to 1,024ths of all, in dB; \
-         dashed where there is none",
-        "early decay: 6 times the first crossing of −10 dB; T20: 3 times the way from the first \
-         crossing of −5 dB to that of −25 dB",
-        HOW_CROSSED,
+fn push_notes(svg: &mut String, trace: &Trace) {
+    let mut notes = vec![
+        format!("{}; dashed where the levels end", decay::LEVEL),
+        format!("early decay: {}; T20: {}", decay::EARLY_DECAY, decay::T20),
+        decay::CROSSINGS.to_string(),
     ];
-    for (y, note) in [476.0, 491.0, 506.0].into_iter().zip(notes) {
-        push_text(svg, (MARGIN, y), "start", 11, GREY, note);
+    notes.extend(decay::cut(trace));
+    for (y, note) in [472.0, 486.0, 500.0, 514.0].into_iter().zip(notes) {
+        push_text(svg, (MARGIN, y), "start", 11, GREY, &note);
     }
 }
 

@@ -26,7 +26,7 @@ impl Decay {
         Ok(Self {
             early_decay: echogram.early_decay()?,
             t20: echogram.t20()?,
-            levels: levels.into_iter().map(Echogram::level_of).collect(),
+            levels: levels.into_iter().map(Echogram::level_from).collect(),
         })
     }
 
@@ -45,22 +45,36 @@ pub fn push_decay(text: &mut String, trace: &Trace, decay: &Result<Decay, Refusa
             return;
         }
     };
-    let _ = writeln!(
-        text,
-        "early decay: {} (6 times the first crossing of -10 dB)",
-        trace.length(decay.early_decay)
-    );
-    let _ = writeln!(
-        text,
-        "T20: {} (3 times the way from the first crossing of -5 dB to that of -25 dB)",
-        trace.length(decay.t20)
-    );
-    let _ = writeln!(text, "{HOW_CROSSED}");
+    for (name, slots, counts) in [
+        ("early decay", decay.early_decay, EARLY_DECAY),
+        ("T20", decay.t20, T20),
+    ] {
+        let _ = writeln!(text, "{name}: {} ({counts})", trace.length(slots));
+    }
+    let _ = writeln!(text, "{CROSSINGS}");
+    if let Some(cut) = cut(trace) {
+        let _ = writeln!(text, "{cut}");
+    }
 }
 
+// What is measured, in words.
+pub const LEVEL: &str =
+    "level: the sum from a slot to the end, rounded down to 1,024ths of all, in dB";
+pub const EARLY_DECAY: &str = "6 times the first crossing of -10 dB";
+pub const T20: &str = "3 times the way from the first crossing of -5 dB to that of -25 dB";
 /// So that nobody takes them for the standard's.
-pub const HOW_CROSSED: &str =
-    "crossings: of the sums, not of the rounded levels; in whole slots, without the line fit of ISO 3382";
+pub const CROSSINGS: &str =
+    "crossings: of the sums, not of the rounded levels; in whole slots, no line fitted as in ISO 3382";
+
+/// A row that lacks something decays as what it has.
+pub fn cut(trace: &Trace) -> Option<String> {
+    match trace.past_row + trace.sum_too_large {
+        0 => None,
+        refused => Some(format!(
+            "decay: only of what was recorded; {refused} recordings were refused"
+        )),
+    }
+}
 
 /// In words, for a row that has no decay.
 pub fn reason(refusal: Refusal) -> String {

@@ -23,10 +23,10 @@
 #![forbid(unsafe_code)]
 
 mod arguments;
+mod bars;
 mod curve;
 mod decay;
 mod geometry;
-mod picture;
 mod report;
 mod trace;
 mod tracer;

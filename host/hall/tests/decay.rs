@@ -117,7 +117,7 @@ fn last_lines(row: &[u32], milliseconds: usize) -> String {
     format!(
         "early decay: {early_decay} slots, {} ms (6 times the first crossing of -10 dB)\n\
          T20: {t20} slots, {} ms (3 times the way from the first crossing of -5 dB to that of -25 dB)\n\
-         crossings: of the sums, not of the rounded levels; in whole slots, without the line fit of ISO 3382\n",
+         crossings: of the sums, not of the rounded levels; in whole slots, no line fitted as in ISO 3382\n",
         early_decay * milliseconds,
         t20 * milliseconds
     )
@@ -128,7 +128,37 @@ fn check_report(text: &str, milliseconds: usize) {
     let (row, printed) = slots(text);
     let levels = (0..row.len()).map(|k| decibels(level(&row, k)));
     assert_eq!(printed, levels.collect::<Vec<_>>());
-    assert!(text.ends_with(&last_lines(&row, milliseconds)), "{text}");
+    let mut end = last_lines(&row, milliseconds);
+    if let refused @ 1.. = refused(text) {
+        end += &format!("decay: only of what was recorded; {refused} recordings were refused\n");
+    }
+    assert!(text.ends_with(&end), "{text}");
+}
+
+/// How many recordings were, past the row or by the sum.
+fn refused(text: &str) -> u64 {
+    let line = text.split("\nrecordings refused: ").nth(1).unwrap();
+    let counts = line.lines().next().unwrap().split(", ");
+    let first_word = |part: &str| part.split(' ').next().unwrap().parse::<u64>().unwrap();
+    counts.map(first_word).sum()
+}
+
+/// A picture of a row that lacks something says so.
+#[test]
+fn a_row_that_is_cut() {
+    let (whole, cut) = (["--slot", "100"], ["--slot", "1"]);
+    assert_eq!(refused(&text(&whole)), 0);
+    assert_ne!(refused(&text(&cut)), 0);
+    let note = format!(
+        "decay: only of what was recorded; {} recordings were refused",
+        refused(&text(&cut))
+    );
+    assert!(text(&cut).ends_with(&format!("\n{note}\n")));
+    let notes = |options: &[&str]| {
+        let tags = tags(&written(options, "cut.svg"));
+        tags.iter().filter(|tag| tag.text == note).count()
+    };
+    assert_eq!((notes(&whole), notes(&cut)), (0, 1));
 }
 
 fn milliseconds(text: &str) -> usize {

@@ -31,7 +31,7 @@ fn measure(echogram: &Echogram) -> Result<Report, Refusal> {
     Ok(Report {
         early_decay: echogram.early_decay()?,
         t20: echogram.t20()?,
-        levels: levels.into_iter().map(Echogram::level_of).collect(),
+        levels: levels.into_iter().map(Echogram::level_from).collect(),
     })
 }
 
@@ -48,7 +48,7 @@ fn milliseconds(slots: u64) -> u64 {
 /// How far below the start; a dash, where there is no level.
 pub fn in_decibels(level: Option<u16>) -> String {
     match level {
-        Some(level) => format!("{}.{} dB", level / 10, level % 10),
+        Some(level) => format!("{}.{} dB below", level / 10, level % 10),
         None => "-".to_string(),
     }
 }
@@ -59,7 +59,7 @@ pub fn main() -> Result<(), Refusal> {
         println!("{name}: {slots} slots, {} ms", milliseconds(slots));
     }
     for (slot, level) in (0..).zip(report.levels) {
-        println!("{:>3} ms {:>9}", milliseconds(slot), in_decibels(level));
+        println!("{:>3} ms {:>15}", milliseconds(slot), in_decibels(level));
     }
     Ok(())
 }

@@ -169,7 +169,7 @@ pub(crate) fn ended(end: raw::BatchEnd) -> BatchEnd {
 
 /// What an echogram answers: 0, or the number of a refusal.
 #[inline]
-pub(crate) fn recorded(number: u64) -> Result<(), Refusal> {
+pub(crate) fn accepted(number: u64) -> Result<(), Refusal> {
     match number {
         0 => Ok(()),
         number => Err(refusal(number)),
@@ -179,7 +179,7 @@ pub(crate) fn recorded(number: u64) -> Result<(), Refusal> {
 /// What was measured of a row.
 #[inline]
 pub(crate) fn measured(measured: raw::Measured) -> Result<u64, Refusal> {
-    recorded(measured.number).map(|()| measured.value)
+    accepted(measured.number).map(|()| measured.value)
 }
 
 /// The level that was measured of a slot.
@@ -187,7 +187,7 @@ pub(crate) fn measured(measured: raw::Measured) -> Result<u64, Refusal> {
 pub(crate) fn level(measured: raw::Measured) -> Result<Option<u16>, Refusal> {
     let stored = self::measured(measured)?.try_into();
     let stored = stored.unwrap_or_else(|_| another_library());
-    Ok(Echogram::level_of(stored))
+    Ok(Echogram::level_from(stored))
 }
 
 #[inline]

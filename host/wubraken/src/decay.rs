@@ -11,11 +11,11 @@ impl Echogram {
     /// ```
     /// use wubraken::Echogram;
     ///
-    /// assert_eq!(Echogram::level_of(0), Some(0));
-    /// assert_eq!(Echogram::level_of(Echogram::NO_LEVEL), None);
+    /// assert_eq!(Echogram::level_from(0), Some(0));
+    /// assert_eq!(Echogram::level_from(Echogram::NO_LEVEL), None);
     /// ```
     #[inline]
-    pub fn level_of(stored: u16) -> Option<u16> {
+    pub fn level_from(stored: u16) -> Option<u16> {
         (stored != Self::NO_LEVEL).then_some(stored)
     }
 }
@@ -82,7 +82,7 @@ impl<R: AsRef<[u32]>> Echogram<R> {
     }
 
     /// The levels of all slots, one a place, with [`Echogram::NO_LEVEL`] where there is
-    /// none ([`Echogram::level_of`] tells). Places beyond the slots stay. A refusal (13,
+    /// none ([`Echogram::level_from`] tells). Places beyond the slots stay. A refusal (13,
     /// 15, 17, or 19: fewer places than slots) leaves all as they were.
     ///
     /// ```
@@ -100,6 +100,6 @@ impl<R: AsRef<[u32]>> Echogram<R> {
         let levels = levels.as_mut_ptr();
         // SAFETY: slices; the one that is written lies apart, as it is borrowed alone.
         let number = unsafe { raw::wubraken_decay_curve(row.as_ptr(), row.len(), levels, places) };
-        answer::recorded(number)
+        answer::accepted(number)
     }
 }

@@ -20,7 +20,7 @@ fn levels(row: &[u32]) -> Vec<Option<u16>> {
     let echogram = of(row);
     let mut stored = vec![UNTOUCHED; row.len()];
     assert_eq!(echogram.decay_curve(&mut stored), Ok(()));
-    let levels: Vec<_> = stored.into_iter().map(Echogram::level_of).collect();
+    let levels: Vec<_> = stored.into_iter().map(Echogram::level_from).collect();
     for (slot, &level) in (0..).zip(&levels) {
         assert_eq!(echogram.level(slot), Ok(level), "{row:?}: {slot}");
     }
@@ -337,9 +337,9 @@ fn the_slot_length_does_not_count() {
 #[test]
 fn marks_and_levels() {
     assert_eq!(Echogram::NO_LEVEL, 65_535);
-    assert_eq!(Echogram::level_of(65_535), None);
+    assert_eq!(Echogram::level_from(65_535), None);
     for level in [0, 1, 301, 65_534] {
-        assert_eq!(Echogram::level_of(level), Some(level));
+        assert_eq!(Echogram::level_from(level), Some(level));
     }
     let mut levels = [UNTOUCHED; 2];
     assert_eq!(of([5, 0]).decay_curve(&mut levels), Ok(()));

@@ -56,7 +56,10 @@ fn the_decay_of_halves() {
     };
     assert_eq!(decay::run(), Ok(expected));
     let printed = [Some(0), Some(31), Some(301), None].map(decay::in_decibels);
-    assert_eq!(printed, ["0.0 dB", "3.1 dB", "30.1 dB", "-"]);
+    assert_eq!(
+        printed,
+        ["0.0 dB below", "3.1 dB below", "30.1 dB below", "-"]
+    );
 }
 
 /// The turns go round, and so do the calls: each worker puts in its turn, the latest time

@@ -25,6 +25,7 @@ mul-ratio c =
     let total = c .before .before .before .total-of in
     let left = rest-is (a .row .now) (a .slot) (total .result) (total .ensures) (c .before .if1 .left) in
     let sound = is-sound (a .row .now) (a .slot) (total .result) (total .ensures) (c .before .if1 .left) in
+    let sum = sum-is (a .row .now) (a .slot) (total .result) (total .ensures) (c .before .if1 .left) in
     record { fits = omega (arith, sound .sum-most, rest-in-sum (a .row .now) (a .slot)) }
 
 div-ratio : tie.Need-div-ratio

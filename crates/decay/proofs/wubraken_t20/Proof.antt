@@ -1,10 +1,11 @@
--- `decay::wubraken_t20` finds two slots, one behind the other in one pass. Assumes nothing.
+-- `decay::wubraken_t20` finds two slots; the second search goes on from the first. Assumes nothing.
 use mathlib.Core.Path.{_∙_}
 use Prim.Native.Nat.{_*_, _-_}
 use native.Mathlib.Omega.{arith}
+use lib.Dec.{lit≤}
 use borrow.Author.Needs.{needs}
 use Rattle.decay.specs.Decay.{t20}
-use Rattle.decay.specs.CrossingSearch.{t20-is, square-fits, slot-is, lower-limit, limits-rise, from-start, from-higher}
+use Rattle.decay.specs.CrossingSearch.{t20-is, square-fits, slot-is, lower-limit, slots-rise, from-start, from-higher}
 use Rattle.decay.specs.Totals.{when-refused, when-measured, sum-is, is-sound}
 use Rattle.decay.proofs.wubraken_t20.Statement.{statement}
 use Rattle.decay.proofs.wubraken_t20.Tie as tie
@@ -39,15 +40,15 @@ fall-to-requires-2 c κs =
     let row = c .before .before .before .before .before .before .args .row .now in
     let total = c .before .before .before .before .total-of in
     let sound = is-sound row 0 (total .result) (total .ensures) (c .before .before .if1 .left) in
-    from-higher row _ _ (lower-limit (total .result .sum * total .result .sum)) (sound .sum-most) (c .fall-to .result) (c .fall-to .ensures)
+    from-higher row _ _ (lower-limit (total .result .sum * total .result .sum) _ _ (lit≤ tt) (lit≤ tt)) (sound .sum-most) (c .fall-to .result) (c .fall-to .ensures)
 
 sub-t9 : tie.Need-sub-t9
 sub-t9 c =
     let row = c .before .before .before .before .before .before .before .before .before .args .row .now in
     let sum = c .before .before .before .before .before .before .before .total-of .result .sum in
-    let early = slot-is row _ (c .before .before .before .fall-to .result) (c .before .before .before .fall-to .ensures) .0 in
-    let late = slot-is row _ (c .before .before .fall-to2 .result) (c .before .before .fall-to2 .ensures) .0 in
-    omega (arith, limits-rise row _ _ (lower-limit (sum * sum)))
+    let early = c .before .before .before .fall-to in
+    let late = c .before .before .fall-to2 in
+    slots-rise row (sum * sum) _ _ (early .result) (late .result) (early .ensures) (late .ensures) (lit≤ tt) (lit≤ tt)
 
 mul-t10 : tie.Need-mul-t10
 mul-t10 c =

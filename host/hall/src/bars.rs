@@ -2,7 +2,7 @@
 
 use std::fmt::Write;
 
-use crate::decay::{decibels, push_decay, Decay};
+use crate::decay::{decibels, push_decay, Decay, LEVEL};
 use crate::trace::Trace;
 
 /// Of the strongest slot. The square of a bar is to the square of this as the energies
@@ -11,7 +11,7 @@ const MOST_MARKS: u64 = 60;
 
 /// All slots; then the sums, which are the same unless a recording was refused; then
 /// early decay and T20.
-pub fn push_picture(text: &mut String, trace: &Trace) {
+pub fn push_echogram(text: &mut String, trace: &Trace) {
     let decay = Decay::of(trace);
     push_heading(text, trace);
     match &decay {
@@ -29,10 +29,7 @@ fn push_heading(text: &mut String, trace: &Trace) {
         trace.row.len(),
         trace.milliseconds(1)
     );
-    let _ = writeln!(
-        text,
-        "level: the sum from a slot to the end, rounded down to 1,024ths of all, in dB; a dash for none"
-    );
+    let _ = writeln!(text, "{LEVEL}; a dash for none");
 }
 
 fn push_sums(text: &mut String, trace: &Trace) {
