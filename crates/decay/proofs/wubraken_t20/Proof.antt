@@ -40,7 +40,8 @@ fall-to-requires-2 c κs =
     let row = c .before .before .before .before .before .before .args .row .now in
     let total = c .before .before .before .before .total-of in
     let sound = is-sound row 0 (total .result) (total .ensures) (c .before .before .if1 .left) in
-    from-higher row _ _ (lower-limit (total .result .sum * total .result .sum) _ _ (lit≤ tt) (lit≤ tt)) (sound .sum-most) (c .fall-to .result) (c .fall-to .ensures)
+    let sum = total .result .sum in
+    from-higher row _ _ (lower-limit (sum * sum) _ _ (lit≤ tt) (lit≤ tt)) (sound .sum-most) (c .fall-to .result) (c .fall-to .ensures)
 
 sub-t9 : tie.Need-sub-t9
 sub-t9 c =
