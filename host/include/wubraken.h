@@ -26,10 +26,10 @@
  *
  * What the caller owes: a pointer leads to as many elements as its length says,
  * is aligned, and is not null even for a length of 0; a buffer that is written
- * lies apart from the others of its call; nobody else uses them during the call. Nothing more. Any shape,
- * length, content and argument may be handed in; an opening, a start, a turn, a
- * recording or a measurement that cannot be done is refused by a number and changes
- * nothing.
+ * lies apart from the others of its call; nobody else uses what is written, or
+ * writes what is read, during the call. Nothing more. Any shape, length, content and
+ * argument may be handed in; an opening, a start, a turn, a recording or a measurement
+ * that cannot be done is refused by a number and changes nothing.
  *
  * Link target/staticlib/libwubraken.a; for wubraken_run_batch
  * target/staticlib/libwubraken_batch.a, for a dealer target/staticlib/libdealer.a, for

@@ -3,8 +3,8 @@
 --     square-limit, early-limit              the tests of T20 and of early decay are such tests
 --     early-is, t20-is                       so both are found by such tests
 --     square-fits                            the square of the sum has 64 bits
---     placeAt, slot-is                       a slot and what is left there; the slot of such a place
---     Before                                 no slot before a place passes such a test
+--     pointAt, slot-is                       a slot and what is left there; the slot of such a point
+--     Before                                 no slot before a point passes such a test
 --     from-start                             so from the start,
 --     lower-limit, slots-rise                and, since a lower limit is passed no earlier,
 --     from-higher                            from where a higher one was passed
@@ -26,7 +26,7 @@ use Rattle.laws.specs.Searching.{first-most, first-not-before, first-is, first-
 use Rattle.echogram.specs.Row.{sumOf, most}
 use Rattle.decay.specs.Decay.{rest, first, earlyFallen, earlyDecay, squareFallen, t20}
 use Rattle.decay.specs.Rest.{rest-all, rest-next, rest-in-sum}
-use Rattle.decay.specs.declared.crossings.Place.{Place}
+use Rattle.decay.specs.declared.crossings.Point.{Point}
 
 -- R(k)² ≤ a limit
 abbrev pub squareAtMost : List ℕ → ℕ → ℕ → Bool
@@ -77,15 +77,15 @@ pub square-fits : (sum : ℕ) → sum ≤ most → sum * sum < 18446744073709551
 square-fits sum small = omega (arith, mul-le-mul small small)
 
 -- ── the search ──
-abbrev pub placeAt : List ℕ → ℕ → Place
-placeAt row k = record { slot = k; rest = rest row k }
+abbrev pub pointAt : List ℕ → ℕ → Point
+pointAt row k = record { slot = k; rest = rest row k }
 
--- the slot of such a place lies in the row, or is its end
-pub slot-is : (row : List ℕ) (test : ℕ → Bool) (p : Place) → p ≡ placeAt row (first row test) → (p .slot ≡ first row test) × (p .slot ≤ length row)
-slot-is row test p e = let at : p .slot ≡ first row test = ap (λ (q : Place). q .slot) e in (at, omega (arith, first-most (length row) test))
+-- the slot of such a point lies in the row, or is its end
+pub slot-is : (row : List ℕ) (test : ℕ → Bool) (p : Point) → p ≡ pointAt row (first row test) → (p .slot ≡ first row test) × (p .slot ≤ length row)
+slot-is row test p e = let at : p .slot ≡ first row test = ap (λ (q : Point). q .slot) e in (at, omega (arith, first-most (length row) test))
 
--- a place of the row, what is left there, and that no slot before it passes
-pub record Before (row : List ℕ) (from : Place) (limit : ℕ) : Type 0 where
+-- a point of the row, and that no slot before it passes
+pub record Before (row : List ℕ) (from : Point) (limit : ℕ) : Type 0 where
   pub in-row : from .slot ≤ length row
   pub left : from .rest ≡ rest row (from .slot)
   pub small : sumOf row ≤ most
@@ -103,8 +103,8 @@ limits-rise row high low less =
     first-wider (length row) (squareAtMost row high) (squareAtMost row low)
     (λ k e. le-leb (rest row k * rest row k) high (omega (arith, leb-true (rest row k * rest row k) low e)))
 
-pub slots-rise : (row : List ℕ) (n c d : ℕ) (p q : Place)
-    → p ≡ placeAt row (first row (squareAtMost row (n / c))) → q ≡ placeAt row (first row (squareAtMost row (n / d)))
+pub slots-rise : (row : List ℕ) (n c d : ℕ) (p q : Point)
+    → p ≡ pointAt row (first row (squareAtMost row (n / c))) → q ≡ pointAt row (first row (squareAtMost row (n / d)))
     → 1 ≤ c → c ≤ d → p .slot ≤ q .slot
 slots-rise row n c d p q e f some more = omega (
   arith,
@@ -114,7 +114,7 @@ slots-rise row n c d p q e f some more = omega (
 )
 
 pub from-higher : (row : List ℕ) (high low : ℕ) → low ≤ high → sumOf row ≤ most
-    → (p : Place) → p ≡ placeAt row (first row (squareAtMost row high)) → Before row p low
+    → (p : Point) → p ≡ pointAt row (first row (squareAtMost row high)) → Before row p low
 from-higher row high low less few p e = subst⁻¹ (λ q. Before row q low) e (record {
   in-row = first-most (length row) (squareAtMost row high);
   left = refl;
@@ -141,7 +141,7 @@ module _ {row : List ℕ} {slot left limit : ℕ} (b : Before row (record { slot
   }
 
   pub fallen : (slot < length row → left * left ≤ limit)
-      → _≡_ {A = Place} (record { slot = slot; rest = left }) (placeAt row (first row (squareAtMost row limit)))
+      → _≡_ {A = Point} (record { slot = slot; rest = left }) (pointAt row (first row (squareAtMost row limit)))
   fallen here =
       let at = first-is (length row) (squareAtMost row limit) slot (b .in-row)
       (λ l. le-leb (rest row slot * rest row slot) limit (rw (b .left) at (here l))) (b .none) in

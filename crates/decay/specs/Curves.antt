@@ -1,6 +1,6 @@
 -- The levels of all slots, one after the other from the end: a level stays while the ratio does.
---     stepAt                 the level of a 1,024-fold rest, and the least such rest that has another ratio
---     next-step              below that it stays
+--     flatAt                 the level of a 1,024-fold rest, and the least such rest that has a higher ratio
+--     next-flat              below that it stays
 --     ratio-most             no ratio is above 1,024
 --     level-at               it is the level of the slot
 --     Along                  what the loop has made of the buffer when slots from k on are done
@@ -20,19 +20,19 @@ use Rattle.laws.specs.Storing.{words-before}
 use Rattle.echogram.specs.Row.{sumOf}
 use Rattle.decay.specs.Decay.{rest, ratio, levelOf, level}
 use Rattle.decay.specs.Rest.{rest-all, rest-past, rest-next, rest-in-sum}
-use Rattle.decay.specs.declared.curve.Step.{Step}
+use Rattle.decay.specs.declared.curve.Flat.{Flat}
 
-abbrev pub stepAt : ℕ → ℕ → Step
-stepAt scaled sum = record { next = (scaled / sum + 1) * sum; level = levelOf (scaled / sum) }
+abbrev pub flatAt : ℕ → ℕ → Flat
+flatAt scaled sum = record { next = (scaled / sum + 1) * sum; level = levelOf (scaled / sum) }
 
-step-kept : (a b sum : ℕ) → a ≤ b → b < stepAt a sum .next → stepAt a sum ≡ stepAt b sum
-step-kept a b sum up below =
+flat-kept : (a b sum : ℕ) → a ≤ b → b < flatAt a sum .next → flatAt a sum ≡ flatAt b sum
+flat-kept a b sum up below =
     let same : b / sum ≡ a / sum = div-eq-of-lt-le sum (omega (arith, div-mul-le-self a sum)) below in
     ap (λ q. record { next = (q + 1) * sum; level = levelOf q }) (sym same)
 
--- the step that the loop goes on with where the ratio stays
-pub next-step : (a b sum : ℕ) {step : Step} → step ≡ stepAt a sum → a ≤ b → b < step .next → step ≡ stepAt b sum
-next-step a b sum e up below = e ∙ step-kept a b sum up (omega (arith, ap (λ (s : Step). s .next) e))
+-- the flat that the loop goes on with where the ratio stays
+pub next-flat : (a b sum : ℕ) {flat : Flat} → flat ≡ flatAt a sum → a ≤ b → b < flat .next → flat ≡ flatAt b sum
+next-flat a b sum e up below = e ∙ flat-kept a b sum up (omega (arith, ap (λ (s : Flat). s .next) e))
 
 pub ratio-most : (scaled sum : ℕ) → scaled ≤ 1024 * sum → scaled / sum ≤ 1024
 ratio-most scaled sum h = div-le-of-le-mul sum (omega arith)
@@ -42,17 +42,17 @@ unfolding level ratio
 level-at row k scaled sum s e = (λ i. levelOf (s i / (e ∙ sym (rest-all row)) i))
 
 -- ── the loop ──
--- what is left from slot k on, 1,024-fold; its step; and the levels from there on
-pub record Along (row levels₀ : List ℕ) (sum k : ℕ) (scaled : ℕ) (step : Step) (levels : List ℕ) : Type 0 where
+-- what is left from slot k on, 1,024-fold; its flat; and the levels from there on
+pub record Along (row levels₀ : List ℕ) (sum k : ℕ) (scaled : ℕ) (flat : Flat) (levels : List ℕ) : Type 0 where
   pub in-row : k ≤ length row
   pub size : length levels ≡ length levels₀
   pub left : scaled ≡ 1024 * rest row k
-  pub at : step ≡ stepAt scaled sum
+  pub at : flat ≡ flatAt scaled sum
   pub written : levels ≡ take k levels₀ ++ (wordsFrom (level row) k (length row - k) ++ drop (length row) levels₀)
 
-pub along-none : (row levels₀ : List ℕ) (sum : ℕ) (step : Step) → step ≡ stepAt 0 sum → Along row levels₀ sum (length row) 0 step levels₀
+pub along-none : (row levels₀ : List ℕ) (sum : ℕ) (flat : Flat) → flat ≡ flatAt 0 sum → Along row levels₀ sum (length row) 0 flat levels₀
 unfolding wordsFrom
-along-none row levels₀ sum step e = record {
+along-none row levels₀ sum flat e = record {
   in-row = omega arith;
   size = refl;
   left = omega (arith, rest-past row (length row) (omega arith));
@@ -69,20 +69,20 @@ module _ (row levels₀ : List ℕ) (sum : ℕ) (whole : sum ≡ sumOf row) wher
       let up : suc (k - 1) ≡ k = omega arith in
       omega (arith, rest-next row (k - 1) (omega arith), ap (rest row) up)
 
-  pub more-fits : {k scaled : ℕ} {step : Step} {levels : List ℕ} → Along row levels₀ sum k scaled step levels → 1 ≤ k
+  pub more-fits : {k scaled : ℕ} {flat : Flat} {levels : List ℕ} → Along row levels₀ sum k scaled flat levels → 1 ≤ k
       → scaled + 1024 * getD row (k - 1) 0 ≤ 1024 * sum
   more-fits {k} a some = omega (arith, a .left, left-more k some (a .in-row), rest-in-sum row (k - 1))
 
-  pub along-more : {k scaled : ℕ} {step : Step} {levels : List ℕ} → Along row levels₀ sum k scaled step levels → 1 ≤ k → length row ≤ length levels₀
-      → (more : ℕ) → more ≡ scaled + 1024 * getD row (k - 1) 0 → (next : Step) → next ≡ stepAt more sum
+  pub along-more : {k scaled : ℕ} {flat : Flat} {levels : List ℕ} → Along row levels₀ sum k scaled flat levels → 1 ≤ k → length row ≤ length levels₀
+      → (more : ℕ) → more ≡ scaled + 1024 * getD row (k - 1) 0 → (next : Flat) → next ≡ flatAt more sum
       → Along row levels₀ sum (k - 1) more next (set levels (k - 1) (next .level))
-  along-more {k} {scaled} {step} {levels} a some room more m next n = record {
+  along-more {k} {scaled} {flat} {levels} a some room more m next n = record {
     in-row = omega (arith, a .in-row);
     size = length-set levels (k - 1) (next .level) ∙ a .size;
     left = left;
     at = n;
     written =
-        ap (set levels (k - 1)) (ap (λ (s : Step). s .level) n ∙ level-at row (k - 1) more sum left whole)
+        ap (set levels (k - 1)) (ap (λ (s : Flat). s .level) n ∙ level-at row (k - 1) more sum left whole)
         ∙ ap (λ (u : List ℕ). set u (k - 1) (level row (k - 1))) (a .written ∙ ap (filled (length row)) (sym up))
         ∙ words-before (level row) (k - 1) (length row - suc (k - 1)) levels₀ (drop (length row) levels₀) (omega (arith, a .in-row))
         ∙ (let e : suc (length row - suc (k - 1)) ≡ length row - (k - 1) = omega (arith, a .in-row) in
@@ -98,7 +98,7 @@ module _ (row levels₀ : List ℕ) (sum : ℕ) (whole : sum ≡ sumOf row) wher
       filled : ℕ → ℕ → List ℕ
       filled n j = take j levels₀ ++ (wordsFrom (level row) j (n - j) ++ drop n levels₀)
 
-  pub along-all : {k scaled : ℕ} {step : Step} {levels : List ℕ} → Along row levels₀ sum k scaled step levels → k ≡ 0
+  pub along-all : {k scaled : ℕ} {flat : Flat} {levels : List ℕ} → Along row levels₀ sum k scaled flat levels → k ≡ 0
       → levels ≡ wordsFrom (level row) 0 (length row) ++ drop (length row) levels₀
   along-all {k} a z =
       a .written

@@ -60,7 +60,7 @@ none = 65535
 unfoldable pub levelOf : ℕ → ℕ
 levelOf r = cond (eqb r 0) none (logOf 1024 - logOf r)
 
--- how far slot k lies below the start, in tenths of a decibel; any k
+-- the level of slot k, in tenths of a decibel; any k
 unfoldable pub level : List ℕ → ℕ → ℕ
 level row k = levelOf (ratio row k)
 

@@ -37,6 +37,7 @@ crossings :
     × (t20 four ≡ 6)
     × (earlyDecay (pair 9 1) ≡ 6)
     × (earlyDecay (pair 8 1) ≡ 12)
+    × (earlyDecay (pair 216 100) ≡ 12)
     × (t20 (pair 216 100) ≡ 0)
     × (t20 (pair 217 100) ≡ 3)
     × (t20 (pair 315 1) ≡ 3)
@@ -44,7 +45,7 @@ crossings :
     × (earlyDecay (0 ∷ 0 ∷ 5 ∷ 0 ∷ []) ≡ 18)
     × (t20 (0 ∷ 0 ∷ 5 ∷ 0 ∷ []) ≡ 0)
 unfolding four pair earlyDecay t20 rest sumOf
-crossings = (refl, refl, refl, refl, refl, refl, refl, refl, refl, refl, refl, refl)
+crossings = (refl, refl, refl, refl, refl, refl, refl, refl, refl, refl, refl, refl, refl)
 
 -- 9^100 has 96 digits, 10^100 one more than a hundred, 11^100 has 105
 pub logs :
@@ -104,7 +105,11 @@ refused = (refl, refl, refl, refl, refl, refl, refl, refl, refl, refl, refl, ref
 curves :
     (curve four (8 ∷ 8 ∷ 8 ∷ 8 ∷ 8 ∷ 9 ∷ []) ≡ 0 ∷ 101 ∷ 201 ∷ 301 ∷ 8 ∷ 9 ∷ [])
     × (curve four (8 ∷ 8 ∷ 9 ∷ []) ≡ 8 ∷ 8 ∷ 9 ∷ [])
+    × (curve (pair 8 1) (8 ∷ 9 ∷ []) ≡ 0 ∷ 96 ∷ [])
+    × (curve (pair 216 100) (8 ∷ 9 ∷ []) ≡ 0 ∷ 50 ∷ [])
+    × (curve (pair 217 100) (8 ∷ 9 ∷ []) ≡ 0 ∷ 51 ∷ [])
+    × (curve (0 ∷ 0 ∷ 5 ∷ 0 ∷ []) (8 ∷ 8 ∷ 8 ∷ 9 ∷ []) ≡ 0 ∷ 0 ∷ 0 ∷ none ∷ [])
     × (curve (pair 1024 1) (8 ∷ 9 ∷ []) ≡ 0 ∷ none ∷ [])
     × (curve (pair 0 0) (8 ∷ 9 ∷ []) ≡ 8 ∷ 9 ∷ [])
 unfolding four pair every wordsFrom sumOf logOf levelOf level ratio rest decayRefusal curveRefusal curve
-curves = (refl, refl, refl, refl)
+curves = (refl, refl, refl, refl, refl, refl, refl, refl)

@@ -6,23 +6,23 @@ ghost use lib.ListN.{length, drop};
 ghost use Rattle.laws.specs.Lists.{wordsFrom};
 ghost use Rattle.echogram.specs.Row.{sumOf};
 ghost use Rattle.decay.specs.Decay.{logOf, level};
-ghost use Rattle.decay.specs.Curves.{stepAt};
+ghost use Rattle.decay.specs.Curves.{flatAt};
 use super::logs::level_by;
 use super::logs::log_table;
 
-// The level of a ratio, and the least 1,024-fold rest that has another ratio.
-pub struct Step {
+// A flat part of the curve: its level, and the least 1,024-fold rest that has a higher ratio.
+pub struct Flat {
     pub next: u64,
     pub level: u16,
 }
 
-// The level of a 1,024-fold rest.
-fn step_at(logs: &[u16; 1024], scaled: u64, sum: u64) -> Step
+// That of a 1,024-fold rest.
+fn flat_at(logs: &[u16; 1024], scaled: u64, sum: u64) -> Flat
     requires { ⌜ (now logs ≡ wordsFrom logOf 1 1024) × (1 ≤ sum) × (sum ≤ 4294967295) × (scaled ≤ 1024 * sum) ⌝ }
-    ensures { λ r. ⌜ r ≡ stepAt scaled sum ⌝ }
+    ensures { λ r. ⌜ r ≡ flatAt scaled sum ⌝ }
 {
     let ratio = scaled / sum;
-    Step {
+    Flat {
         next: (ratio + 1) * sum,
         level: level_by(logs, ratio as usize),
     }
@@ -36,14 +36,14 @@ pub fn write_levels(row: &[u32], sum: u64, levels: &mut [u16])
 {
     let logs = log_table();
     let mut scaled: u64 = 0;
-    let mut step = step_at(&logs, 0, sum);
+    let mut flat = flat_at(&logs, 0, sum);
     let mut k = row.len();
     while 0 < k {
         k -= 1;
         scaled += 1024 * row[k] as u64;
-        if step.next <= scaled {
-            step = step_at(&logs, scaled, sum);
+        if flat.next <= scaled {
+            flat = flat_at(&logs, scaled, sum);
         }
-        levels[k] = step.level;
+        levels[k] = flat.level;
     }
 }

@@ -1,7 +1,7 @@
 // How an echogram decays: early decay, T20 and levels of a row that is only read, for C and Rust to call.
 ghost use mathlib.Core.Path.{_≡_};
 ghost use Rattle.decay.specs.Decay.{earlyDecay, t20, level, decayRefusal, measured, curveRefusal, curve};
-use crossings::Place;
+use crossings::Point;
 use crossings::fall_to;
 use curve::write_levels;
 use logs::level_by;
@@ -32,7 +32,7 @@ pub extern "C" fn wubraken_early_decay(row: &[u32]) -> Measured
             value: 0,
         };
     }
-    let start = Place {
+    let start = Point {
         slot: 0,
         rest: total.sum,
     };
@@ -56,7 +56,7 @@ pub extern "C" fn wubraken_t20(row: &[u32]) -> Measured
         };
     }
     let square = total.sum * total.sum;
-    let start = Place {
+    let start = Point {
         slot: 0,
         rest: total.sum,
     };

@@ -1,4 +1,4 @@
-//! How the sound of a run dies away, as the library has it.
+//! How the sound of a run decays, as the library has it.
 
 use std::fmt::Write;
 
@@ -64,7 +64,7 @@ pub const EARLY_DECAY: &str = "6 times the first crossing of -10 dB";
 pub const T20: &str = "3 times the way from the first crossing of -5 dB to that of -25 dB";
 /// So that nobody takes them for the standard's.
 pub const CROSSINGS: &str =
-    "crossings: of the sums, not of the rounded levels; in whole slots, no line fitted as in ISO 3382";
+    "crossings: of sums, not of rounded levels; in whole slots; no line is fitted (ISO 3382 fits one)";
 
 /// A row that lacks something decays as what it has.
 pub fn cut(trace: &Trace) -> Option<String> {

@@ -117,7 +117,7 @@ fn last_lines(row: &[u32], milliseconds: usize) -> String {
     format!(
         "early decay: {early_decay} slots, {} ms (6 times the first crossing of -10 dB)\n\
          T20: {t20} slots, {} ms (3 times the way from the first crossing of -5 dB to that of -25 dB)\n\
-         crossings: of the sums, not of the rounded levels; in whole slots, no line fitted as in ISO 3382\n",
+         crossings: of sums, not of rounded levels; in whole slots; no line is fitted (ISO 3382 fits one)\n",
         early_decay * milliseconds,
         t20 * milliseconds
     )

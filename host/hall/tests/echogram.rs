@@ -135,7 +135,7 @@ fn bars_by_hand() {
          recordings refused: 0 past the row (14), 0 by a sum above 2^32 - 1 (15)\n\
          early decay: 36 slots, 72 ms (6 times the first crossing of -10 dB)\n\
          T20: 6 slots, 12 ms (3 times the way from the first crossing of -5 dB to that of -25 dB)\n\
-         crossings: of the sums, not of the rounded levels; in whole slots, no line fitted as in ISO 3382\n"
+         crossings: of sums, not of rounded levels; in whole slots; no line is fitted (ISO 3382 fits one)\n"
     );
     assert_eq!(picture(&trace), expected);
 }

@@ -1,4 +1,4 @@
-//! How an echogram dies away: early decay, T20, and the level of each slot.
+//! How an echogram decays: early decay, T20, and the level of each slot.
 //!
 //! All of it is about the energy still to come: at a slot, what this slot and all behind
 //! it hold together. At slot 0 that is the whole energy of the row; it never rises from

@@ -9,7 +9,7 @@
 //!
 //! [`deal`], [`deal_run`] and [`narrow_deal`] deal turns, going round among the workers.
 //! [`clear_row`], [`record`] and [`record_series`] keep an echogram of what was taken;
-//! [`early_decay`], [`t20`], [`level`] and [`decay_curve`] say how it dies away.
+//! [`early_decay`], [`t20`], [`level`] and [`decay_curve`] say how it decays.
 //!
 //! Names of the document and their names here: put is enqueue, take is dequeue,
 //! turn is step, stamp is ticket, standing is the reclamation state, resting is

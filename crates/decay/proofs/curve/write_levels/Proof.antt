@@ -5,28 +5,28 @@ use Prim.Native.Nat.{_+_, _*_, _-_}
 use native.Mathlib.Omega.{arith}
 use lib.ListN.{getD}
 use borrow.Author.Needs.{needs}
-use Rattle.decay.specs.Curves.{Along, along-none, along-more, along-all, more-fits, next-step}
+use Rattle.decay.specs.Curves.{Along, along-none, along-more, along-all, more-fits, next-flat}
 use Rattle.decay.proofs.curve.write_levels.Statement.{statement}
 use Rattle.decay.proofs.curve.write_levels.Tie as tie
 
 abbrev Inv-loop : tie.InvT-loop
-Inv-loop row sum levels₀ logs scaled₀ step₀ k₀ levels scaled step k = Along row levels₀ sum k scaled step levels
+Inv-loop row sum levels₀ logs scaled₀ flat₀ k₀ levels scaled flat k = Along row levels₀ sum k scaled flat levels
 
 abbrev μ-loop : tie.MeasureT-loop
-μ-loop row sum levels₀ logs scaled₀ step₀ k₀ levels scaled step k = k
+μ-loop row sum levels₀ logs scaled₀ flat₀ k₀ levels scaled flat k = k
 
 log-table-requires : tie.Need-log-table-requires Inv-loop μ-loop
 log-table-requires c κs = search needs
 
-step-at-requires : tie.Need-step-at-requires Inv-loop μ-loop
-step-at-requires c κs =
+flat-at-requires : tie.Need-flat-at-requires Inv-loop μ-loop
+flat-at-requires c κs =
     let known = c .before .before .before .before .pre in
     (c .before .log-table .ensures, known .1, known .2, omega arith)
 
 loop-holds : tie.Need-loop-holds Inv-loop μ-loop
 loop-holds c =
     let a = c .before .before .before .before .before .args in
-    along-none (a .row .now) (a .levels .now) (a .sum) (c .step-at .result) (c .step-at .ensures)
+    along-none (a .row .now) (a .levels .now) (a .sum) (c .flat-at .result) (c .flat-at .ensures)
 
 sub-k : tie.Need-sub-k Inv-loop μ-loop
 sub-k c = search needs
@@ -50,8 +50,8 @@ add-scaled c =
     let more = more-fits (a .row .now) (a .levels .now) (a .sum) (start .pre .0) (c .before .before .loop .inv) (omega arith) in
     record { fits = omega (arith, start .pre .2) }
 
-step-at-requires-2 : tie.Need-step-at-requires-2 Inv-loop μ-loop
-step-at-requires-2 c κs =
+flat-at-requires-2 : tie.Need-flat-at-requires-2 Inv-loop μ-loop
+flat-at-requires-2 c κs =
     let start = c .before .before .before .before .before .before .before .before .before .before .before in
     let table = c .before .before .before .before .before .before .before .before .log-table .ensures in
     let a = start .args in
@@ -76,9 +76,9 @@ loop-again c =
     let a = start .args in
     let turn = c .before .before .before .before .loop in
     let more = turn .scaled + 1024 * getD (a .row .now) (turn .k - 1) 0 in
-    along-more (a .row .now) (a .levels .now) (a .sum) (start .pre .0) (turn .inv) (omega arith) (start .pre .3) more refl (c .if1 .step)
+    along-more (a .row .now) (a .levels .now) (a .sum) (start .pre .0) (turn .inv) (omega arith) (start .pre .3) more refl (c .if1 .flat)
     (⊎-elim (λ w. w .3 ∙ w .2 .ensures)
-    (λ w. w .1 ∙ next-step (turn .scaled) more (a .sum) (turn .inv .at) (omega arith) (omega (arith, w .0 .left)))
+    (λ w. w .1 ∙ next-flat (turn .scaled) more (a .sum) (turn .inv .at) (omega arith) (omega (arith, w .0 .left)))
     (c .if1 .came))
 
 same-length : tie.Need-same-length Inv-loop μ-loop
@@ -97,7 +97,7 @@ write-levels-spec =
     Inv-loop
     μ-loop
     log-table-requires
-    step-at-requires
+    flat-at-requires
     loop-holds
     sub-k
     mul-scaled
@@ -105,7 +105,7 @@ write-levels-spec =
     cast-scaled
     mul-scaled-2
     add-scaled
-    step-at-requires-2
+    flat-at-requires-2
     mul-levels
     slice-write-levels
     loop-less

@@ -1,11 +1,11 @@
--- `decay::curve::step_at` divides once. Assumes nothing.
+-- `decay::curve::flat_at` divides once. Assumes nothing.
 use Prim.Native.Nat.{_+_, _*_, _/_}
 use native.Mathlib.Omega.{arith}
 use native.Mathlib.Nat.{mul-le-mul-right}
 use borrow.Author.Needs.{needs}
 use Rattle.decay.specs.Curves.{ratio-most}
-use Rattle.decay.proofs.curve.step_at.Statement.{statement}
-use Rattle.decay.proofs.curve.step_at.Tie as tie
+use Rattle.decay.proofs.curve.flat_at.Statement.{statement}
+use Rattle.decay.proofs.curve.flat_at.Tie as tie
 
 div-ratio : tie.Need-div-ratio
 div-ratio c = search needs
@@ -24,5 +24,5 @@ returns : tie.Need-returns
 returns c =
     let sum = c .before .args .sum in (λ i. record { next = (c .before .args .scaled / sum + 1) * sum; level = c .level-by .ensures i })
 
-pub step-at-spec : {M : Type 1} → statement M
-step-at-spec = tie.close (tie.spec div-ratio add-t5 mul-t6 level-by-requires returns)
+pub flat-at-spec : {M : Type 1} → statement M
+flat-at-spec = tie.close (tie.spec div-ratio add-t5 mul-t6 level-by-requires returns)
