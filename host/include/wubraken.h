@@ -1,5 +1,5 @@
 /* Wubraken: a pool of arrivals over memory that the caller lends, a dealer of its
- * workers' turns, and an echogram that adds up what was taken.
+ * workers' turns, an echogram that adds up what was taken, and how it decays.
  *
  * The pool keeps nothing of its own: every call gets the shape, a store of
  * words and a table with one record a worker. A call of a worker begins with
@@ -21,16 +21,20 @@
  * - For an echogram wubraken_clear_row, then wubraken_record, or for many taken
  *   arrivals at once wubraken_record_series. It is handed a row of its own, and
  *   knows no pool.
+ * - For the decay of such a row wubraken_early_decay and wubraken_t20; for its levels
+ *   wubraken_decay_curve, or wubraken_level for one slot. They only read the row.
  *
  * What the caller owes: a pointer leads to as many elements as its length says,
  * is aligned, and is not null even for a length of 0; a buffer that is written
- * lies apart from the others of its call; nobody else uses them during the call. Nothing more. Any shape,
- * length, content and argument may be handed in; an opening, a start, a turn or a
- * recording that cannot be done is refused by a number and changes nothing.
+ * lies apart from the others of its call; nobody else uses what is written, or
+ * writes what is read, during the call. Nothing more. Any shape, length, content and
+ * argument may be handed in; an opening, a start, a turn, a recording or a measurement
+ * that cannot be done is refused by a number and changes nothing.
  *
  * Link target/staticlib/libwubraken.a; for wubraken_run_batch
- * target/staticlib/libwubraken_batch.a, for a dealer target/staticlib/libdealer.a, and
- * for an echogram target/staticlib/libechogram.a (x86-64, System V). None needs another.
+ * target/staticlib/libwubraken_batch.a, for a dealer target/staticlib/libdealer.a, for
+ * an echogram target/staticlib/libechogram.a, and for the decay of a row
+ * target/staticlib/libdecay.a (x86-64, System V). None needs another.
  */
 #ifndef WUBRAKEN_H
 #define WUBRAKEN_H
@@ -132,8 +136,10 @@ enum {
     WUBRAKEN_NO_NODE = 12,       /* every node is in use or may still be stood on */
     WUBRAKEN_BAD_ROW = 13,       /* the row or the slot length is outside its limits */
     WUBRAKEN_PAST_ROW = 14,      /* the slot of the time lies past the row */
-    WUBRAKEN_SUM_TOO_LARGE = 15, /* the slot or the sum of all slots would pass 2^32 - 1 */
-    WUBRAKEN_ALL_IDLE = 16       /* no worker has a call in progress */
+    WUBRAKEN_SUM_TOO_LARGE = 15, /* the slot or the sum of all slots would pass 2^32 - 1, or the sum is above it */
+    WUBRAKEN_ALL_IDLE = 16,      /* no worker has a call in progress */
+    WUBRAKEN_SILENT_ROW = 17,    /* every slot of the row is zero */
+    WUBRAKEN_SHORT_BUFFER = 19   /* the buffer has fewer places than the row has slots */
 };
 
 /* What is wrong, and what to do. */
@@ -169,9 +175,13 @@ static inline const char *wubraken_refusal_text(uint64_t number)
     case WUBRAKEN_PAST_ROW:
         return "the slot lies past the row; use more slots, or longer ones";
     case WUBRAKEN_SUM_TOO_LARGE:
-        return "the slot or the sum of all slots would pass 4294967295; clear the row, or go on in another";
+        return "the slot or the sum of all slots would pass 4294967295, or the sum is above it; clear the row, or use another";
     case WUBRAKEN_ALL_IDLE:
         return "no worker has a call in progress; begin one first";
+    case WUBRAKEN_SILENT_ROW:
+        return "every slot of the row is zero; record something first";
+    case WUBRAKEN_SHORT_BUFFER:
+        return "the buffer is too short; lend a place for each slot of the row";
     default:
         return "no refusal has this number";
     }
@@ -360,6 +370,40 @@ uint64_t wubraken_record_series(uint64_t slot_length,
                                 const uint32_t *energies, size_t energies_count,
                                 uint8_t *answers, size_t answers_count,
                                 uint32_t *row, size_t slots);
+
+/* The decay of a row, measured from its start: R(k) is what slot k and all behind it
+ * add up to, 0 past the last. The row is only read, and may lie where nobody can
+ * write. The slot length does not count; what is measured in slots is, times the slot
+ * length, in samples.
+ *
+ * The level of slot k says how far R(k) lies below R(0), in tenths of a decibel. With
+ * r = 1024 * R(k) / R(0), rounded down, it is L(1024) - L(r), from 0 to 301; L(r) is
+ * the greatest v with 10^v <= r^100. For r = 0 there is no level. */
+
+/* Stands for the level of a slot that has none; print a dash. */
+enum { WUBRAKEN_NO_LEVEL = 65535 };
+
+typedef struct {
+    uint64_t number; /* 0, or the refusal */
+    uint64_t value;  /* what was measured; 0 where refused */
+} wubraken_measured;
+
+/* Early decay, in slots: 6 times the first k with 10 * R(k) <= R(0).
+ * Refusals: 13, 15, 17. */
+wubraken_measured wubraken_early_decay(const uint32_t *row, size_t slots);
+
+/* T20, in slots: 3 * (b - a), where a is the first slot with 10 * R(a)^2 <= R(0)^2,
+ * and b the first with 100000 * R(b)^2 <= R(0)^2. Refusals: 13, 15, 17. */
+wubraken_measured wubraken_t20(const uint32_t *row, size_t slots);
+
+/* The level of a slot, which may be any number: past the end there is none, and the
+ * value is WUBRAKEN_NO_LEVEL. It adds up the whole row. Refusals: 13, 15, 17. */
+wubraken_measured wubraken_level(uint64_t slot, const uint32_t *row, size_t slots);
+
+/* The levels of all slots, one a place, WUBRAKEN_NO_LEVEL among them. Places beyond
+ * the slots are not touched. The answer is 0, or the number of a refusal; then the
+ * buffer is as it was. Refusals: 13, 15, 17, 19. */
+uint64_t wubraken_decay_curve(const uint32_t *row, size_t slots, uint16_t *levels, size_t places);
 
 /* A pool: a shape and the memory lent to it, which nobody else writes to while
  * the pool is in use. wubraken_pool_open fills it in; memory that came from

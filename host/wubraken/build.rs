@@ -14,7 +14,7 @@ fn main() {
     };
     println!("cargo:rustc-link-search=native={}", directory.display());
     let mut archives = Vec::new();
-    for name in ["wubraken", "wubraken_batch", "echogram", "dealer"] {
+    for name in ["wubraken", "wubraken_batch", "echogram", "dealer", "decay"] {
         let archive = directory.join(format!("lib{}.a", name));
         if !archive.exists() {
             println!(

@@ -1,7 +1,8 @@
 -- What one recording does, and clearing.
 --     record-lowest, answer-small            what is answered is the lowest number that applies; it is at most 15
 --     clear-lowest                           of clearing, too, it is the lowest
---     Limits, limits-of                      what a row that is not outside its limits may count on
+--     slots-within                           what a number of slots that is not outside its limits may count on,
+--     Limits, limits-of                      and what a row and a slot length
 --     Accepted, record-accepted              what a recording that is not refused may count on
 --     refused-unchanged                      refused, the row is unchanged
 --     slot-gains, others-unchanged           the slot gains the energy; every other slot is unchanged, refused or not
@@ -29,7 +30,7 @@ use borrow.Author.Tests.{leb-true, leb-false, ltb-false, ne-eqb}
 use Rattle.laws.specs.Tests.{neither, by-test}
 use Rattle.laws.specs.Counting.{tally-none}
 use Rattle.laws.specs.FirstOf.{firstOf, Lowest, lowest-of, first-none, first-has}
-use Rattle.echogram.specs.Row.{Recording, slotOf, outside, added, sumOf, most, recordTests, recordAnswer, recorded, clearAnswer, cleared}
+use Rattle.echogram.specs.Row.{Recording, slotOf, slotsOutside, outside, added, sumOf, most, recordTests, recordAnswer, recorded, clearAnswer, cleared}
 use Rattle.echogram.specs.AtSlot.{headroomOf, addAnswer, addedTo, slot-in-sum, add-past, add-large, sum-added}
 
 -- ── refusals ──
@@ -45,6 +46,10 @@ pub clear-lowest : (slotLength : ℕ) (row : List ℕ) → Lowest (clearAnswer s
 unfolding clearAnswer
 clear-lowest slotLength row = lowest-of ((13, outside slotLength (length row)) ∷ []) refl
 
+pub slots-within : (slots : ℕ) → slotsOutside slots ≡ false → (1 ≤ slots) × (slots ≤ 16384)
+slots-within slots limits =
+    let (a, b) = neither (ltb slots 1) (ltb 16384 slots) limits in (ltb-false slots 1 a, ltb-false 16384 slots b)
+
 -- the number of slots and the slot length within their limits
 pub record Limits (slotLength slots : ℕ) : Type 0 where
   pub a-slot : 1 ≤ slots
@@ -54,12 +59,12 @@ pub record Limits (slotLength slots : ℕ) : Type 0 where
 
 pub limits-of : (slotLength slots : ℕ) → outside slotLength slots ≡ false → Limits slotLength slots
 limits-of slotLength slots e =
-    let (abc, d) = neither (ltb slots 1 || ltb 16384 slots || ltb slotLength 1) (ltb 4800 slotLength) e in
-    let (ab, c) = neither (ltb slots 1 || ltb 16384 slots) (ltb slotLength 1) abc in
-    let (a, b) = neither (ltb slots 1) (ltb 16384 slots) ab in
+    let (abc, d) = neither (slotsOutside slots || ltb slotLength 1) (ltb 4800 slotLength) e in
+    let (ab, c) = neither (slotsOutside slots) (ltb slotLength 1) abc in
+    let (some, few) = slots-within slots ab in
     record {
-      a-slot = ltb-false slots 1 a;
-      slots-most = ltb-false 16384 slots b;
+      a-slot = some;
+      slots-most = few;
       a-sample = ltb-false slotLength 1 c;
       samples-most = ltb-false 4800 slotLength d;
     }

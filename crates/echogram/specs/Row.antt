@@ -1,6 +1,6 @@
 -- The echogram: a row of slots, what a recording does to it and what refuses it, in the words and the order of Q-2.
 --     Recording, slotOf                      what a recording is handed; the slot that it belongs to
---     outside                                13: the row or the slot length outside its limits
+--     slotsOutside, outside                  13: the row or the slot length outside its limits
 --     added                                  the row with an energy added to one slot
 --     pastRow, sumOf, most, tooLarge         14: the slot past the row; 15: the slot or the whole sum above 2^32 − 1
 --     slotTests, recordTests                 the refusals in their order
@@ -27,9 +27,13 @@ pub record Recording : Type 0 where
 abbrev pub slotOf : Recording → ℕ
 slotOf r = r .time / r .slotLength
 
--- a row has 1 to 16,384 slots, a slot 1 to 4,800 samples
+-- a row has 1 to 16,384 slots,
+abbrev pub slotsOutside : ℕ → Bool
+slotsOutside slots = ltb slots 1 || ltb 16384 slots
+
+-- and a slot 1 to 4,800 samples
 abbrev pub outside : ℕ → ℕ → Bool
-outside slotLength slots = ltb slots 1 || ltb 16384 slots || ltb slotLength 1 || ltb 4800 slotLength
+outside slotLength slots = slotsOutside slots || ltb slotLength 1 || ltb 4800 slotLength
 
 -- slot k gains e, every other slot is unchanged
 abbrev pub added : List ℕ → ℕ → ℕ → List ℕ

@@ -8,7 +8,7 @@ use row::is_outside;
 use series::record_each;
 
 mod grid;
-mod row;
+pub mod row;
 mod series;
 
 // Clears a row: every slot is 0. The answer is 0, or the number of the refusal.

@@ -2,18 +2,25 @@
 ghost use mathlib.Core.Path.{_≡_};
 ghost use Prim.Native.Nat.{_≤_, _<_};
 ghost use lib.ListN.{length};
-ghost use Rattle.echogram.specs.Row.{outside, sumOf};
+ghost use Rattle.echogram.specs.Row.{slotsOutside, outside, sumOf};
 ghost use Rattle.echogram.specs.AtSlot.{headroomOf, addAnswer, addedTo};
+
+// Whether a number of slots is outside its limits.
+pub fn slots_outside(slots: usize) -> bool
+    ensures { λ r. ⌜ r ≡ slotsOutside slots ⌝ }
+{
+    (slots < 1) | (16384 < slots)
+}
 
 // Whether a slot length, or a number of slots, is outside its limits.
 pub fn is_outside(slot_length: u64, slots: usize) -> bool
     ensures { λ r. ⌜ r ≡ outside «slot_length» slots ⌝ }
 {
-    (slots < 1) | (16384 < slots) | (slot_length < 1) | (4800 < slot_length)
+    slots_outside(slots) | (slot_length < 1) | (4800 < slot_length)
 }
 
 // The slots added up.
-fn sum_of(row: &[u32]) -> u64
+pub fn sum_of(row: &[u32]) -> u64
     requires { ⌜ length (now row) ≤ 16384 ⌝ }
     ensures { λ r. ⌜ r ≡ sumOf (now (row .entry)) ⌝ }
 {

@@ -5,7 +5,8 @@
 --     every-at, every-all, every-fails       what it tells of each; what tells it; where one fails
 --     every-same                             two tests alike below n
 --     count-three                            three tests of which exactly one holds share the numbers out
---     sum-more, sum-same, sum-at             of one more; two functions alike below n; no number is above the sum
+--     sum-more, sum-front                    of one more; the first by itself
+--     sum-same, sum-at, sum-most             two functions alike below n; no number is above the sum; a bound on each bounds it
 --     tally-none, tally-with                 a sum of zeros; a sum with another at one number
 --     sum-set                                the sum of a list with another element
 --     Each, each-of                          a property of each element, by its number; of the one at n
@@ -14,7 +15,7 @@ use mathlib.Core.Path.{_≡_, refl, sym, ap, _∙_, subst}
 use mathlib.Core.List.{List, [], _∷_}
 use mathlib.Core.Bool.{Bool, true, false, cond, _&&_, and-false}
 use mathlib.Core.Logic.{⊎-elim}
-use Prim.Native.Nat.{ℕ, zero, suc, _+_, _<_, _≤_}
+use Prim.Native.Nat.{ℕ, zero, suc, _+_, _*_, _<_, _≤_}
 use lib.Dec.{eqb}
 use lib.ListN.{length, getD, set}
 use lib.Seq.{getD-set-same, getD-set-other}
@@ -88,6 +89,10 @@ count-three (suc n) f g h one = omega (arith, one n, count-three n f g h one)
 pub sum-more : (g : ℕ → ℕ) (n : ℕ) → sum g (n + 1) ≡ g n + sum g n
 sum-more g n = rw add-one
 
+pub sum-front : (g : ℕ → ℕ) (n : ℕ) → sum g (suc n) ≡ g 0 + sum (λ k. g (suc k)) n
+sum-front g zero = refl
+sum-front g (suc n) = omega (arith, sum-front g n)
+
 pub sum-same : (f g : ℕ → ℕ) (n : ℕ) → ((k : ℕ) → k < n → f k ≡ g k) → sum f n ≡ sum g n
 sum-same f g zero h = refl
 sum-same f g (suc n) h = omega (arith, h n (omega arith), sum-same f g n (λ k l. h k (omega arith)))
@@ -95,6 +100,10 @@ sum-same f g (suc n) h = omega (arith, h n (omega arith), sum-same f g n (λ k l
 pub sum-at : (g : ℕ → ℕ) (n k : ℕ) → k < n → g k ≤ sum g n
 sum-at g zero k h = absurd (not-suc-le-zero h)
 sum-at g (suc n) k h = ⊎-elim (λ q. omega (arith, ap g q)) (λ l. omega (arith, sum-at g n k l)) (eq-or-lt-of-le (le-of-suc-le-suc h))
+
+pub sum-most : (g : ℕ → ℕ) (m n : ℕ) → ((k : ℕ) → k < n → g k ≤ m) → sum g n ≤ m * n
+sum-most g m zero h = omega arith
+sum-most g m (suc n) h = omega (arith, h n (omega arith), sum-most g m n (λ k l. h k (omega arith)))
 
 pub tally-none : {A : Type 0} (f : A → ℕ) (T : ℕ → A) (n : ℕ) → ((j : ℕ) → j < n → f (T j) ≡ 0) → tally f T n ≡ 0
 tally-none f T zero h = refl

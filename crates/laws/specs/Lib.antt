@@ -3,3 +3,4 @@ pub mod Lists
 pub mod Storing
 pub mod Counting
 pub mod FirstOf
+pub mod Searching

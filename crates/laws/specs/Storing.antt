@@ -3,6 +3,7 @@
 --     store-next, cleared-more            the next of a list; the same value once more
 --     over-taken                          one value over the front, seen in a part
 --     words-none, words-more              words by their number: none yet; the next
+--     words-before                        the one before, where they are stored from the end
 --     last-first, next-stored             a run of stores: its last first; its next
 --     behind, joined                      one run behind another; behind one that a byte ends
 --     moved, none-moved, moved-more       bytes moved to the front of their own list, one by one
@@ -60,6 +61,15 @@ words-more g n d h =
     rw add-one
     (store-behind (wordsFrom g 0 n) d n (g n) (length-words g 0 n) h
     ∙ ap (λ (u : List ℕ). u ++ drop (suc n) d) (ap (λ (k : ℕ). wordsFrom g 0 n ++ (g k ∷ [])) e ∙ sym (words-suc g 0 n)))
+
+-- the one before them, where the last was stored first
+pub words-before : (g : ℕ → ℕ) (k n : ℕ) (t u : List ℕ) → k < length t
+    → set (take (suc k) t ++ (wordsFrom g (suc k) n ++ u)) k (g k) ≡ take k t ++ (wordsFrom g k (suc n) ++ u)
+unfolding wordsFrom
+words-before g k n t u h =
+    ap (λ (p : List ℕ). set (p ++ (wordsFrom g (suc k) n ++ u)) k (g k)) (take-suc t k 0 h)
+    ∙ ap (λ (p : List ℕ). set p k (g k)) (append-snoc (take k t) (getD t k 0) (wordsFrom g (suc k) n ++ u))
+    ∙ set-at (take k t) (getD t k 0) (wordsFrom g (suc k) n ++ u) (g k) k (length-take-le k t (omega arith))
 
 -- ── runs of stores ──
 -- the last byte stored first

@@ -11,7 +11,7 @@ contestants take turns, and the best of several rounds counts.
 options:
   --quick          everything small, only to see that it runs
   --only PART      one part: schedules, turn, narrow, hold, threads, calls, growth, tail,
-                   echogram or dealer
+                   echogram, decay or dealer
   --records N      records of a schedule       (default 10,000,000)
   --rounds N       rounds of each contest      (default 7)
   --svg PATH       the picture of growth       (default target/bench/growth.svg)
@@ -36,10 +36,11 @@ pub enum Part {
     Growth,
     Tail,
     Echogram,
+    Decay,
     Dealer,
 }
 
-const PARTS: [(&str, Part); 10] = [
+const PARTS: [(&str, Part); 11] = [
     ("schedules", Part::Schedules),
     ("turn", Part::InnerTurn),
     ("narrow", Part::NarrowCalls),
@@ -49,6 +50,7 @@ const PARTS: [(&str, Part); 10] = [
     ("growth", Part::Growth),
     ("tail", Part::Tail),
     ("echogram", Part::Echogram),
+    ("decay", Part::Decay),
     ("dealer", Part::Dealer),
 ];
 
@@ -62,6 +64,8 @@ pub struct Arguments {
     pub holds: usize,
     /// Batches that are nearly all turns.
     pub pieces_of_turns: usize,
+    /// Rounds of a contest of microseconds, to one of another.
+    pub short_rounds: usize,
     pub svg: PathBuf,
     pub tail_svg: PathBuf,
     pub turns: PathBuf,
@@ -79,6 +83,7 @@ impl Arguments {
             records: 10_000_000,
             holds: 50_000,
             pieces_of_turns: 20,
+            short_rounds: 100,
             svg: "target/bench/growth.svg".into(),
             tail_svg: "target/bench/tail.svg".into(),
             turns: "target/bin/turns".into(),
@@ -94,6 +99,7 @@ impl Arguments {
         self.records = 1_000_000;
         self.holds = 10_000;
         self.pieces_of_turns = 5;
+        self.short_rounds = 10;
     }
 
     /// None for words that make no sense.

@@ -164,7 +164,8 @@ fn time_single(echogram: &mut Echogram, times: &[u32]) -> Duration {
     })
 }
 
-fn time_passes(row: &[u32], passes: usize) -> Duration {
+/// How long so many passes take, each of which adds up the row.
+pub fn time_passes(row: &[u32], passes: usize) -> Duration {
     time(|| {
         for _ in 0..passes {
             keep(sum(unknown(row)));

@@ -2,6 +2,7 @@
 #![deny(unsafe_code)]
 
 mod arguments;
+mod decay;
 mod echogram;
 mod engines;
 mod growth;
@@ -68,6 +69,7 @@ fn run(arguments: &Arguments) -> io::Result<()> {
             Part::Growth => growth::run(arguments)?,
             Part::Tail => tail::run(arguments)?,
             Part::Echogram => echogram::run(arguments),
+            Part::Decay => decay::run(arguments),
             Part::Dealer => {
                 let numbers = [arguments.rounds, arguments.holds];
                 programs::run_contest(&arguments.dealer, &numbers)?;

@@ -62,6 +62,13 @@ pub fn row(name: &str, [ours, other]: [f64; 2], unit: &str, ratio: f64, target: 
     );
 }
 
+/// The same without a target.
+pub fn compared(name: &str, [ours, other]: [f64; 2], unit: &str, ratio: f64) {
+    println!(
+        "  {name:<36}{ours:>9.1} {unit:<4}{other:>9.1} {unit:<4} ratio {ratio:<6.2} (no target)"
+    );
+}
+
 /// A line for what could not be measured.
 pub fn skipped(name: &str, why: &str) {
     println!("  {name:<36} skipped: {why}");

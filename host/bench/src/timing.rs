@@ -30,9 +30,15 @@ pub fn time(action: impl FnOnce()) -> Duration {
 }
 
 /// How often something can be done in about a millisecond.
-pub fn cycles_in_a_millisecond(mut cycle: impl FnMut() -> Duration) -> usize {
+pub fn cycles_in_a_millisecond(cycle: impl FnMut() -> Duration) -> usize {
+    cycles_in(1_000, cycle)
+}
+
+/// How often something can be done in about so many microseconds.
+pub fn cycles_in(microseconds: u64, mut cycle: impl FnMut() -> Duration) -> usize {
     let one = cycle().min(cycle());
-    (1_000_000 / one.as_nanos().max(1)).clamp(1, 10_000) as usize
+    let span = u128::from(1_000 * microseconds);
+    (span / one.as_nanos().max(1)).clamp(1, 10_000) as usize
 }
 
 /// A round that takes about a millisecond can be made so many times more often.

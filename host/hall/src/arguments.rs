@@ -1,5 +1,8 @@
 //! The words of the command line.
 
+use std::ffi::OsString;
+use std::path::PathBuf;
+
 use wubraken::{Echogram, Shape};
 
 use crate::geometry::{Hall, GREATEST_ORDER, SAMPLES_PER_MILLISECOND};
@@ -14,7 +17,9 @@ Traces the echoes of a shoebox hall with several workers that share one pool of
 arrivals: each takes the earliest, mirrors its source once more, and puts the
 reflections back. Prints what was taken (time in samples at 48 kHz, path, order,
 distance in metres, energy), an account, and the echogram, the energies added up by
-time. The same options print the same.
+time, with the level of each slot in decibels. At the end come early decay and T20, in
+slots and milliseconds: by first crossings, in whole slots; no line is fitted, where
+ISO 3382 fits one. The same options print the same.
 
 options:
   --seed N       the workers' starts and turns come in a random order, made from
@@ -30,6 +35,7 @@ options:
   --slot MS      how many milliseconds a slot of the echogram has, 1 to {}; whatever
                  comes after {SLOTS} slots is refused, and counted (default: as few as
                  let all of it fit)
+  --curve FILE   writes the decay curve, the levels by time, as a picture (SVG)
   --help         prints this text
 ",
         Shape::MAX_WORKERS,
@@ -39,7 +45,7 @@ options:
     )
 }
 
-#[derive(Clone, Copy, Debug, PartialEq, Eq)]
+#[derive(Clone, Debug, PartialEq, Eq)]
 pub struct Arguments {
     pub interleaving: Interleaving,
     pub workers: u64,
@@ -47,6 +53,8 @@ pub struct Arguments {
     pub order: u32,
     pub span: u64,
     pub slot: Option<u64>,
+    /// The file for the decay curve.
+    pub curve: Option<PathBuf>,
 }
 
 impl Default for Arguments {
@@ -58,6 +66,7 @@ impl Default for Arguments {
             order: 2,
             span: 100,
             slot: None,
+            curve: None,
         }
     }
 }
@@ -67,23 +76,21 @@ const WIDTH_PER_MILLISECOND: u64 = SAMPLES_PER_MILLISECOND / BUCKETS;
 
 impl Arguments {
     /// None for words that make no sense.
-    pub fn parse(words: &[String]) -> Option<Self> {
+    pub fn parse(words: &[OsString]) -> Option<Self> {
         let mut arguments = Self::default();
         let (mut seed, mut is_dealt) = (None, false);
         let mut words = words.iter();
         while let Some(name) = words.next() {
-            if name == "--dealer" {
-                is_dealt = true;
-                continue;
-            }
-            let number: u64 = words.next()?.parse().ok()?;
-            match name.as_str() {
-                "--seed" => seed = Some(number),
-                "--workers" => arguments.workers = number,
-                "--nodes" => arguments.nodes = number,
-                "--order" => arguments.order = u32::try_from(number).ok()?,
-                "--span" => arguments.span = number,
-                "--slot" => arguments.slot = Some(number),
+            let mut number = || words.next()?.to_str()?.parse::<u64>().ok();
+            match name.to_str()? {
+                "--seed" => seed = Some(number()?),
+                "--dealer" => is_dealt = true,
+                "--workers" => arguments.workers = number()?,
+                "--nodes" => arguments.nodes = number()?,
+                "--order" => arguments.order = u32::try_from(number()?).ok()?,
+                "--span" => arguments.span = number()?,
+                "--slot" => arguments.slot = Some(number()?),
+                "--curve" => arguments.curve = Some(words.next()?.into()),
                 _ => return None,
             }
         }
@@ -98,7 +105,7 @@ impl Arguments {
     }
 
     /// The job; the pool judges its shape, and the echogram its slots.
-    pub fn job(self) -> Job {
+    pub fn job(&self) -> Job {
         Job {
             hall: CONCERT_HALL,
             order: self.order,

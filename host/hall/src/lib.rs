@@ -18,17 +18,21 @@
 //! promises 2 and 4, x's put had not ended when y's take started, or the takes of
 //! both overlap, and x was marked and not yet answered when y's take ended.
 //!
-//! Each arrival that is taken is recorded in an echogram as it is answered.
+//! Each arrival that is taken is recorded in an echogram as it is answered. What is printed
+//! of it, levels, early decay and T20 included, comes from the library.
 #![forbid(unsafe_code)]
 
 mod arguments;
+mod bars;
+mod curve;
+mod decay;
 mod geometry;
-mod picture;
 mod report;
 mod trace;
 mod tracer;
 
 pub use arguments::{help, Arguments};
+pub use curve::decay_curve;
 pub use geometry::{Hall, Image, GREATEST_ORDER, SAMPLES_PER_SECOND};
 pub use report::report;
 pub use trace::{Call, Event, Trace};

@@ -1,25 +1,27 @@
-//! Prints a traced hall.
+//! Prints a traced hall, and draws how its sound decays.
 #![forbid(unsafe_code)]
 
 use std::error::Error;
+use std::ffi::OsString;
+use std::fs;
 use std::io::{self, ErrorKind, Write};
 use std::process::ExitCode;
 
-use hall::{help, report, trace, Arguments, Job};
+use hall::{decay_curve, help, report, trace, Arguments};
 
 fn main() -> ExitCode {
-    let words: Vec<String> = std::env::args().skip(1).collect();
+    let words: Vec<OsString> = std::env::args_os().skip(1).collect();
     if words.iter().any(|word| word == "--help") {
         return print(&help());
     }
-    let job = match Arguments::parse(&words) {
-        Some(arguments) => arguments.job(),
+    let arguments = match Arguments::parse(&words) {
+        Some(arguments) => arguments,
         None => {
             eprint!("{}", help());
             return ExitCode::from(2);
         }
     };
-    match run(&job) {
+    match run(&arguments) {
         Ok(text) => print(&text),
         Err(error) => {
             eprintln!("hall: {error}");
@@ -29,9 +31,15 @@ fn main() -> ExitCode {
 }
 
 /// A shape outside its limits is refused here, where the field can be named.
-fn run(job: &Job) -> Result<String, Box<dyn Error>> {
+fn run(arguments: &Arguments) -> Result<String, Box<dyn Error>> {
+    let job = arguments.job();
     job.shape.check()?;
-    Ok(report(job.shape, &trace(job)?))
+    let trace = trace(&job)?;
+    if let Some(path) = &arguments.curve {
+        fs::write(path, decay_curve(&trace))
+            .map_err(|error| format!("cannot write {}: {error}", path.display()))?;
+    }
+    Ok(report(job.shape, &trace))
 }
 
 /// Nobody reading on is no failure.

@@ -4,7 +4,7 @@ use std::fmt::Write;
 
 use wubraken::{Shape, Taken};
 
-use crate::picture::push_picture;
+use crate::bars::push_echogram;
 use crate::trace::Trace;
 
 /// The taken list, the account of the run, and the echogram.
@@ -19,7 +19,7 @@ pub fn report(shape: Shape, trace: &Trace) -> String {
         push_arrival(&mut text, arrival, is_overtaken);
     }
     push_account(&mut text, shape, trace, overtaken);
-    push_picture(&mut text, trace);
+    push_echogram(&mut text, trace);
     text
 }
 

@@ -4,6 +4,8 @@ use std::collections::BTreeSet;
 
 use wubraken::{Arrival, Taken};
 
+use crate::geometry::SAMPLES_PER_MILLISECOND;
+
 /// A finished call; its moments count the starts and turns of all workers.
 #[derive(Clone, Copy, Debug)]
 pub struct Call {
@@ -64,6 +66,15 @@ impl Trace {
     pub fn empty_answers(&self) -> usize {
         let is_empty = |call: &&Call| matches!(call.event, Event::Empty);
         self.calls.iter().filter(is_empty).count()
+    }
+
+    /// So many slots of the echogram, with their milliseconds.
+    pub fn length(&self, slots: u64) -> String {
+        format!("{slots} slots, {} ms", self.milliseconds(slots))
+    }
+
+    pub fn milliseconds(&self, slots: u64) -> u64 {
+        slots * self.slot_length / SAMPLES_PER_MILLISECOND
     }
 
     /// Puts that got a node which another had had before.

@@ -84,9 +84,9 @@ fn a_sum_that_is_too_large_is_counted() {
     );
     assert_eq!((trace.past_row, trace.sum_too_large), (0, 377 - 255));
     let text = report(job.shape, &trace);
-    let first = format!("    0      0 4278190080 {}\n", "#".repeat(60));
+    let first = format!("    0      0 4278190080    0.0 {}\n", "#".repeat(60));
     assert!(text.contains(&first), "{text}");
-    assert!(text.ends_with(
+    assert!(text.contains(
         "sum of the slots: 4278190080; of the energies taken: 6325010432\n\
          recordings refused: 0 past the row (14), 122 by a sum above 2^32 - 1 (15)\n"
     ));
@@ -101,6 +101,11 @@ fn picture(trace: &Trace) -> String {
 
 /// The square root of a half is 0.707, and that of a tenth 0.316; 60 times as much is 42.4
 /// and 19.0, of a quarter 30. From a 3,600th of the strongest down it is one mark.
+///
+/// From slot 3 on 1,350,556 are left, of 1,850,556: 747 of 1,024, whose hundredfold logarithm
+/// is 287.3, and that of 1,024 is 301.03. Then 350,556 are left, 193 and 228.6; 250,556, 138
+/// and 214.0; and 556, which is less than a 1,024th. A tenth or less is left from slot 6 on,
+/// as is less than -25 dB; -5 dB is 585,197, from slot 4 on.
 #[test]
 fn bars_by_hand() {
     let trace = Trace {
@@ -112,21 +117,25 @@ fn bars_by_hand() {
     };
     let [half, all, tenth, quarter] = [43, 60, 19, 30].map(|marks| "#".repeat(marks));
     let expected = format!(
-        "11 slots of 2 ms; bars by the square root of the energy, the strongest slot has 60\n \
-         slot     ms     energy\n    \
-         0      0          0\n    \
-         1      2          0\n    \
-         2      4     500000 {half}\n    \
-         3      6    1000000 {all}\n    \
-         4      8     100000 {tenth}\n    \
-         5     10     250000 {quarter}\n    \
-         6     12          0\n    \
-         7     14        278 ##\n    \
-         8     16        277 #\n    \
-         9     18          1 #\n   \
-         10     20          0\n\
+        "11 slots of 2 ms; bars by the square root of the energy, the strongest slot has 60\n\
+         level: the sum from a slot to the end, rounded down to 1,024ths of all, in dB; a dash for none\n \
+         slot     ms     energy  level\n    \
+         0      0          0    0.0\n    \
+         1      2          0    0.0\n    \
+         2      4     500000    0.0 {half}\n    \
+         3      6    1000000   -1.4 {all}\n    \
+         4      8     100000   -7.3 {tenth}\n    \
+         5     10     250000   -8.8 {quarter}\n    \
+         6     12          0      -\n    \
+         7     14        278      - ##\n    \
+         8     16        277      - #\n    \
+         9     18          1      - #\n   \
+         10     20          0      -\n\
          sum of the slots: 1850556; of the energies taken: 0\n\
-         recordings refused: 0 past the row (14), 0 by a sum above 2^32 - 1 (15)\n"
+         recordings refused: 0 past the row (14), 0 by a sum above 2^32 - 1 (15)\n\
+         early decay: 36 slots, 72 ms (6 times the first crossing of -10 dB)\n\
+         T20: 6 slots, 12 ms (3 times the way from the first crossing of -5 dB to that of -25 dB)\n\
+         crossings: of sums, not of rounded levels; in whole slots; no line is fitted (ISO 3382 fits one)\n"
     );
     assert_eq!(picture(&trace), expected);
 }
@@ -142,10 +151,12 @@ fn an_echogram_without_a_recording() {
     assert_eq!((trace.taken().len(), trace.past_row), (1, 1));
     let picture = picture(&trace);
     let lines: Vec<&str> = picture.lines().collect();
-    assert_eq!(lines.len(), 2 + SLOTS + 2);
-    assert!(lines[2..][..SLOTS].iter().all(|line| line.ends_with(" 0")));
+    assert_eq!(lines.len(), 3 + SLOTS + 3);
+    let empty = |line: &&str| line.ends_with(" 0      -");
+    assert!(lines[3..][..SLOTS].iter().all(empty));
     assert!(picture.ends_with(
         "sum of the slots: 0; of the energies taken: 41943\n\
-         recordings refused: 1 past the row (14), 0 by a sum above 2^32 - 1 (15)\n"
+         recordings refused: 1 past the row (14), 0 by a sum above 2^32 - 1 (15)\n\
+         no early decay and no T20: nothing was recorded (17)\n"
     ));
 }

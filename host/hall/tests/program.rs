@@ -39,14 +39,14 @@ fn a_dealer_instead_of_a_seed() {
 }
 
 /// The direct sound, 6 reflections and 18 second ones; the account; then the echogram:
-/// its heading, a line for each slot, and the sums.
+/// its heading, a line for each slot, the sums, and the decay.
 #[test]
 fn the_default_run_fits_two_screens() {
     let text = text(&[]);
     let lines: Vec<&str> = text.lines().collect();
     assert!(lines.iter().all(|line| line.len() <= 100));
     let (list, echogram) = lines.split_at(1 + (1 + 6 + 18) + 6);
-    assert_eq!(echogram.len(), 2 + slots(&text).len() + 2);
+    assert_eq!(echogram.len(), 3 + slots(&text).len() + 2 + 3);
     let account = &list[list.len() - 6..];
     for (line, name) in account.iter().zip([
         "turns:",
@@ -81,14 +81,15 @@ fn the_tail_is_counted() {
     }
 }
 
-/// The lines of the slots: number, start in milliseconds, energy, and the bar.
+/// The lines of the slots: number, start in milliseconds, energy, and the bar. (The levels
+/// are looked at in decay.rs.)
 fn slots(text: &str) -> Vec<(u64, u64, u64, usize)> {
-    let (_, echogram) = text.split_once(" slot     ms     energy\n").unwrap();
+    let (_, echogram) = text.split_once(" slot     ms     energy  level\n").unwrap();
     let (slots, _) = echogram.split_once("sum of the slots: ").unwrap();
     let parse = |line: &str| {
         let words: Vec<&str> = line.split_whitespace().collect();
         let number = |place: usize| words[place].parse().unwrap();
-        let bar = words.get(3).map_or("", |bar| bar);
+        let bar = words.get(4).map_or("", |bar| bar);
         assert_eq!(bar, "#".repeat(bar.len()));
         (number(0), number(1), number(2), bar.len())
     };
@@ -139,7 +140,7 @@ fn the_echogram_has_the_energies_of_the_list() {
         }
         let sums = format!("sum of the slots: {sum}; of the energies taken: {sum}\n");
         let refused = "recordings refused: 0 past the row (14), 0 by a sum above 2^32 - 1 (15)\n";
-        assert!(text.ends_with(&format!("{sums}{refused}")), "{text}");
+        assert!(text.contains(&format!("{sums}{refused}")), "{text}");
     }
 }
 
@@ -225,6 +226,7 @@ fn words_that_make_no_sense() {
         &["--seed", "1", "--dealer"],
         &["--dealer", "--seed", "1"],
         &["--dealer", "1"],
+        &["--curve"],
         &["12"],
     ] {
         let output = hall(words);
@@ -238,4 +240,6 @@ fn words_that_make_no_sense() {
     );
     assert!(help.contains("comes after 40 slots is refused"));
     assert!(help.contains("--dealer       instead of a random order, a dealer:"));
+    assert!(help.contains("--curve FILE   writes the decay curve"));
+    assert!(help.contains("no line is fitted, where\nISO 3382 fits one."));
 }

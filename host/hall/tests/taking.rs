@@ -33,7 +33,7 @@ fn runs() -> Vec<Trace> {
                     nodes,
                     order: 3,
                     span,
-                    slot: None,
+                    ..Arguments::default()
                 }));
             }
         }

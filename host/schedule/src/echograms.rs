@@ -5,7 +5,7 @@ use random::Random;
 use second::{MAX_SLOTS, MAX_SLOT_LENGTH};
 
 /// The most that the slots of a row may hold together.
-const MAX_SUM: u64 = u32::MAX as u64;
+pub(crate) const MAX_SUM: u64 = u32::MAX as u64;
 
 /// A lent row with its slot length, and recordings: as many times as energies.
 #[derive(Clone, Debug, PartialEq, Eq)]
@@ -132,7 +132,7 @@ fn sum_near_the_most(random: &mut Random) -> u64 {
 }
 
 /// Gives the slots this sum, or as much of it as they can hold.
-fn spread(random: &mut Random, sum: u64, row: &mut [u32]) {
+pub(crate) fn spread(random: &mut Random, sum: u64, row: &mut [u32]) {
     let mut left = sum;
     let mut others = row.len() as u64;
     for slot in row {

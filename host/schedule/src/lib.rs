@@ -1,5 +1,5 @@
 //! Turn files for the arrival pool, seeded random ones and those written by hand,
-//! random lent memory, and random echograms.
+//! random lent memory, random echograms, and random rows that die away or do not.
 #![forbid(unsafe_code)]
 
 pub mod by_hand;
@@ -7,6 +7,7 @@ pub mod distances;
 pub mod echograms;
 pub mod lent;
 pub mod orders;
+pub mod rows;
 pub mod script;
 pub mod stored;
 pub mod times;

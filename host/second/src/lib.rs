@@ -8,7 +8,8 @@
 //! the call. [`run`] is the streaming turn-file program.
 //!
 //! [`deal`], [`deal_run`] and [`narrow_deal`] deal turns, going round among the workers.
-//! [`clear_row`], [`record`] and [`record_series`] keep an echogram of what was taken.
+//! [`clear_row`], [`record`] and [`record_series`] keep an echogram of what was taken;
+//! [`early_decay`], [`t20`], [`level`] and [`decay_curve`] say how it decays.
 //!
 //! Names of the document and their names here: put is enqueue, take is dequeue,
 //! turn is step, stamp is ticket, standing is the reclamation state, resting is
@@ -16,6 +17,7 @@
 #![forbid(unsafe_code)]
 
 mod dealer;
+mod decay;
 mod echogram;
 mod energy;
 mod lines;
@@ -35,6 +37,7 @@ pub mod layout;
 pub mod word;
 
 pub use dealer::{deal, deal_run, narrow_deal, new_dealer, Dealt};
+pub use decay::{decay_curve, early_decay, level, t20, NO_LEVEL};
 pub use echogram::{clear_row, record, record_series, MAX_SLOTS, MAX_SLOT_LENGTH};
 pub use energy::energy;
 pub use lines::{push_line, Lines};

@@ -45,6 +45,9 @@ pub enum Refusal {
     SlotPastRow = 14,
     SumTooLarge = 15,
     AllIdle = 16,
+    SilentRow = 17,
+    // 18 is not given.
+    BufferTooShort = 19,
 }
 
 impl Refusal {

@@ -1,7 +1,7 @@
 //! What the pool answers.
 
 use crate::raw::{self, kind, stop};
-use crate::{Arrival, Refusal};
+use crate::{Arrival, Echogram, Refusal};
 
 /// The arrival that a dequeue took out. In memory that was damaged a field may be
 /// past its limit; what needs more than 32 bits is then `u32::MAX`.
@@ -169,11 +169,25 @@ pub(crate) fn ended(end: raw::BatchEnd) -> BatchEnd {
 
 /// What an echogram answers: 0, or the number of a refusal.
 #[inline]
-pub(crate) fn recorded(number: u64) -> Result<(), Refusal> {
+pub(crate) fn accepted(number: u64) -> Result<(), Refusal> {
     match number {
         0 => Ok(()),
         number => Err(refusal(number)),
     }
+}
+
+/// What was measured of a row.
+#[inline]
+pub(crate) fn measured(measured: raw::Measured) -> Result<u64, Refusal> {
+    accepted(measured.number).map(|()| measured.value)
+}
+
+/// The level that was measured of a slot.
+#[inline]
+pub(crate) fn level(measured: raw::Measured) -> Result<Option<u16>, Refusal> {
+    let stored = self::measured(measured)?.try_into();
+    let stored = stored.unwrap_or_else(|_| another_library());
+    Ok(Echogram::level_from(stored))
 }
 
 #[inline]

@@ -101,7 +101,7 @@ macro_rules! call {
         let (slots, row) = (row.len(), row.as_mut_ptr());
         // SAFETY: pointers and lengths of slices, borrowed for the call.
         let number = unsafe { raw::$function($echogram.slot_length, $($argument,)* row, slots) };
-        answer::recorded(number)
+        answer::accepted(number)
     }};
 }
 

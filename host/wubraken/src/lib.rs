@@ -61,11 +61,13 @@
 //! call in progress (`examples/dealer.rs`).
 //!
 //! An [`Echogram`] adds up the energies of what was taken, by their times
-//! (`examples/echogram.rs`).
+//! (`examples/echogram.rs`), and measures how they decay: [`Echogram::early_decay`],
+//! [`Echogram::t20`] and [`Echogram::decay_curve`] (`examples/decay.rs`).
 //!
 //! The library is linked from the repository's `target/staticlib`, where
-//! `rt staticlib wubraken`, `rt staticlib wubraken_batch`, `rt staticlib echogram` and
-//! `rt staticlib dealer` write it, or from the directory `WUBRAKEN_LIB_DIR`.
+//! `rt staticlib wubraken`, `rt staticlib wubraken_batch`, `rt staticlib echogram`,
+//! `rt staticlib dealer` and `rt staticlib decay` write it, or from the directory
+//! `WUBRAKEN_LIB_DIR`.
 #![warn(missing_docs)]
 
 #[cfg(not(all(target_arch = "x86_64", target_pointer_width = "64")))]
@@ -73,6 +75,7 @@ compile_error!("the proved library is compiled for 64-bit x86-64");
 
 mod answer;
 mod dealer;
+mod decay;
 mod echogram;
 mod limits;
 mod pool;

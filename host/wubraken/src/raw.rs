@@ -85,6 +85,16 @@ pub struct Dealt {
     pub answer: Answer,
 }
 
+/// What was measured of a row.
+#[repr(C)]
+#[derive(Clone, Copy, Debug, Default, PartialEq, Eq)]
+pub struct Measured {
+    /// 0, or the refusal's number.
+    pub number: u64,
+    /// What was measured; 0 where refused.
+    pub value: u64,
+}
+
 extern "C" {
     /// Words to lend; 0 outside the limits.
     pub fn wubraken_words(shape: Shape) -> u64;
@@ -235,5 +245,23 @@ extern "C" {
         answers_count: usize,
         row: *mut u32,
         slots: usize,
+    ) -> u64;
+
+    /// Early decay, in slots.
+    pub fn wubraken_early_decay(row: *const u32, slots: usize) -> Measured;
+
+    /// T20, in slots.
+    pub fn wubraken_t20(row: *const u32, slots: usize) -> Measured;
+
+    /// The level of a slot, in tenths of a decibel, or
+    /// [`NO_LEVEL`](crate::Echogram::NO_LEVEL).
+    pub fn wubraken_level(slot: u64, row: *const u32, slots: usize) -> Measured;
+
+    /// The levels of all slots: 0, or the refusal's number.
+    pub fn wubraken_decay_curve(
+        row: *const u32,
+        slots: usize,
+        levels: *mut u16,
+        places: usize,
     ) -> u64;
 }

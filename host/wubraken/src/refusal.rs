@@ -6,9 +6,9 @@ use std::fmt;
 use crate::{Arrival, Echogram, Shape};
 
 /// The reasons, by their numbers. Of several the lowest is answered. What is
-/// refused, a start, a turn or a recording, changes nothing; turns before it are
-/// done. (A dealt turn that 11 refuses moves its dealer on.) As text, a refusal says
-/// what to do.
+/// refused, a start, a turn, a recording or a measurement, changes nothing; turns
+/// before it are done. (A dealt turn that 11 refuses moves its dealer on.) As text, a
+/// refusal says what to do.
 ///
 /// ```
 /// let text = wubraken::Refusal::Busy.to_string();
@@ -44,18 +44,23 @@ pub enum Refusal {
     /// Every node is in use or may still be stood on.
     NoNode = 12,
     /// The row of an echogram or its slot length is outside its limits,
-    /// [`Echogram::MAX_SLOTS`] and [`Echogram::MAX_SLOT_LENGTH`].
+    /// [`Echogram::MAX_SLOTS`] and [`Echogram::MAX_SLOT_LENGTH`]. Where a decay is
+    /// measured it is the row, and the slot length does not count.
     BadRow = 13,
     /// The slot of the time lies past the row.
     PastRow = 14,
-    /// The slot, or the sum of all slots, would pass 2^32 − 1.
+    /// The slot, or the sum of all slots, would pass 2^32 − 1, or the sum is above it.
     SumTooLarge = 15,
     /// No worker has a call in progress, and a dealer has no turn to deal.
     AllIdle = 16,
+    /// Every slot of the row is zero, and there is no decay to measure.
+    SilentRow = 17,
+    /// The buffer has fewer places than the row has slots.
+    ShortBuffer = 19,
 }
 
 impl Refusal {
-    /// All, in the order of their numbers.
+    /// All, in the order of their numbers. There is no 18.
     pub const ALL: &'static [Refusal] = &[
         Refusal::BadShape,
         Refusal::TooShort,
@@ -73,6 +78,8 @@ impl Refusal {
         Refusal::PastRow,
         Refusal::SumTooLarge,
         Refusal::AllIdle,
+        Refusal::SilentRow,
+        Refusal::ShortBuffer,
     ];
 
     /// The number that a `no` line prints.
@@ -84,8 +91,8 @@ impl Refusal {
     /// The refusal of a number.
     #[inline]
     pub fn from_number(number: u64) -> Option<Self> {
-        let place = number.checked_sub(1)?.try_into().ok()?;
-        Self::ALL.get::<usize>(place).copied()
+        let mut all = Self::ALL.iter().copied();
+        all.find(|refusal| refusal.number() == number)
     }
 }
 
@@ -107,8 +114,10 @@ impl fmt::Display for Refusal {
             Self::NoNode => "no node is free; end calls in progress, take arrivals, or open the pool with more nodes",
             Self::BadRow => return limits_of_a_row(f),
             Self::PastRow => "the slot lies past the row; use more slots, or longer ones",
-            Self::SumTooLarge => "the slot or the sum of all slots would pass 4294967295; clear the row, or go on in another",
+            Self::SumTooLarge => "the slot or the sum of all slots would pass 4294967295, or the sum is above it; clear the row, or use another",
             Self::AllIdle => "no worker has a call in progress; begin one first",
+            Self::SilentRow => "every slot of the row is zero; record something first",
+            Self::ShortBuffer => "the buffer is too short; lend a place for each slot of the row",
         })
     }
 }

@@ -6,6 +6,9 @@ mod batches;
 #[path = "../examples/dealer.rs"]
 #[allow(dead_code)]
 mod dealer;
+#[path = "../examples/decay.rs"]
+#[allow(dead_code)]
+mod decay;
 #[path = "../examples/echogram.rs"]
 #[allow(dead_code)]
 mod echogram;
@@ -37,6 +40,26 @@ fn the_tail_is_taken_in_its_order() {
 fn an_echogram_of_what_was_taken() {
     let expected = vec![0, 0, 335_544, 0, 0, 93_724, 0, 26_843, 0, 0];
     assert_eq!(echogram::run(), Ok(expected));
+}
+
+/// R(k) is 2^(12 - k) - 1, and 4,095 at the start. A tenth of that is passed at 255, slot
+/// 4: 6 × 4. Of the squares a tenth is passed at 1,023² and a part in 100,000 at 7², slots
+/// 2 and 9: 3 × 7. 1,024 × R(k) / 4,095 is below 1,024, 512, 256 .. from slot 1 on, so r is
+/// 511, 255 .. 1, and 0 from slot 10 on.
+#[test]
+fn the_decay_of_halves() {
+    let levels = [0, 31, 61, 91, 122, 152, 184, 217, 254, 301];
+    let expected = decay::Report {
+        early_decay: 24,
+        t20: 21,
+        levels: levels.into_iter().map(Some).chain([None; 4]).collect(),
+    };
+    assert_eq!(decay::run(), Ok(expected));
+    let printed = [Some(0), Some(31), Some(301), None].map(decay::in_decibels);
+    assert_eq!(
+        printed,
+        ["0.0 dB below", "3.1 dB below", "30.1 dB below", "-"]
+    );
 }
 
 /// The turns go round, and so do the calls: each worker puts in its turn, the latest time

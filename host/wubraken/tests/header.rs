@@ -3,7 +3,7 @@
 use std::mem::{align_of, size_of};
 
 use second::layout::{HEADS, NODE_WORDS};
-use wubraken::raw::{kind, stop, Answer, BatchEnd, Dealt};
+use wubraken::raw::{kind, stop, Answer, BatchEnd, Dealt, Measured};
 use wubraken::{Arrival, Echogram, Refusal, Shape, Worker, LINE};
 
 const HEADER: &str = include_str!("../../include/wubraken.h");
@@ -72,6 +72,8 @@ fn structs_are_declared_alike() {
         written: "uint64_t" at 40, stop: "uint64_t" at 48);
     check!(Dealt "wubraken_dealt" 80 Dealt::default(),
         dealer: "uint64_t" at 0, turns: "uint64_t" at 8, answer: "wubraken_answer" at 16);
+    check!(Measured "wubraken_measured" 16 Measured::default(),
+        number: "uint64_t" at 0, value: "uint64_t" at 8);
     let handle = [
         ("shape", "wubraken_shape"),
         ("*store", "uint64_t"),
@@ -92,7 +94,7 @@ fn structs_are_declared_alike() {
         [8; 3]
     );
     assert_eq!((align_of::<Arrival>(), align_of::<BatchEnd>()), (4, 8));
-    assert_eq!(align_of::<Dealt>(), 8);
+    assert_eq!((align_of::<Dealt>(), align_of::<Measured>()), (8, 8));
 }
 
 /// `BadShape` is `BAD_SHAPE` in C.
@@ -132,6 +134,7 @@ fn numbers_and_limits_are_the_same() {
         ("MAX_DISTANCE", Arrival::MAX_DISTANCE.into()),
         ("MAX_SLOTS", Echogram::MAX_SLOTS as u64),
         ("MAX_SLOT_LENGTH", Echogram::MAX_SLOT_LENGTH),
+        ("NO_LEVEL", Echogram::NO_LEVEL.into()),
     ] {
         assert_eq!(enumerator(name), number, "{name}");
     }
@@ -147,6 +150,7 @@ fn texts_of_refusals_are_the_same() {
         let number = refusal.number();
         assert_eq!(refusal.to_string(), format!("refused by {number}: {text}"));
     }
+    assert_eq!(HEADER.matches("    case ").count(), Refusal::ALL.len());
     assert!(HEADER.contains("default:\n        return \"no refusal has this number\";"));
 }
 
@@ -211,6 +215,7 @@ fn type_in_rust(kind: &str, is_pointer: bool) -> String {
     let name = match kind {
         "uint64_t" => "u64",
         "uint32_t" => "u32",
+        "uint16_t" => "u16",
         "uint8_t" => "u8",
         "size_t" => "usize",
         "wubraken_shape" => "Shape",
@@ -219,6 +224,7 @@ fn type_in_rust(kind: &str, is_pointer: bool) -> String {
         "wubraken_answer" => "Answer",
         "wubraken_batch_end" => "BatchEnd",
         "wubraken_dealt" => "Dealt",
+        "wubraken_measured" => "Measured",
         other => panic!("{other} is new"),
     };
     format!("{}{name}", if is_pointer { access } else { "" })
@@ -243,7 +249,7 @@ fn functions_in_rust() -> Vec<Function> {
 fn functions_are_declared_alike() {
     let functions = functions_in_c();
     assert_eq!(functions, functions_in_rust());
-    assert_eq!(functions.len(), 16);
+    assert_eq!(functions.len(), 20);
 }
 
 /// The handle has a function for each method of a pool that works on it, with the

@@ -2,12 +2,13 @@
 //! the others there too, or, with what they show a part of, as examples.
 
 const README: &str = include_str!("../../../README.md");
-const EXAMPLES: [&str; 5] = [
+const EXAMPLES: [&str; 6] = [
     include_str!("../examples/threads.rs"),
     include_str!("../examples/batches.rs"),
     include_str!("../examples/tail.rs"),
     include_str!("../examples/echogram.rs"),
     include_str!("../examples/dealer.rs"),
+    include_str!("../examples/decay.rs"),
 ];
 
 /// The blocks of a text that begin with this mark.

@@ -102,19 +102,23 @@ fn every_refusal_by_name() {
     assert_eq!(echogram.record(20, 1), Err(Refusal::PastRow));
     assert_eq!(echogram.record(19, u32::MAX), Ok(()));
     assert_eq!(echogram.record(0, 1), Err(Refusal::SumTooLarge));
+    assert_eq!(echogram.decay_curve(&mut [0]), Err(Refusal::ShortBuffer));
+    assert_eq!(echogram.clear(), Ok(()));
+    assert_eq!(echogram.t20(), Err(Refusal::SilentRow));
 }
 
 #[test]
 fn numbers_and_sentences_of_refusals() {
     let mut sentences = HashSet::new();
-    for (number, &refusal) in (1..).zip(Refusal::ALL) {
-        assert_eq!(refusal.number(), number);
+    let numbers: Vec<u64> = Refusal::ALL.iter().map(|each| each.number()).collect();
+    assert_eq!(numbers, (1..=17).chain([19]).collect::<Vec<_>>());
+    for (number, &refusal) in numbers.into_iter().zip(Refusal::ALL) {
         assert_eq!(Refusal::from_number(number), Some(refusal));
         let text = refusal.to_string();
         let sentence = text.strip_prefix(&format!("refused by {number}: "));
         assert!(sentences.insert(sentence.unwrap().to_string()));
     }
-    for number in [0, 17, u64::MAX, 1 << 32 | 1] {
+    for number in [0, 18, 20, u64::MAX, 1 << 8 | 1, 1 << 32 | 1] {
         assert_eq!(Refusal::from_number(number), None);
     }
 }

@@ -57,6 +57,8 @@ pub fn refused(number: u8) -> Answer {
         14 => SlotPastRow,
         15 => SumTooLarge,
         16 => AllIdle,
+        17 => SilentRow,
+        19 => BufferTooShort,
         _ => panic!("no refusal is {number}"),
     };
     assert_eq!(refusal.number(), number);

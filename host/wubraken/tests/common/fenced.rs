@@ -9,6 +9,7 @@ const PAGE: usize = 4_096;
 /// Room for the longest row, and a slot more.
 const PAGES: usize = 17;
 
+const READ: i32 = 1;
 const READ_WRITE: i32 = 3;
 const PRIVATE_ANONYMOUS: i32 = 0x22;
 
@@ -42,9 +43,17 @@ impl Fenced {
                 0,
             );
             let first = all.cast::<u8>().wrapping_add(PAGE);
-            assert_eq!(mprotect(first.cast(), PAGES * PAGE, READ_WRITE), 0);
-            Self { first }
+            let fenced = Self { first };
+            fenced.allow(READ_WRITE);
+            fenced
         }
+    }
+
+    /// What may be done with the pages.
+    fn allow(&self, access: i32) {
+        // SAFETY: the pages between the fences, which nobody else has.
+        let answer = unsafe { mprotect(self.first.cast(), PAGES * PAGE, access) };
+        assert_eq!(answer, 0);
     }
 
     /// A copy of the contents right behind the first fence or right before the
@@ -54,6 +63,7 @@ impl Fenced {
             true => PAGES * PAGE - size_of_val(contents),
             false => 0,
         };
+        self.allow(READ_WRITE);
         // SAFETY: inside the pages, which are borrowed with `self`, and aligned as
         // they are, since a size is a multiple of its alignment.
         unsafe {
@@ -61,5 +71,13 @@ impl Fenced {
             ptr::copy_nonoverlapping(contents.as_ptr(), start, contents.len());
             slice::from_raw_parts_mut(start, contents.len())
         }
+    }
+
+    /// The same, in pages that can only be read until the next lending.
+    pub fn lend_to_read<E: Copy>(&mut self, contents: &[E], at_the_end: bool) -> &[E] {
+        let lent = self.lend(contents, at_the_end) as *const [E];
+        self.allow(READ);
+        // SAFETY: it is borrowed with `self`.
+        unsafe { &*lent }
     }
 }

@@ -2,6 +2,7 @@
 #![allow(dead_code)]
 
 pub mod both;
+pub mod both_decays;
 pub mod both_rows;
 pub mod dealt;
 pub mod draw;

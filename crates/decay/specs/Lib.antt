@@ -1,0 +1,9 @@
+pub mod Decay
+pub mod DecayRun
+pub mod Rest
+pub mod DecayRefusals
+pub mod Crossings
+pub mod CrossingSearch
+pub mod Logs
+pub mod Totals
+pub mod Curves
