@@ -1,9 +1,11 @@
 //! Levels, early decay and T20, as they are printed and as they are drawn.
 
+mod common;
+
 use std::fs;
 use std::path::{Path, PathBuf};
-use std::process::{Command, Output};
 
+use common::{hall, text};
 use hall::{decay_curve, report, Trace};
 use random::Random;
 use wubraken::Shape;
@@ -25,19 +27,6 @@ const OPTIONS: [&[&str]; 7] = [
     &["--slot", "7"],
     &["--slot", "100"],
 ];
-
-fn hall(words: &[&str]) -> Output {
-    Command::new(env!("CARGO_BIN_EXE_hall"))
-        .args(words)
-        .output()
-        .unwrap()
-}
-
-fn text(words: &[&str]) -> String {
-    let output = hall(words);
-    assert!(output.status.success() && output.stderr.is_empty());
-    String::from_utf8(output.stdout).unwrap()
-}
 
 fn traced(row: &[u32], milliseconds: usize) -> Trace {
     Trace {

@@ -1,19 +1,8 @@
 //! The program, as it is run.
 
-use std::process::{Command, Output};
+mod common;
 
-fn hall(words: &[&str]) -> Output {
-    Command::new(env!("CARGO_BIN_EXE_hall"))
-        .args(words)
-        .output()
-        .unwrap()
-}
-
-fn text(words: &[&str]) -> String {
-    let output = hall(words);
-    assert!(output.status.success() && output.stderr.is_empty());
-    String::from_utf8(output.stdout).unwrap()
-}
+use common::{hall, text};
 
 #[test]
 fn the_same_seed_prints_the_same() {

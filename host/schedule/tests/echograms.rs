@@ -1,35 +1,11 @@
 //! Random echograms: that each kind of row, slot length, time and energy occurs, a good
 //! share of each.
 
-use std::collections::BTreeMap;
+mod common;
 
+use common::{assert_shares, count, sum, Counts, MOST, SEEDS};
 use schedule::echograms::Case;
 use schedule::Random;
-
-const SEEDS: u64 = 4_000;
-/// The largest sum: 2^32 - 1.
-const MOST: u64 = 4_294_967_295;
-
-type Counts = BTreeMap<&'static str, usize>;
-
-/// Counts the kinds that apply; the others occur, too, if only 0 times.
-fn count(counts: &mut Counts, kinds: impl IntoIterator<Item = (&'static str, bool)>) {
-    for (kind, applies) in kinds {
-        *counts.entry(kind).or_default() += usize::from(applies);
-    }
-}
-
-/// Each kind occurs in that share of all, at least.
-fn assert_shares(counts: &Counts, all: usize, one_in: usize) {
-    println!("{all}: {counts:?}");
-    for (kind, count) in counts {
-        assert!(count * one_in >= all, "{kind}: {count} of {all}");
-    }
-}
-
-fn sum(row: &[u32]) -> u64 {
-    row.iter().map(|&slot| u64::from(slot)).sum()
-}
 
 fn is_within_limits(case: &Case) -> bool {
     (1..=16_384).contains(&case.row.len()) && (1..=4_800).contains(&case.slot_length)

@@ -1,34 +1,12 @@
 //! Random rows: that each kind occurs, and is what its name says.
 
+mod common;
+
 use std::collections::BTreeMap;
 
+use common::{assert_shares, count, sum, Counts, MOST, SEEDS};
 use schedule::rows::{Case, Kind};
 use schedule::Random;
-
-const SEEDS: u64 = 4_000;
-/// The largest sum: 2^32 - 1.
-const MOST: u64 = 4_294_967_295;
-
-type Counts = BTreeMap<&'static str, usize>;
-
-/// Counts the kinds that apply; the others occur, too, if only 0 times.
-fn count(counts: &mut Counts, kinds: impl IntoIterator<Item = (&'static str, bool)>) {
-    for (kind, applies) in kinds {
-        *counts.entry(kind).or_default() += usize::from(applies);
-    }
-}
-
-/// Each kind occurs in that share of all, at least.
-fn assert_shares(counts: &Counts, all: usize, one_in: usize) {
-    println!("{all}: {counts:?}");
-    for (kind, count) in counts {
-        assert!(count * one_in >= all, "{kind}: {count} of {all}");
-    }
-}
-
-fn sum(row: &[u32]) -> u64 {
-    row.iter().map(|&slot| u64::from(slot)).sum()
-}
 
 fn heard(row: &[u32]) -> usize {
     row.iter().filter(|&&slot| slot > 0).count()
