@@ -2,7 +2,7 @@
 -- that compute them and runs that are computed open either.
 --     components, lowerKey                  the order of keys: by time, then reflection order, then ticket
 --     keyOf, lower, lower-keys              the key of an item; items are ordered by their keys
---     lower-by-key                          the order of items looks at nothing else
+--     by-hand, lower-by-key                 items by hand; their order looks at nothing but their keys
 --     bucketOf, itemBucket, item-bucket     the bucket of a time, and of an item
 --     lower-irr, lower-trans                the order is strict
 --     lower-weak, lower-total               weak, and total on different tickets
@@ -96,7 +96,7 @@ bucket-below sh time some = omega arith
 -- A lower key has no higher time,
 pub lower-time : (a b : Item) → lower a b ≡ true → a .time ≤ b .time
 unfolding lower
-lower-time a b = lower-by-first (λ k. k .time) ((λ k. k .order) ∷ (λ k. k .ticket) ∷ []) (keyOf a) (keyOf b)
+lower-time a b = lower-by-first components refl (keyOf a) (keyOf b)
 
 -- and lies in no higher bucket.
 pub bucket-mono : (sh : Shape) (a b : Item) → 1 ≤ sh .width → lower a b ≡ true → itemBucket sh a ≤ itemBucket sh b

@@ -101,9 +101,9 @@ module _ {A : Type 0} where
       go (inr j) rec = rec (others a b equal h) (others b a (sym equal) k) g j
 
   -- What is lower has no higher first component.
-  pub lower-by-first : (f : A → ℕ) (fs : List (A → ℕ)) (a b : A) → lowerBy (f ∷ fs) a b ≡ true → f a ≤ f b
-  lower-by-first f fs a b h = go (below f fs a b h)
+  pub lower-by-first : (fs : List (A → ℕ)) {f : A → ℕ} {others : List (A → ℕ)} → fs ≡ f ∷ others → (a b : A) → lowerBy fs a b ≡ true → f a ≤ f b
+  lower-by-first fs {f} {others} e a b h = go (below f others a b (subst (λ (gs : List (A → ℕ)). lowerBy gs a b ≡ true) e h))
     where
-      go : Below f fs a b → f a ≤ f b
+      go : Below f others a b → f a ≤ f b
       go (inl l) = omega arith
       go (inr (e, p)) = omega arith
