@@ -1,5 +1,5 @@
--- The worked histories run through the theorem: the five calls of the first, the nine of the one in the tail and the eleven of the
--- one of ties stand in the one order that is possible. Assumes nothing.
+-- The worked histories run through the theorem: the five calls of the first, the nine of the one in the tail and the
+-- thirteen of the one of ties stand in the one order that is possible. Assumes nothing.
 use mathlib.Core.Path.{_≡_, refl}
 use mathlib.Core.List.{[], _∷_}
 use Rattle.calendar.specs.rules.Refusals.{openRefusal}
@@ -29,5 +29,5 @@ pub ties-correct : Correct one-bucket (run one-bucket start ties.history) ties.s
 unfolding one-bucket ties.history start ties.seen lent open-pool openRefusal Demand3
 ties-correct = demand-3 one-bucket lent refl ties.history
 
-pub ties-placed : ties-correct .linearization .order ≡ 1 ∷ 2 ∷ 3 ∷ 4 ∷ 5 ∷ 6 ∷ 7 ∷ 8 ∷ 9 ∷ 10 ∷ 11 ∷ []
+pub ties-placed : ties-correct .linearization .order ≡ 1 ∷ 2 ∷ 3 ∷ 4 ∷ 5 ∷ 6 ∷ 7 ∷ 8 ∷ 9 ∷ 10 ∷ 11 ∷ 12 ∷ 13 ∷ []
 ties-placed = ties.order-forced (ties-correct .linearization)

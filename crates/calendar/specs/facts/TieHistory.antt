@@ -1,7 +1,7 @@
--- A worked history of ties: all arrivals have one time, each its own path. Take 2 has seen the first reflection of call 1 and pauses;
--- put 3 stores the direct sound; take 2 goes on and takes what it saw, so it stands before put 3. Then a second reflection is put
--- before two first ones. The takes after it get the direct sound, the first reflections by their tickets, the second, and nothing.
--- Assumes nothing.
+-- A worked history of ties. Take 2 has seen the first reflection of call 1 and pauses; put 3 stores the direct sound of the same
+-- time; take 2 goes on and takes what it saw, so it stands before put 3. Then a late reflection is put before two first ones, all
+-- of that time, and at last a direct sound one sample later. The takes get the direct sound, the first reflections by their
+-- tickets and not by their paths, the late one, what came a sample later, and nothing. Assumes nothing.
 use mathlib.Core.Path.{_≡_, refl}
 use mathlib.Core.List.{List, [], _∷_, _++_}
 use mathlib.Core.Option.{some}
@@ -31,42 +31,44 @@ use Rattle.calendar.specs.facts.AdmittedOrders.{ordersOf}
 use Rattle.calendar.specs.facts.Guards.{forced}
 use Rattle.calendar.specs.facts.WorkedHistory.{one-bucket, start}
 
--- by path and reflection order
-unfoldable pub reflection : ℕ → ℕ → Arrival
-reflection path order = record { time = 5; path = path; order = order; distance = 3 }
+unfoldable pub reflection : ℕ → ℕ → ℕ → Arrival
+reflection time path order = record { time = time; path = path; order = order; distance = 3 }
 
 unfoldable pub history : List Action
 history =
-    put 0 (reflection 11 1) 5 ++ take 1 3 ++ put 0 (reflection 13 0) 6 ++ turns 1 5
-    ++ put 0 (reflection 14 2) 6 ++ put 0 (reflection 15 1) 7 ++ put 0 (reflection 16 1) 8
+    put 0 (reflection 5 21 1) 5 ++ take 1 3 ++ put 0 (reflection 5 23 0) 6 ++ turns 1 5
+    ++ put 0 (reflection 5 24 63) 6 ++ put 0 (reflection 5 26 1) 7 ++ put 0 (reflection 5 25 1) 8
+    ++ take 0 8 ++ put 0 (reflection 6 28 0) 8
     ++ take 0 8 ++ take 0 8 ++ take 0 8 ++ take 0 7 ++ take 0 3
 
 unfoldable pub seen : Ledger
 seen = ledger one-bucket start history new
 
--- eleven calls, all finished
+-- thirteen calls, all finished: take 2 and put 3 both ended when three calls had started
 pub answers :
-    (seen .started ≡ 11)
+    (seen .started ≡ 13)
     × (seen .response 1 ≡ Stored 1)
-    × (seen .response 2 ≡ Took 5 11 1 3 1864135)
+    × (seen .response 2 ≡ Took 5 21 1 3 1864135)
     × (seen .response 3 ≡ Stored 3)
     × (seen .response 4 ≡ Stored 4)
     × (seen .response 5 ≡ Stored 5)
     × (seen .response 6 ≡ Stored 6)
-    × (seen .response 7 ≡ Took 5 13 0 3 1864135)
-    × (seen .response 8 ≡ Took 5 15 1 3 1864135)
-    × (seen .response 9 ≡ Took 5 16 1 3 1864135)
-    × (seen .response 10 ≡ Took 5 14 2 3 1864135)
-    × (seen .response 11 ≡ Empty)
+    × (seen .response 7 ≡ Took 5 23 0 3 1864135)
+    × (seen .response 8 ≡ Stored 8)
+    × (seen .response 9 ≡ Took 5 26 1 3 1864135)
+    × (seen .response 10 ≡ Took 5 25 1 3 1864135)
+    × (seen .response 11 ≡ Took 5 24 63 3 1864135)
+    × (seen .response 12 ≡ Took 6 28 0 3 1864135)
+    × (seen .response 13 ≡ Empty)
     × (seen .ended 2 ≡ some 3)
     × (seen .ended 3 ≡ some 3)
 unfolding one-bucket history start seen reflection turns put take lent address read write every blank storeInRange tableInRange isFree firstFreeOf firstFree
     wordsFrom openStore openTable enqueueStart dequeueStart found settle step-1 step-2 step-3 step-4 step-5 step-6 step-7 walk step-8 step-9 step-10 step-11
     step-12 step-13 no-step step openRefusal enqueueRefusal dequeueRefusal stepRefusal open-pool act run ledger lower bucketOf energyOf
-answers = (refl, refl, refl, refl, refl, refl, refl, refl, refl, refl, refl, refl, refl, refl)
+answers = (refl, refl, refl, refl, refl, refl, refl, refl, refl, refl, refl, refl, refl, refl, refl, refl)
 
 -- THE ORDER IS FORCED
-pub order-forced : (X : Linearization seen) → X .order ≡ 1 ∷ 2 ∷ 3 ∷ 4 ∷ 5 ∷ 6 ∷ 7 ∷ 8 ∷ 9 ∷ 10 ∷ 11 ∷ []
+pub order-forced : (X : Linearization seen) → X .order ≡ 1 ∷ 2 ∷ 3 ∷ 4 ∷ 5 ∷ 6 ∷ 7 ∷ 8 ∷ 9 ∷ 10 ∷ 11 ∷ 12 ∷ 13 ∷ []
 unfolding one-bucket history start seen reflection turns put take lent address read write every blank storeInRange tableInRange isFree firstFreeOf firstFree
     wordsFrom openStore openTable enqueueStart dequeueStart found settle step-1 step-2 step-3 step-4 step-5 step-6 step-7 walk step-8 step-9 step-10 step-11
     step-12 step-13 no-step step openRefusal enqueueRefusal dequeueRefusal stepRefusal open-pool act run ledger lower bucketOf energyOf ordersOf below
