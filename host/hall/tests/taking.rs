@@ -5,7 +5,8 @@ mod common;
 use std::collections::HashMap;
 use std::iter::successors;
 
-use common::runs::{halls_with_equal_times, interleavings, put_of, runs_in, taken_list, Listed};
+use common::runs::{halls_with_equal_times, interleavings, put_of, run_in, runs_in, taken_list};
+use common::runs::{Listed, MIDDLE};
 use hall::{trace, Arguments, Call, Event, Hall, Image, Interleaving, Trace};
 use order::{find_order, Answer, End, Kind};
 use wubraken::{Arrival, Shape, Taken};
@@ -232,15 +233,16 @@ fn the_energy_is_of_the_distance() {
 /// The calls have an order in which a plain queue gives the same answers.
 #[test]
 fn there_is_a_sequential_order() {
-    for workers in [1, 2, 3] {
-        for nodes in [3, 12] {
+    for hall in [Arguments::default().job().hall, MIDDLE] {
+        for (workers, nodes) in [(1, 3), (1, 12), (2, 3), (2, 12), (3, 3), (3, 12)] {
             for interleaving in interleavings(20) {
-                let trace = run(Arguments {
+                let arguments = Arguments {
                     interleaving,
                     workers,
                     nodes,
                     ..Arguments::default()
-                });
+                };
+                let trace = run_in(hall, arguments);
                 let mut calls: Vec<_> = trace.calls.iter().map(seen_from_outside).collect();
                 calls.sort_by_key(|call| call.start);
                 assert!(find_order(&calls).is_some(), "{interleaving:?}");
