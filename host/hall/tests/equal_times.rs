@@ -45,7 +45,7 @@ fn the_direct_sound_before_that_of_the_floor() {
     }
 }
 
-/// 20 metres, 2,799 samples, are as far as the front or rear wall, and as floor and ceiling.
+/// From 20 metres, 2,799 samples, come front and rear wall, and ceiling and floor together.
 const AT_20_METRES: [&str; 4] = [
     "2799  17936     1       20     41943",
     "2799  15888     1       20     41943",
@@ -53,12 +53,12 @@ const AT_20_METRES: [&str; 4] = [
     "2799  16910     2       20     41943",
 ];
 
-/// 25 metres, 3,499 samples, are as far as front or rear wall with a side wall, 20² + 15²,
-/// and as a side wall with floor and ceiling, 15² + 20². The last are reflected from what
-/// comes from 18 metres, the first from what comes from 20: so order 3 is put before order 2.
+/// From 25 metres, 3,499 samples, come front or rear wall with a side wall, 20² + 15² = 25²,
+/// and a side wall with ceiling and floor, 15² + 20². These last are reflected from what comes
+/// from 18 metres, the others from what comes from 20: so order 3 is put before order 2.
 ///
-/// The six first reflections are put upwards and downwards first, forwards and backwards last.
-/// So are those of each other arrival.
+/// The reflections of an arrival are put up and down first, then sideways, then forth and
+/// back; of two ways that with the greater path first.
 #[test]
 fn one_worker_by_hand() {
     for interleaving in interleavings(3) {

@@ -3,17 +3,17 @@
 use hall::{trace, Arguments, Call, Event, Hall, Interleaving, Job, Trace};
 use wubraken::Taken;
 
-/// 20, 15 and 10 metres, source and listener both in the middle: an image lies so many
-/// lengths, widths and heights away as it was mirrored. So the sound of the front wall, 20
-/// metres, comes with that of floor and ceiling, 2 × 10.
+/// 20, 15 and 10 metres, source and listener both in the middle: an image lies as many
+/// lengths, widths and heights away as it is mirrored along them. So the sound of the front
+/// wall, 20 metres, comes with that of ceiling and floor, 2 × 10.
 pub const MIDDLE: Hall = Hall {
     size: [2_000, 1_500, 1_000],
     source: [1_000, 750, 500],
     listener: [1_000, 750, 500],
 };
 
-/// A listener in the corner hears eight images at once: the walls at the corner mirror him
-/// on to himself.
+/// A listener in the corner hears eight images at once: the three walls there mirror the
+/// corner on to itself.
 pub fn corner() -> Hall {
     Hall {
         listener: [0; 3],
