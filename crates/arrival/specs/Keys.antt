@@ -1,13 +1,13 @@
 -- The order of keys and the bucket of a time, with their laws: what all proofs use. Outside this file only the functions
 -- that compute them and runs that are computed open either.
 --     components, lowerKey                  the order of keys: by time, then reflection order, then ticket
---     keyOf, lower, lower-keys              the key of an item; items are ordered by their keys
---     by-hand, lower-by-key                 items by hand; their order looks at nothing but their keys
+--     keyOf, lower                          the key of an item; items are ordered by their keys
+--     by-hand, lower-keys, lower-by-key     items by hand; keys that were read; the order looks at nothing but keys
 --     bucketOf, itemBucket, item-bucket     the bucket of a time, and of an item
 --     lower-irr, lower-trans                the order is strict
 --     lower-weak, lower-total               weak, and total on different tickets
---     lower-time                            a lower key has no higher time
---     bucket-below, bucket-mono             the bucket of a time is one of the buckets; a lower key lies in no higher one
+--     bucket-below                          the bucket of a time is one of the buckets
+--     lower-time, bucket-mono               a lower key has no higher time, and lies in no higher bucket
 -- Assumes nothing.
 use mathlib.Core.Path.{_≡_, refl}
 use mathlib.Core.Bool.{Bool, true, false}
