@@ -106,7 +106,7 @@ fn a_broken_promise_is_named() {
         ),
         (
             "OtherPath",
-            "calls:\n  2    worker 0   take              records 8 to 15",
+            "calls:\n  2    worker 0   take                        records 8 to 15",
         ),
     ] {
         let (status, text) = compare(Some(mistake), &FEW);
