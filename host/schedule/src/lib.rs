@@ -10,6 +10,7 @@ pub mod orders;
 pub mod rows;
 pub mod script;
 pub mod stored;
+pub mod ties;
 pub mod times;
 
 mod damage;
