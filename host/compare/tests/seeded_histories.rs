@@ -3,6 +3,7 @@
 
 use compare::linearizability::check;
 use compare::seeded;
+use schedule::decided::Decided;
 use schedule::script::shape;
 use schedule::{Options, Random};
 
@@ -48,6 +49,20 @@ impl Sample {
     fn words(&self, place: usize) -> Vec<&str> {
         self.lines[place].split(' ').collect()
     }
+}
+
+/// In many histories a take is decided by a reflection order against the tickets, and in
+/// many by the ticket.
+#[test]
+fn many_histories_have_ties() {
+    let (mut by_order, mut by_ticket) = (0, 0);
+    for seed in 0..800 {
+        let decided = Decided::of(&Sample::of(seed).bytes);
+        by_order += usize::from(decided.by_order > 0);
+        by_ticket += usize::from(decided.by_ticket > 0);
+    }
+    println!("{by_order} by order, {by_ticket} by ticket");
+    assert!(by_order > 200 && by_ticket > 200, "{by_order} {by_ticket}");
 }
 
 #[test]

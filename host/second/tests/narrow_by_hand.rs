@@ -263,11 +263,8 @@ fn keys_out_of_range() {
         ((MAX, MAX, MAX), (MAX, MAX, MAX), false),
     ] {
         let mut lent = searching(7);
-        for (at, (time, order, ticket)) in [(0, node), (1, own)] {
-            *lent.node_word(at, field::TIME) = time;
-            *lent.node_word(at, field::ORDER) = order;
-            *lent.node_word(at, field::TICKET) = ticket;
-        }
+        lent.set_key(0, node);
+        lent.set_key(1, own);
         *lent.head(1) = u64::MAX;
         assert_eq!(turn(&mut lent, 0), ON);
         let expected = if passes { (2, 4) } else { (0, 0) };

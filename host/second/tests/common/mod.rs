@@ -241,13 +241,23 @@ impl Lent {
         let mut keys = Vec::new();
         let mut node = word::successor(*self.head(bucket)) as usize;
         while node != self.shape.nodes as usize {
-            let [time, order, ticket] =
-                [field::TIME, field::ORDER, field::TICKET].map(|word| *self.node_word(node, word));
-            keys.push((time, order, ticket));
+            keys.push(self.key(node));
             assert!(keys.len() <= self.shape.nodes as usize, "cycle");
             node = word::successor(*self.node_word(node, field::LINK)) as usize;
         }
         keys
+    }
+
+    pub fn key(&mut self, node: usize) -> Key {
+        let words = [field::TIME, field::ORDER, field::TICKET];
+        let [time, order, ticket] = words.map(|word| *self.node_word(node, word));
+        (time, order, ticket)
+    }
+
+    pub fn set_key(&mut self, node: usize, (time, order, ticket): Key) {
+        *self.node_word(node, field::TIME) = time;
+        *self.node_word(node, field::ORDER) = order;
+        *self.node_word(node, field::TICKET) = ticket;
     }
 
     /// Makes a call and checks what every call must keep.
