@@ -134,11 +134,11 @@ fn wrong_numbers_are_noticed() {
     }
 }
 
-/// Of takes alone, one after the other, the first answers the lower time:
-/// exchanged, they are wrong. Of all neighbours, most are.
+/// Of takes alone, one after the other, the first answers the lower key:
+/// exchanged, they are wrong, also of equal times. Of all neighbours, most are.
 #[test]
 fn exchanged_arrivals_are_noticed() {
-    let (mut altered, mut noticed, mut alone) = (0, 0, 0);
+    let (mut altered, mut noticed, mut alone, mut ties) = (0, 0, 0, 0);
     for sample in drained() {
         for pair in sample.places("took").windows(2) {
             let (first, second) = (pair[0], pair[1]);
@@ -150,14 +150,15 @@ fn exchanged_arrivals_are_noticed() {
             let is_noticed = !other.is_accepted();
             altered += 1;
             noticed += usize::from(is_noticed);
-            let differ = sample.words(first)[1] != sample.words(second)[1];
-            if differ && are_alone(&sample, first, second) {
+            if are_alone(&sample, first, second) {
                 assert!(is_noticed);
                 alone += 1;
+                ties += usize::from(sample.words(first)[1] == sample.words(second)[1]);
             }
         }
     }
-    assert!(alone > 50, "{alone}");
+    println!("{alone} alone, {ties} of them ties");
+    assert!(alone > 50 && ties > 50, "{alone}, {ties}");
     assert!(2 * noticed > altered, "{noticed} of {altered}");
 }
 
