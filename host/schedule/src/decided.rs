@@ -10,9 +10,9 @@ use second::{stage, word, Program, Record, Records, Worker};
 #[derive(Clone, Copy, Debug, Default, PartialEq, Eq)]
 pub struct Decided {
     pub takes: usize,
-    /// Another one has a lower ticket, but a higher order.
+    /// One with a lower ticket, but a higher order.
     pub by_order: usize,
-    /// Another one has the same order.
+    /// One of the same order with a higher ticket.
     pub by_ticket: usize,
 }
 
@@ -36,15 +36,15 @@ impl Decided {
 
     /// After a worker's take has marked its own node.
     fn at_a_mark(program: &Program, worker: &Worker) -> Self {
-        let own = node(program, worker.own);
-        let mut ties = unmarked(program, worker.bucket);
-        ties.retain(|other| other[field::TIME] == own[field::TIME]);
-        let (order, ticket) = (own[field::ORDER], own[field::TICKET]);
-        let has = |is_so: &dyn Fn(&[u64]) -> bool| usize::from(ties.iter().any(|tie| is_so(tie)));
+        let [time, order, ticket] = key(node(program, worker.own));
+        let others = unmarked(program, worker.bucket).into_iter().map(key);
+        let ties: Vec<_> = others.filter(|other| other[0] == time).collect();
+        let by_order = ties.iter().any(|tie| tie[1] > order && tie[2] < ticket);
+        let by_ticket = ties.iter().any(|tie| tie[1] == order && tie[2] > ticket);
         Self {
             takes: 1,
-            by_order: has(&|other| other[field::ORDER] > order && other[field::TICKET] < ticket),
-            by_ticket: has(&|other| other[field::ORDER] == order),
+            by_order: by_order.into(),
+            by_ticket: by_ticket.into(),
         }
     }
 }
@@ -68,6 +68,11 @@ fn worker_of(program: &Program, record: Record) -> Option<&Worker> {
 fn node(program: &Program, node: u64) -> &[u64] {
     let first = node_at(program.shape().buckets as usize, node as usize);
     &program.store()[first..first + NODE_WORDS]
+}
+
+/// Time, reflection order and ticket.
+fn key(node: &[u64]) -> [u64; 3] {
+    [field::TIME, field::ORDER, field::TICKET].map(|word| node[word])
 }
 
 /// The unmarked nodes of a bucket's list.

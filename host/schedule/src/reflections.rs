@@ -4,7 +4,7 @@ use random::Random;
 use second::Arrival;
 
 /// What the orders of some arrivals are chosen from: mostly one to three, so that equal
-/// times have equal orders, too, and those near each other; sometimes all there are.
+/// times often have equal orders, too; sometimes all there are.
 pub fn orders(random: &mut Random) -> Vec<u32> {
     let mut any = || random.between(0, Arrival::MAX_ORDER);
     let few = [any(), any(), any()];

@@ -36,6 +36,14 @@ fn fresh() -> Script {
     Script::open(4, 6, 1, 10)
 }
 
+/// Whole puts, each of so many turns.
+fn stored(puts: &[(Arrival, usize)]) -> Script {
+    let each = puts.iter();
+    each.fold(fresh(), |script, &(arrival, turns)| {
+        script.stored_arrival(0, arrival, turns)
+    })
+}
+
 /// Whole takes of these, one after the other, and nothing is left. Each search stops at the
 /// next node, if there is one.
 fn drained(mut script: Script, arrivals: &[Arrival]) -> Script {
@@ -47,33 +55,26 @@ fn drained(mut script: Script, arrivals: &[Arrival]) -> Script {
 }
 
 /// Orders 2, 1 and 0: each put stops at the first node.
-pub fn orders_in_the_wrong_order() -> Script {
+fn orders_in_the_wrong_order() -> Script {
     let [second, first, direct] = [2, 1, 0].map(|order| reflection(5, order, 7));
-    let script = fresh()
-        .stored_arrival(0, second, 5)
-        .stored_arrival(0, first, 6)
-        .stored_arrival(0, direct, 6);
+    let script = stored(&[(second, 5), (first, 6), (direct, 6)]);
     drained(script, &[direct, first, second])
 }
 
 /// Each put passes all nodes.
-pub fn equal_orders() -> Script {
+fn equal_orders() -> Script {
     let [a, b, c] = [3, 2, 1].map(|path| reflection(5, 1, path));
-    let script = fresh()
-        .stored_arrival(0, a, 5)
-        .stored_arrival(0, b, 6)
-        .stored_arrival(0, c, 7);
-    drained(script, &[a, b, c])
+    drained(stored(&[(a, 5), (b, 6), (c, 7)]), &[a, b, c])
 }
 
 /// Ticket 1 stops at the node of ticket 2.
-pub fn equal_orders_crossed() -> Script {
+fn equal_orders_crossed() -> Script {
     let [a, b] = [2, 1].map(|path| reflection(5, 1, path));
     drained(crossed(a, b), &[a, b])
 }
 
 /// Ticket 1, of a higher order, passes the node of ticket 2.
-pub fn orders_crossed() -> Script {
+fn orders_crossed() -> Script {
     let [a, b] = [1, 0].map(|order| reflection(5, order, 7));
     drained(crossed(a, b), &[b, a])
 }
@@ -87,33 +88,22 @@ fn crossed(first: Arrival, second: Arrival) -> Script {
 }
 
 /// The highest order stops at the lowest of a later time.
-pub fn later_time_first() -> Script {
+fn later_time_first() -> Script {
     let (later, earlier) = (reflection(6, 0, 1), reflection(5, 63, 2));
-    let script = fresh()
-        .stored_arrival(0, later, 5)
-        .stored_arrival(0, earlier, 6);
-    drained(script, &[earlier, later])
+    drained(stored(&[(later, 5), (earlier, 6)]), &[earlier, later])
 }
 
 /// The lowest order passes the highest of an earlier time.
-pub fn later_time_last() -> Script {
+fn later_time_last() -> Script {
     let (earlier, later) = (reflection(5, 63, 1), reflection(6, 0, 2));
-    let script = fresh()
-        .stored_arrival(0, earlier, 5)
-        .stored_arrival(0, later, 6);
-    drained(script, &[earlier, later])
+    drained(stored(&[(earlier, 5), (later, 6)]), &[earlier, later])
 }
 
 /// Two of each time. The last put passes both of 5 and stops at the other of 6.
-pub fn two_times() -> Script {
+fn two_times() -> Script {
     let [a, b, c, d] =
         [(6, 1), (5, 2), (5, 1), (6, 0)].map(|(time, order)| reflection(time, order, 7));
-    let script = fresh()
-        .stored_arrival(0, a, 5)
-        .stored_arrival(0, b, 6)
-        .stored_arrival(0, c, 6)
-        .stored_arrival(0, d, 8);
-    drained(script, &[c, b, d, a])
+    drained(stored(&[(a, 5), (b, 6), (c, 6), (d, 8)]), &[c, b, d, a])
 }
 
 /// The arrivals of [`searches_in_the_list`], in the order of their tickets 1 to 4 and 6.
@@ -126,9 +116,7 @@ fn searched() -> [Arrival; 5] {
 /// them (1, 2, 2, 4), when worker 2 does so with another of order 2 (1, 2, 2, 4 to 7).
 pub fn about_to_link() -> Script {
     let [a, b, c, d, _] = searched();
-    fresh()
-        .stored_arrival(0, a, 5)
-        .stored_arrival(0, b, 6)
+    stored(&[(a, 5), (b, 6)])
         .begin(put_arrival(1, c))
         .turns(1, 4)
         .stored_arrival(2, d, 7)
@@ -154,7 +142,7 @@ pub fn about_to_unlink() -> Script {
 
 /// The take's search passes order 0, which came later, and unlinks its own node (1, 2, 2, 3);
 /// it ends at ticket 4 (2). Worker 1 fails (3) and links behind order 0 (1, 2, 2, 4 to 7).
-pub fn searches_in_the_list() -> Script {
+fn searches_in_the_list() -> Script {
     let [a, b, c, d, e] = searched();
     let script = about_to_unlink()
         .end(3, 5, &took_reflection(a))
