@@ -254,7 +254,11 @@ fn there_is_a_sequential_order() {
 fn seen_from_outside(call: &Call) -> order::Call<Arrival> {
     let (kind, answer) = match call.event {
         Event::Put(arrival) => (
-            Kind::Put(arrival.time, arrival),
+            Kind::Put {
+                time: arrival.time,
+                order: arrival.order,
+                shown: arrival,
+            },
             Answer::Stored(call.ticket),
         ),
         Event::Took(taken) => (Kind::Take, Answer::Took(taken.into())),
