@@ -1,8 +1,10 @@
 -- The order of keys and the bucket of a time, with their laws: what all proofs use. Outside this file only the functions
 -- that compute them and runs that are computed open either.
 --     components, lowerKey                  the order of keys: by time, then reflection order, then ticket
---     keyOf, lower                          the key of an item; items are ordered by their keys
---     by-hand, lower-keys, lower-by-key     items by hand; keys that were read; the order looks at nothing but keys
+--     keyOf, lower, by-hand                 the key of an item; items are ordered by their keys; items by hand
+--     time-decides, order-decides           the order in words: the time decides where it differs, at equal times the order
+--     ticket-decides                        where it differs, at equal times and orders the ticket
+--     lower-keys, lower-by-key              keys that were read; the order of items looks at nothing but their keys
 --     bucketOf, itemBucket, item-bucket     the bucket of a time, and of an item
 --     lower-irr, lower-trans                the order is strict
 --     lower-weak, lower-total               weak, and total on different tickets
@@ -10,12 +12,14 @@
 --     lower-time, bucket-mono               a lower key has no higher time, and lies in no higher bucket
 -- Assumes nothing.
 use mathlib.Core.Path.{_≡_, refl}
-use mathlib.Core.Bool.{Bool, true, false}
+use mathlib.Core.Bool.{Bool, true, false, and-false, or-false}
 use mathlib.Core.Logic.{_≢_, _⊎_}
 use mathlib.Core.List.{List, [], _∷_, List·Memᴰ·head as here, List·Memᴰ·tail as there}
 use Prim.Native.Nat.{ℕ, _-_, _*_, _/_, min, _≤_, _<_}
 use native.Mathlib.Nat.{le-div-iff-mul-le, div-mul-le-self}
 use native.Mathlib.Omega.{arith}
+use lib.Dec.{eqb, ltb}
+use borrow.Author.Tests.{le-ltb, eq-eqb, ne-eqb}
 use Rattle.arrival.specs.declared.Shape.{Shape}
 use Rattle.arrival.specs.declared.Item.{Item}
 use Rattle.arrival.specs.declared.Key.{Key}
@@ -47,6 +51,24 @@ by-hand :
     × (lower (item 5 1 2 6) (item 5 1 2 7) ≡ false) × (lower (item 5 1 2 7) (item 5 1 2 6) ≡ false)
 unfolding lower
 by-hand = (refl, refl, refl, refl, refl, refl, refl, refl)
+
+-- In words: the time decides where it differs; at equal times the order does, where it differs; at equal times and orders the ticket.
+pub time-decides : (a b : Key) → a .time ≢ b .time → lowerKey a b ≡ ltb (a .time) (b .time)
+time-decides a b n = rw (ne-eqb (a .time) (b .time) n) (or-false (ltb (a .time) (b .time)))
+
+pub order-decides : (a b : Key) → a .time ≡ b .time → a .order ≢ b .order → lowerKey a b ≡ ltb (a .order) (b .order)
+order-decides a b e n =
+    rw (le-ltb (a .time) (b .time) (omega arith), eq-eqb (a .time) (b .time) e, ne-eqb (a .order) (b .order) n) (or-false (ltb (a .order) (b .order)))
+
+pub ticket-decides : (a b : Key) → a .time ≡ b .time → a .order ≡ b .order → lowerKey a b ≡ ltb (a .ticket) (b .ticket)
+ticket-decides a b e d =
+    rw (
+      le-ltb (a .time) (b .time) (omega arith),
+      eq-eqb (a .time) (b .time) e,
+      le-ltb (a .order) (b .order) (omega arith),
+      eq-eqb (a .order) (b .order) d,
+      and-false (eqb (a .ticket) (b .ticket)),
+    ) (or-false (ltb (a .ticket) (b .ticket)))
 
 pub lower-keys : (x y : Item) (a b : Key) → a ≡ keyOf x → b ≡ keyOf y → lowerKey a b ≡ lower x y
 unfolding lower
