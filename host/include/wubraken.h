@@ -7,9 +7,10 @@
  * word a step, until the step answers STORED, TOOK or EMPTY. The handle
  * wubraken_pool, at the end, keeps shape and memory together: begin there.
  *
- * Arrivals come out by their times, the earliest first; at equal times the lower
- * order is the earlier, the direct sound before a first reflection; at equal orders
- * the one whose enqueue began first, which has the lower ticket.
+ * Of the arrivals stored before it begins a dequeue takes the earliest: that of the
+ * lowest time; at equal times of the lowest order, the direct sound before a first
+ * reflection; at equal orders the one whose enqueue began first, which has the lower
+ * ticket. (Where calls overlap: docs/READING.md.)
  *
  * Which calls to use:
  * - Where only the pool has written to the memory since its opening, the narrow

@@ -140,7 +140,7 @@ fn pauses(random: &mut Random, records: usize) -> Followed {
 /// What the times and orders of a history are chosen from: mostly few.
 struct Choice {
     times: Vec<u32>,
-    orders: Vec<u32>,
+    reflection_orders: Vec<u32>,
 }
 
 impl Choice {
@@ -149,8 +149,11 @@ impl Choice {
             0 => (0..100).map(|_| times::any(random, shape)).collect(),
             _ => times::few(random, shape),
         };
-        let orders = reflections::orders(random);
-        Self { times, orders }
+        let reflection_orders = reflections::reflection_orders(random);
+        Self {
+            times,
+            reflection_orders,
+        }
     }
 
     fn start(&self, random: &mut Random, worker: u8) -> Record {
@@ -160,7 +163,7 @@ impl Choice {
         let arrival = Arrival {
             time: random.choose(&self.times),
             path: random.between(0, Arrival::MAX_PATH),
-            order: random.choose(&self.orders),
+            order: random.choose(&self.reflection_orders),
             distance: random.between(1, Arrival::MAX_DISTANCE),
         };
         put_arrival(worker, arrival)

@@ -7,9 +7,9 @@
 //!
 //! An arrival is never earlier than the one it was reflected from ([`Hall`] says
 //! why), but taking one and putting back its reflections are several calls. So
-//! a worker alone takes in the order of time, at equal times the lower order first,
-//! while of several workers one may take an arrival that lies behind reflections
-//! which another has still in hand.
+//! a worker alone, with nodes enough, takes in the order of time, at equal times the
+//! lower order first, while of several workers one may take an arrival that lies
+//! behind reflections which another has still in hand.
 //! What is promised to all: each call takes effect at one moment between its
 //! start and its end; so nothing is lost or taken twice, a reflection is taken
 //! after its parent, and no take passes over an arrival that was in the pool,

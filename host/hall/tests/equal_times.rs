@@ -30,7 +30,9 @@ fn lines_of(text: &str, time: u32) -> Vec<&str> {
 }
 
 /// A listener on the floor: what the floor reflects has gone as far as the direct sound. 10
-/// metres along, 1.5 across, 1.5 down: 10.223 metres, 1,430.6 samples.
+/// metres along, 1.5 across, 1.5 down: 10.223 metres, 1,430.6 samples. (Here it is so by whatever
+/// key: all others are reflected from the direct sound, once that is taken. So the key is tried
+/// on orders 1 and 2, 2 and 3, below.)
 #[test]
 fn the_direct_sound_before_that_of_the_floor() {
     for interleaving in interleavings(3) {

@@ -162,9 +162,9 @@ pub fn take_in_the_tail() -> Script {
         .taken(0, 3, "empty")
 }
 
-/// Worker 1's take has come to a first reflection; the direct sound is stored before it, at the
-/// same time. The take answers what it came to. Then a late reflection is stored before two first
-/// ones, and a sample later, when the direct sound is taken, another.
+/// All at time 5: worker 1's take has come to order 1; order 0 is stored in front of it, and the
+/// take answers what it came to. Orders 63, 1 and 1 are stored, and order 0 is taken. Then one of
+/// order 0 is stored at time 6: it comes out last.
 pub fn tie() -> Script {
     Script::open(2, 4, 1, 10)
         .stored_arrival(0, reflection(5, 1, 21), 5)

@@ -42,7 +42,7 @@ pub struct Phase {
     pattern: Pattern,
     times: Times,
     /// One of these is the reflection order of each put.
-    orders: Vec<u32>,
+    reflection_orders: Vec<u32>,
     /// Of ten starts, how many are puts.
     pub enqueues: u32,
     /// A busy worker is frozen once in so many records.
@@ -85,7 +85,7 @@ impl Phase {
             left: random.length(9),
             pattern,
             times,
-            orders: reflections::orders(random),
+            reflection_orders: reflections::reflection_orders(random),
             enqueues: random.choose(&[3, 5, 5, 6, 9]),
             freezes: random.choose(&[16, 64, 256, 1_000]),
             refusals: random.choose(&[10, 50, 200]),
@@ -159,7 +159,7 @@ impl Phase {
 
     /// The reflection order of the next put.
     pub fn order(&self, random: &mut Random) -> u32 {
-        random.choose(&self.orders)
+        random.choose(&self.reflection_orders)
     }
 }
 

@@ -8,13 +8,13 @@ use std::collections::HashSet;
 use common::noted::Noted;
 use common::*;
 use schedule::script::{reflection, shape};
-use schedule::ties;
+use schedule::{orders, ties};
 use second::{Answer, Arrival, Response, Shape, Worker};
 
 /// What is printed is in the cases; and a plain queue gives it, too.
 #[test]
 fn every_case_is_a_queue() {
-    for (name, script) in ties::cases() {
+    for (name, script) in ties::cases().into_iter().chain([("a tie", orders::tie())]) {
         assert!(Noted::play(&script).is_a_queue(), "{name}");
     }
 }

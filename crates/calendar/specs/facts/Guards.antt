@@ -26,8 +26,8 @@ pub item : ℕ → ℕ → Item
 item time ticket = record { time = time; path = 7; order = 1; distance = 3; ticket = ticket }
 
 -- one of time 10, by reflection order and ticket
-pub reflection : ℕ → ℕ → Item
-reflection order ticket = record { time = 10; path = 7; order = order; distance = 3; ticket = ticket }
+pub of-order : ℕ → ℕ → Item
+of-order order ticket = record { time = 10; path = 7; order = order; distance = 3; ticket = ticket }
 
 -- worker i's put, whole; its take begins, and ends with x or empty
 pub stores : ℕ → Item → Ledger → Ledger
@@ -92,14 +92,14 @@ unfolding pair item stores asks takes ordersOf below lower energyOf
 earlier-twin-first = forced (pair (item 10 1) (item 10 2) (item 10 1) (item 10 2)) _ refl
 
 -- a first reflection before the direct sound of its time, since it was put earlier: no order
-pub reflection-first : Linearization (pair (reflection 1 1) (reflection 0 2) (reflection 1 1) (reflection 0 2)) → ⊥
-unfolding pair reflection stores asks takes ordersOf below lower energyOf
-reflection-first = none-there (pair (reflection 1 1) (reflection 0 2) (reflection 1 1) (reflection 0 2)) refl
+pub reflection-first : Linearization (pair (of-order 1 1) (of-order 0 2) (of-order 1 1) (of-order 0 2)) → ⊥
+unfolding pair of-order stores asks takes ordersOf below lower energyOf
+reflection-first = none-there (pair (of-order 1 1) (of-order 0 2) (of-order 1 1) (of-order 0 2)) refl
 
 -- the direct sound before it: one order
-pub direct-sound-first : (X : Linearization (pair (reflection 1 1) (reflection 0 2) (reflection 0 2) (reflection 1 1))) → X .order ≡ 1 ∷ 2 ∷ 3 ∷ 4 ∷ []
-unfolding pair reflection stores asks takes ordersOf below lower energyOf
-direct-sound-first = forced (pair (reflection 1 1) (reflection 0 2) (reflection 0 2) (reflection 1 1)) _ refl
+pub direct-sound-first : (X : Linearization (pair (of-order 1 1) (of-order 0 2) (of-order 0 2) (of-order 1 1))) → X .order ≡ 1 ∷ 2 ∷ 3 ∷ 4 ∷ []
+unfolding pair of-order stores asks takes ordersOf below lower energyOf
+direct-sound-first = forced (pair (of-order 1 1) (of-order 0 2) (of-order 0 2) (of-order 1 1)) _ refl
 
 -- empty after something was stored: no order
 pub not-empty : Linearization emptied → ⊥

@@ -1,7 +1,7 @@
 -- A worked history of ties. Take 2 has seen the first reflection of call 1 and pauses; put 3 stores the direct sound of the same
--- time; take 2 goes on and takes what it saw, so it stands before put 3. Then a late reflection is put before two first ones, all
--- of that time, and at last a direct sound one sample later. The takes get the direct sound, the first reflections by their
--- tickets and not by their paths, the late one, what came a sample later, and nothing. Assumes nothing.
+-- time; take 2 goes on and takes what it saw, so it stands before put 3. Then one of order 63 is put before two of order 1, all at
+-- that time, and at last one of order 0 at the next sample. The takes get the direct sound, those of order 1 by their tickets and
+-- not by their paths, that of order 63, that of the next sample, and nothing. Assumes nothing.
 use mathlib.Core.Path.{_≡_, refl}
 use mathlib.Core.List.{List, [], _∷_, _++_}
 use mathlib.Core.Option.{some}
@@ -32,13 +32,13 @@ use Rattle.calendar.specs.facts.Guards.{forced}
 use Rattle.calendar.specs.facts.WorkedHistory.{one-bucket, start}
 
 unfoldable pub reflection : ℕ → ℕ → ℕ → Arrival
-reflection time path order = record { time = time; path = path; order = order; distance = 3 }
+reflection time order path = record { time = time; path = path; order = order; distance = 3 }
 
 unfoldable pub history : List Action
 history =
-    put 0 (reflection 5 21 1) 5 ++ take 1 3 ++ put 0 (reflection 5 23 0) 6 ++ turns 1 5
-    ++ put 0 (reflection 5 24 63) 6 ++ put 0 (reflection 5 26 1) 7 ++ put 0 (reflection 5 25 1) 8
-    ++ take 0 8 ++ put 0 (reflection 6 28 0) 8
+    put 0 (reflection 5 1 21) 5 ++ take 1 3 ++ put 0 (reflection 5 0 23) 6 ++ turns 1 5
+    ++ put 0 (reflection 5 63 24) 6 ++ put 0 (reflection 5 1 26) 7 ++ put 0 (reflection 5 1 25) 8
+    ++ take 0 8 ++ put 0 (reflection 6 0 28) 8
     ++ take 0 8 ++ take 0 8 ++ take 0 8 ++ take 0 7 ++ take 0 3
 
 unfoldable pub seen : Ledger
