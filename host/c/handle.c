@@ -99,10 +99,10 @@ static void tail(void)
         print(wubraken_pool_take(&pool, 0, UINT64_MAX));
 }
 
-/* By time, then the direct sound before its reflections, then by ticket. */
+/* By order, the direct sound first, and at equal orders by ticket. */
 static void equal_times(void)
 {
-    const wubraken_arrival arrivals[4] = {{5, 8, 1, 3}, {5, 9, 0, 3}, {5, 7, 1, 3}, {4, 6, 2, 3}};
+    const wubraken_arrival arrivals[4] = {{5, 9, 2, 3}, {5, 8, 1, 3}, {5, 7, 0, 3}, {5, 6, 1, 3}};
     int nth;
 
     puts("equal times:");

@@ -7,10 +7,10 @@
  * word a step, until the step answers STORED, TOOK or EMPTY. The handle
  * wubraken_pool, at the end, keeps shape and memory together: begin there.
  *
- * Of the arrivals stored before it begins a dequeue takes the earliest: that of the
- * lowest time; at equal times of the lowest order, the direct sound before a first
- * reflection; at equal orders the one whose enqueue began first, which has the lower
- * ticket. (Where calls overlap: docs/READING.md.)
+ * Where calls do not overlap, a dequeue takes the earliest arrival in the pool: that
+ * of the lowest time; at equal times of the lowest order, the direct sound before a
+ * first reflection; at equal orders the one whose enqueue began first, which has the
+ * lower ticket. (What holds where they overlap: docs/READING.md.)
  *
  * Which calls to use:
  * - Where only the pool has written to the memory since its opening, the narrow

@@ -6,7 +6,7 @@ use second::layout::{field, head_at, node_at, NODE_WORDS};
 use second::{stage, word, Program, Record, Records, Worker};
 
 /// The takes that marked an arrival, and those of them that left others of its time
-/// unmarked in its list.
+/// unmarked in its list; one may be among both kinds.
 #[derive(Clone, Copy, Debug, Default, PartialEq, Eq)]
 pub struct Decided {
     pub takes: usize,
