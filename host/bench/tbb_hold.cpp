@@ -8,6 +8,7 @@
 #include <cstdio>
 #include <cstdlib>
 #include <thread>
+#include <tuple>
 #include <vector>
 
 #include <tbb/concurrent_priority_queue.h>
@@ -28,9 +29,10 @@ struct Pending {
     uint32_t time, ticket, path, order, distance;
 };
 
+// By the pool's key.
 struct Later {
     bool operator()(const Pending &a, const Pending &b) const {
-        return a.time != b.time ? a.time > b.time : a.ticket > b.ticket;
+        return std::tie(a.time, a.order, a.ticket) > std::tie(b.time, b.order, b.ticket);
     }
 };
 

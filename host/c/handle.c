@@ -1,7 +1,7 @@
 /* A pool by its handle: arrivals are put in and taken out, a call at a time, in
- * parts, turn by turn, which is the worked example, and far behind the others.
- * Prints what is answered, and with the argument "turns" the worked example alone,
- * one line a record. */
+ * parts, turn by turn, which is the worked example, far behind the others, and at
+ * equal times. Prints what is answered, and with the argument "turns" the worked
+ * example alone, one line a record. */
 #include <inttypes.h>
 #include <stdio.h>
 #include <string.h>
@@ -99,6 +99,20 @@ static void tail(void)
         print(wubraken_pool_take(&pool, 0, UINT64_MAX));
 }
 
+/* By order, the direct sound first, and at equal orders by ticket. */
+static void equal_times(void)
+{
+    const wubraken_arrival arrivals[4] = {{5, 9, 2, 3}, {5, 8, 1, 3}, {5, 7, 0, 3}, {5, 6, 1, 3}};
+    int nth;
+
+    puts("equal times:");
+    open_for(1);
+    for (nth = 0; nth < 4; nth++)
+        print(wubraken_pool_put(&pool, 0, arrivals[nth], UINT64_MAX));
+    for (nth = 0; nth < 5; nth++)
+        print(wubraken_pool_take(&pool, 0, UINT64_MAX));
+}
+
 /* Then the pool has no shape, until it is opened again. */
 static void refused_opening(void)
 {
@@ -139,6 +153,7 @@ int main(int arguments, char **argument)
     puts("turn by turn:");
     turn_by_turn();
     tail();
+    equal_times();
     from_elsewhere();
     refused_opening();
     return 0;

@@ -7,6 +7,11 @@
  * word a step, until the step answers STORED, TOOK or EMPTY. The handle
  * wubraken_pool, at the end, keeps shape and memory together: begin there.
  *
+ * Where calls do not overlap, a dequeue takes the earliest arrival in the pool: that
+ * of the lowest time; at equal times of the lowest order, the direct sound before a
+ * first reflection; at equal orders the one whose enqueue began first, which has the
+ * lower ticket. (What holds where they overlap: docs/READING.md.)
+ *
  * Which calls to use:
  * - Where only the pool has written to the memory since its opening, the narrow
  *   calls, as the handle does: they look only at what they need, and a turn costs
@@ -107,6 +112,8 @@ typedef struct {
  *       1 time      2 ticket    3 path      4 order     5 distance
  *       6 epoch     of word 0 when the node was about to be linked
  *       7 standing  0 never used, 1 in use, 2 + s unlinked when s calls had begun
+ *
+ * The nodes of a list stand by time, then order, then ticket.
  */
 
 /* Kinds of answers. */

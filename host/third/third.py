@@ -63,7 +63,7 @@ class Pool:
 
     def key(self, node):
         """(B10)"""
-        return self.get(node, TIME), self.get(node, TICKET)
+        return self.get(node, TIME), self.get(node, ORDER), self.get(node, TICKET)
 
     def bucket_of(self, time):
         """The last bucket takes the tail too (B9)."""

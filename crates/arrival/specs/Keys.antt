@@ -1,48 +1,83 @@
 -- The order of keys and the bucket of a time, with their laws: what all proofs use. Outside this file only the functions
 -- that compute them and runs that are computed open either.
---     lowerKey, keyOf, lower                the order of keys: by time, then ticket; of items by their keys (lower-keys)
---     SameKey, lower-by-key                 one key; the order looks at nothing else
+--     components, lowerKey                  the order of keys: by time, then reflection order, then ticket
+--     keyOf, lower, by-hand                 the key of an item; items are ordered by their keys; items by hand
+--     time-decides, order-decides           the order in words: the time decides where it differs, at equal times the order
+--     ticket-decides                        where it differs, at equal times and orders the ticket
+--     lower-keys, lower-by-key              keys that were read; the order of items looks at nothing but their keys
 --     bucketOf, itemBucket, item-bucket     the bucket of a time, and of an item
 --     lower-irr, lower-trans                the order is strict
 --     lower-weak, lower-total               weak, and total on different tickets
---     bucket-below, bucket-mono             the bucket of a time is one of the buckets; a lower key lies in no higher one
+--     bucket-below                          the bucket of a time is one of the buckets
+--     lower-time, bucket-mono               a lower key has no higher time, and lies in no higher bucket
 -- Assumes nothing.
-use mathlib.Core.Path.{_≡_, refl, sym, _∙_}
-use mathlib.Core.Bool.{Bool, true, false, _&&_, _||_}
-use mathlib.Core.Logic.{_≢_, _⊎_, inl, inr}
-use Prim.Native.Nat.{ℕ, _-_, _/_, min, _≤_, _<_}
+use mathlib.Core.Path.{_≡_, refl}
+use mathlib.Core.Bool.{Bool, true, false, and-false, or-false}
+use mathlib.Core.Logic.{_≢_, _⊎_}
+use mathlib.Core.List.{List, [], _∷_, List·Memᴰ·head as here, List·Memᴰ·tail as there}
+use Prim.Native.Nat.{ℕ, _-_, _*_, _/_, min, _≤_, _<_}
 use native.Mathlib.Nat.{le-div-iff-mul-le, div-mul-le-self}
 use native.Mathlib.Omega.{arith}
 use lib.Dec.{eqb, ltb}
-use borrow.Author.Tests.{eqb-true, eq-eqb, ltb-true, ltb-false, lt-ltb, le-ltb}
+use borrow.Author.Tests.{le-ltb, eq-eqb, ne-eqb}
 use Rattle.arrival.specs.declared.Shape.{Shape}
 use Rattle.arrival.specs.declared.Item.{Item}
 use Rattle.arrival.specs.declared.Key.{Key}
-use Rattle.laws.specs.Tests.{never, parts}
+use Rattle.laws.specs.Tests.{is-true}
+use Rattle.laws.specs.Lexicographic.{lowerBy, lower-by-irr, lower-by-trans, lower-by-weak, lower-by-alike, lower-by-first}
 
--- by time, then ticket
+-- time, then reflection order, then ticket
+abbrev pub components : List (Key → ℕ)
+components = (λ k. k .time) ∷ (λ k. k .order) ∷ (λ k. k .ticket) ∷ []
+
 abbrev pub lowerKey : Key → Key → Bool
-lowerKey a b = ltb (a .time) (b .time) || (eqb (a .time) (b .time) && ltb (a .ticket) (b .ticket))
+lowerKey = lowerBy components
 
 abbrev pub keyOf : Item → Key
-keyOf x = record { time = x .time; ticket = x .ticket }
+keyOf x = record { time = x .time; order = x .order; ticket = x .ticket }
 
 unfoldable pub lower : Item → Item → Bool
 lower a b = lowerKey (keyOf a) (keyOf b)
+
+-- By hand: an earlier time, whatever its order and ticket; the direct sound before a first reflection that was put earlier; of
+-- one time and order the earlier ticket. Path and distance do not count.
+abbrev item : ℕ → ℕ → ℕ → ℕ → Item
+item time order ticket other = record { time = time; path = other; order = order; distance = other; ticket = ticket }
+
+by-hand :
+    (lower (item 4 2 9 6) (item 5 0 1 6) ≡ true) × (lower (item 5 0 1 6) (item 4 2 9 6) ≡ false)
+    × (lower (item 5 0 9 6) (item 5 1 2 6) ≡ true) × (lower (item 5 1 2 6) (item 5 0 9 6) ≡ false)
+    × (lower (item 5 1 2 6) (item 5 1 3 6) ≡ true) × (lower (item 5 1 3 6) (item 5 1 2 6) ≡ false)
+    × (lower (item 5 1 2 6) (item 5 1 2 7) ≡ false) × (lower (item 5 1 2 7) (item 5 1 2 6) ≡ false)
+unfolding lower
+by-hand = (refl, refl, refl, refl, refl, refl, refl, refl)
+
+-- In words: the time decides where it differs; at equal times the order does, where it differs; at equal times and orders the ticket.
+pub time-decides : (a b : Key) → a .time ≢ b .time → lowerKey a b ≡ ltb (a .time) (b .time)
+time-decides a b n = rw (ne-eqb (a .time) (b .time) n) (or-false (ltb (a .time) (b .time)))
+
+pub order-decides : (a b : Key) → a .time ≡ b .time → a .order ≢ b .order → lowerKey a b ≡ ltb (a .order) (b .order)
+order-decides a b e n =
+    rw (le-ltb (a .time) (b .time) (omega arith), eq-eqb (a .time) (b .time) e, ne-eqb (a .order) (b .order) n) (or-false (ltb (a .order) (b .order)))
+
+pub ticket-decides : (a b : Key) → a .time ≡ b .time → a .order ≡ b .order → lowerKey a b ≡ ltb (a .ticket) (b .ticket)
+ticket-decides a b e d =
+    rw (
+      le-ltb (a .time) (b .time) (omega arith),
+      eq-eqb (a .time) (b .time) e,
+      le-ltb (a .order) (b .order) (omega arith),
+      eq-eqb (a .order) (b .order) d,
+      and-false (eqb (a .ticket) (b .ticket)),
+    ) (or-false (ltb (a .ticket) (b .ticket)))
 
 pub lower-keys : (x y : Item) (a b : Key) → a ≡ keyOf x → b ≡ keyOf y → lowerKey a b ≡ lower x y
 unfolding lower
 lower-keys x y a b p q = λ j. lowerKey (p j) (q j)
 
--- one key
-pub record SameKey (a b : Item) : Type 0 where
-  pub time : a .time ≡ b .time
-  pub ticket : a .ticket ≡ b .ticket
-
 -- The order looks at nothing but the keys.
-pub lower-by-key : (a a′ b b′ : Item) → SameKey a a′ → SameKey b b′ → lower a b ≡ lower a′ b′
+pub lower-by-key : (a a′ b b′ : Item) → keyOf a ≡ keyOf a′ → keyOf b ≡ keyOf b′ → lower a b ≡ lower a′ b′
 unfolding lower
-lower-by-key a a′ b b′ p q = λ j. ltb (p .time j) (q .time j) || (eqb (p .time j) (q .time j) && ltb (p .ticket j) (q .ticket j))
+lower-by-key a a′ b b′ p q = λ j. lowerKey (p j) (q j)
 
 -- the smaller of time divided by width, rounded down, and buckets − 1
 unfoldable pub bucketOf : Shape → ℕ → ℕ
@@ -56,92 +91,37 @@ pub item-bucket : (sh : Shape) (x : Item) → itemBucket sh x ≡ bucketOf sh (x
 unfolding itemBucket
 item-bucket sh x = refl
 
-abbrev Below : Item → Item → Type 0
-Below a b = (a .time < b .time) ⊎ ((a .time ≡ b .time) × (a .ticket < b .ticket))
-
-below : (a b : Item) → lower a b ≡ true → Below a b
-unfolding lower
-below a b h = go (ltb (a .time) (b .time)) refl h
-  where
-    go : (t : Bool) → ltb (a .time) (b .time) ≡ t → (t || (eqb (a .time) (b .time) && ltb (a .ticket) (b .ticket))) ≡ true → Below a b
-    go true e h = inl (ltb-true (a .time) (b .time) e)
-    go false e h =
-        let (p, q) = parts (eqb (a .time) (b .time)) (ltb (a .ticket) (b .ticket)) h in inr (eqb-true (a .time) (b .time) p, ltb-true (a .ticket) (b .ticket) q)
-
-lowered : (a b : Item) → Below a b → lower a b ≡ true
-unfolding lower
-lowered a b (inl h) = rw (lt-ltb (a .time) (b .time) h)
-lowered a b (inr (e, h)) = rw (le-ltb (a .time) (b .time) (omega arith), eq-eqb (a .time) (b .time) e, lt-ltb (a .ticket) (b .ticket) h)
-
 -- The order is strict,
 pub lower-irr : (a : Item) → lower a a ≡ true → ⊥
-lower-irr a p = go (below a a p)
-  where
-    go : Below a a → ⊥
-    go (inl h) = omega arith
-    go (inr h) = omega arith
+unfolding lower
+lower-irr a = lower-by-irr components (keyOf a)
 
 pub lower-trans : (a b c : Item) → lower a b ≡ true → lower b c ≡ true → lower a c ≡ true
-lower-trans a b c p q = lowered a c (go (below a b p) (below b c q))
-  where
-    go : Below a b → Below b c → Below a c
-    go (inl h) (inl k) = inl (omega arith)
-    go (inl h) (inr k) = inl (omega arith)
-    go (inr h) (inl k) = inl (omega arith)
-    go (inr h) (inr k) = inr (omega arith)
+unfolding lower
+lower-trans a b c = lower-by-trans components (keyOf a) (keyOf b) (keyOf c)
 
 -- weak,
 pub lower-weak : (a b c : Item) → lower a c ≡ true → (lower a b ≡ true) ⊎ (lower b c ≡ true)
-lower-weak a b c h = go (lower a b) refl (lower b c) refl
-  where
-    apart : (a b : Item) → lower a b ≡ false → Below a b → ⊥
-    apart a b e x = never (sym e ∙ lowered a b x)
-
-    go : (t : Bool) → lower a b ≡ t → (u : Bool) → lower b c ≡ u → (lower a b ≡ true) ⊎ (lower b c ≡ true)
-    go true e u f = inl e
-    go false e true f = inr f
-    go false e false f = absurd (pick (below a c h))
-      where
-        pick : Below a c → ⊥
-        pick (inl l) = split (ltb (a .time) (b .time)) refl
-          where
-            split : (t : Bool) → ltb (a .time) (b .time) ≡ t → ⊥
-            split true q = apart a b e (inl (ltb-true (a .time) (b .time) q))
-            split false q = apart b c f (inl (omega (arith, ltb-false (a .time) (b .time) q)))
-        pick (inr (g, l)) = split (ltb (a .time) (b .time)) refl (ltb (b .time) (c .time)) refl (ltb (a .ticket) (b .ticket)) refl
-          where
-            split : (t : Bool) → ltb (a .time) (b .time) ≡ t → (u : Bool) → ltb (b .time) (c .time) ≡ u → (v : Bool) → ltb (a .ticket) (b .ticket) ≡ v → ⊥
-            split true q u r v z = apart a b e (inl (ltb-true (a .time) (b .time) q))
-            split false q true r v z = apart b c f (inl (ltb-true (b .time) (c .time) r))
-            split false q false r true z =
-                apart a b e (inr (omega (arith, ltb-false (a .time) (b .time) q, ltb-false (b .time) (c .time) r), ltb-true (a .ticket) (b .ticket) z))
-            split false q false r false z =
-                apart b c f
-                (inr (omega (arith, ltb-false (a .time) (b .time) q, ltb-false (b .time) (c .time) r), omega (arith, ltb-false (a .ticket) (b .ticket) z)))
+unfolding lower
+lower-weak a b c = lower-by-weak components (keyOf a) (keyOf b) (keyOf c)
 
 -- and total on different tickets.
 pub lower-total : (a b : Item) → lower a b ≡ false → a .ticket ≢ b .ticket → lower b a ≡ true
-lower-total a b h n = lowered b a (go (ltb (b .time) (a .time)) refl (ltb (a .time) (b .time)) refl (ltb (b .ticket) (a .ticket)) refl)
-  where
-    not-below : Below a b → ⊥
-    not-below x = never (sym h ∙ lowered a b x)
-
-    go : (t : Bool) → ltb (b .time) (a .time) ≡ t → (u : Bool) → ltb (a .time) (b .time) ≡ u → (v : Bool) → ltb (b .ticket) (a .ticket) ≡ v → Below b a
-    go true e u f v g = inl (ltb-true (b .time) (a .time) e)
-    go false e true f v g = absurd (not-below (inl (ltb-true (a .time) (b .time) f)))
-    go false e false f true g = inr (omega (arith, ltb-true, ltb-false))
-    go false e false f false g = absurd (not-below (inr (omega (arith, ltb-true, ltb-false))))
+unfolding lower
+lower-total a b h n = is-true (lower b a) (λ k. n (lower-by-alike components (keyOf a) (keyOf b) h k (λ k. k .ticket) (there (there (here refl)))))
 
 -- The bucket of a time is one of the buckets.
 pub bucket-below : (sh : Shape) (time : ℕ) → 1 ≤ sh .buckets → bucketOf sh time < sh .buckets
 unfolding bucketOf
 bucket-below sh time some = omega arith
 
--- A lower key lies in no higher bucket.
+-- A lower key has no higher time,
+pub lower-time : (a b : Item) → lower a b ≡ true → a .time ≤ b .time
+unfolding lower
+lower-time a b = lower-by-first components refl (keyOf a) (keyOf b)
+
+-- and lies in no higher bucket.
 pub bucket-mono : (sh : Shape) (a b : Item) → 1 ≤ sh .width → lower a b ≡ true → itemBucket sh a ≤ itemBucket sh b
 unfolding itemBucket bucketOf
-bucket-mono sh a b w p = omega (arith, go (below a b p))
-  where
-    go : Below a b → a .time / sh .width ≤ b .time / sh .width
-    go (inl h) = le-div-iff-mul-le w .1 (omega (arith, div-mul-le-self (a .time) (sh .width)))
-    go (inr h) = le-div-iff-mul-le w .1 (omega (arith, div-mul-le-self (a .time) (sh .width)))
+bucket-mono sh a b w h =
+    omega (arith, le-div-iff-mul-le {x = a .time / sh .width} {y = b .time} w .1 (omega (arith, div-mul-le-self (a .time) (sh .width), lower-time a b h)))

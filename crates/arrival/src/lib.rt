@@ -63,6 +63,7 @@ pub struct Item {
 // What an item's place in the order is read from.
 pub struct Key {
     pub time: u64,
+    pub order: u64,
     pub ticket: u64,
 }
 
@@ -100,7 +101,9 @@ pub enum Response {
 pub fn is_lower(a: Key, b: Key) -> bool
     ensures { λ r. ⌜ r ≡ lowerKey a b ⌝ }
 {
-    (a.time < b.time) | (a.time == b.time) & (a.ticket < b.ticket)
+    let by_ticket = a.ticket < b.ticket;
+    let by_order = (a.order < b.order) | (a.order == b.order) & by_ticket;
+    (a.time < b.time) | (a.time == b.time) & by_order
 }
 
 // The bucket of a time.

@@ -28,6 +28,7 @@ pub mod Guards
 pub mod StoodOn
 pub mod WorkedHistory
 pub mod TailHistory
+pub mod TieHistory
 pub mod OneWord
 pub mod WordsBeyond
 pub mod AnswerRanges

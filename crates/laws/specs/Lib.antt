@@ -4,3 +4,4 @@ pub mod Storing
 pub mod Counting
 pub mod FirstOf
 pub mod Searching
+pub mod Lexicographic

@@ -1,7 +1,7 @@
 -- Tests as facts, and proofs by the cases of a test. What the kit has is not here: of one comparison, and of `not`, in borrow.Author.Tests; of `&&` and
 -- `||` with a constant in mathlib.Core.Bool.
 --     isYes                             a decision as a test
---     never, is-false                   no test is false and true; one that does not hold is false
+--     never, is-false, is-true          no test is false and true; one that does not hold is false; one that does not fail is true
 --     is-no, not-yes                    it fails where there is a refutation; what its failing tells
 --     left-true, right-true, parts      what "both" tells; both, the other way
 --     either, neither                   what "one of the two" tells where it holds, and where it does not; or-left, or-right, the other way
@@ -29,6 +29,10 @@ never e = let z : _≡_ {A = ℕ} 0 1 = cc in absurd (omega arith)
 pub is-false : (t : Bool) → (t ≡ true → ⊥) → t ≡ false
 is-false true h = absurd (h refl)
 is-false false h = refl
+
+pub is-true : (t : Bool) → (t ≡ false → ⊥) → t ≡ true
+is-true true h = refl
+is-true false h = absurd (h refl)
 
 pub is-no : {P : Type 0} (d : Dec P) → ¬ P → isYes d ≡ false
 is-no (yes h) n = absurd (n h)

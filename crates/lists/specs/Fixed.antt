@@ -2,7 +2,8 @@
 -- the call itself prepares it at 4.
 --     kept                                   what one action leaves of a node that a call stands on
 --     Throughout, StandsOn, OnlyStandsOn     before each action of a history; on the node; and not preparing it
---     arrival-fixed, epoch-fixed             its arrival stays, and its epoch
+--     arrival-fixed, key-fixed               its arrival stays, and so its key: its words of time, order and ticket
+--     epoch-fixed                            and its epoch
 -- Assumes nothing.
 use mathlib.Core.Path.{_≡_, refl, sym, ap, _∙_, subst⁻¹}
 use mathlib.Core.List.{List, [], _∷_, Memᴰ·cast}
@@ -16,6 +17,7 @@ use Rattle.arrival.specs.declared.Worker.{Worker}
 use Rattle.arrival.specs.declared.Action.{Action}
 use Rattle.arrival.specs.declared.Action.the-variants.{Enqueue, Dequeue, Step}
 use Rattle.arrival.specs.declared.Response.the-variants.{Opened}
+use Rattle.arrival.specs.Keys.{keyOf}
 use Rattle.laws.specs.Tests.{never, upd-other}
 use Rattle.calendar.specs.rules.Layout.{Write, itemAt, epochAt, started}
 use Rattle.calendar.specs.rules.Ranges.{worker}
@@ -167,12 +169,17 @@ module _ (sh : Shape) (j x : ℕ) (l : j < sh .workers) (isNode : x < sh .nodes)
   epoch-kept m K [] t = refl
   epoch-kept m K (a ∷ h) t = epoch-kept (act sh m a .memory) (act-reaches sh m a K) h (t .1) ∙ kept sh m (K .0) (K .1) j x l isNode (t .0 .0) a .1 (t .0 .1)
 
-  -- A NODE'S ARRIVAL, AND SO ITS KEY, STAYS WHILE A CALL STANDS ON IT
+  -- A NODE'S ARRIVAL STAYS WHILE A CALL STANDS ON IT,
   pub arrival-fixed : (m : Memory) → open-pool sh m .response ≡ Opened → (g h : List Action) → let n = run sh (open-pool sh m .memory) g in
       Throughout sh (StandsOn sh x) j n h → itemAt sh (run sh n h .store) x ≡ itemAt sh (n .store) x
   arrival-fixed m e g h = arrival-kept (run sh (open-pool sh m .memory) g) (history-reaches sh m e g) h
 
-  -- AND SO DOES ITS EPOCH
+  -- SO ITS KEY DOES: TIME, ORDER AND TICKET,
+  pub key-fixed : (m : Memory) → open-pool sh m .response ≡ Opened → (g h : List Action) → let n = run sh (open-pool sh m .memory) g in
+      Throughout sh (StandsOn sh x) j n h → keyOf (itemAt sh (run sh n h .store) x) ≡ keyOf (itemAt sh (n .store) x)
+  key-fixed m e g h t = ap keyOf (arrival-fixed m e g h t)
+
+  -- AND ITS EPOCH
   pub epoch-fixed : (m : Memory) → open-pool sh m .response ≡ Opened → (g h : List Action) → let n = run sh (open-pool sh m .memory) g in
       Throughout sh (OnlyStandsOn sh x) j n h → epochAt sh (run sh n h .store) x ≡ epochAt sh (n .store) x
   epoch-fixed m e g h = epoch-kept (run sh (open-pool sh m .memory) g) (history-reaches sh m e g) h

@@ -90,8 +90,13 @@ pub fn key_at(shape: Shape, n: u64, store: &[u64]) -> Key
     ensures { λ r. ⌜ r ≡ keyOf (itemAt shape (now (store .entry)) n) ⌝ }
 {
     let time = get_field(shape, field::TIME, n, store);
+    let order = get_field(shape, field::ORDER, n, store);
     let ticket = get_field(shape, field::TICKET, n, store);
-    Key { time, ticket }
+    Key {
+        time,
+        order,
+        ticket,
+    }
 }
 
 // The arrival in node n, with its ticket.

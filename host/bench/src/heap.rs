@@ -32,13 +32,14 @@ impl Pending {
         }
     }
 
-    fn key(&self) -> (u32, u32) {
-        (self.time, self.ticket)
+    /// The pool's.
+    fn key(&self) -> (u32, u32, u32) {
+        (self.time, self.order, self.ticket)
     }
 
     /// A use of what is no key.
     fn rest(&self) -> u64 {
-        u64::from(self.path + self.order + self.distance)
+        u64::from(self.path + self.distance)
     }
 }
 

@@ -25,7 +25,7 @@ pub fn run(arguments: &Arguments) {
 /// Records timed at a time.
 const PIECE: usize = 100_000;
 
-/// Equal times in one bucket: each put walks past all before it.
+/// Equal times and orders in one bucket: each put walks past all before it.
 fn walking() -> Batch {
     let mut recorder = Recorder::open(shape(1, 500, 1, 1));
     for _ in 0..500 {

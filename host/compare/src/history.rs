@@ -4,7 +4,7 @@
 use std::fmt;
 
 use order::{Answer, Call, History, Kind};
-use second::{Record, Records, Refusal, Shape};
+use second::{Arrival, Record, Records, Refusal, Shape};
 
 use crate::line::{Line, Taken};
 use crate::record::show;
@@ -82,7 +82,7 @@ impl<'a> Run<'a> {
     pub fn call(&self, call: &Call<Taken>) -> String {
         let Call { ticket, worker, .. } = call;
         let kind = match call.kind {
-            Kind::Put(time, _) => format!("put at {time}"),
+            Kind::Put { time, order, .. } => format!("put at {time}, order {order}"),
             Kind::Take => "take".to_string(),
         };
         let (end, answer) = match call.end {
@@ -90,7 +90,7 @@ impl<'a> Run<'a> {
             None => ("...".to_string(), "unfinished"),
         };
         let records = format!("{} to {end}", call.start + 1);
-        format!("  {ticket:<5}worker {worker:<4}{kind:<18}records {records:<13} {answer}\n")
+        format!("  {ticket:<5}worker {worker:<4}{kind:<28}records {records:<13} {answer}\n")
     }
 
     /// The calls of every history.
@@ -114,7 +114,9 @@ impl<'a> Run<'a> {
                 Ok(())
             }
             (Ok(Record::EnqueueStart { worker, arrival }), Line::Begun(ticket)) => {
-                let kind = Kind::Put(arrival.time, Taken::of(arrival));
+                let Arrival { time, order, .. } = arrival;
+                let shown = Taken::of(arrival);
+                let kind = Kind::Put { time, order, shown };
                 histories.begin(worker.into(), ticket, kind, place)
             }
             (Ok(Record::DequeueStart { worker }), Line::Begun(ticket)) => {

@@ -1,7 +1,7 @@
 //! The random turn files of a seed.
 
 use schedule::script::{put_arrival, take, turn};
-use schedule::{times, write, write_damaged, Generator, Options, Random};
+use schedule::{reflections, times, write, write_damaged, Generator, Options, Random};
 use second::{Answer, Arrival, Program, Record, Response, Shape};
 
 use crate::inputs::Input;
@@ -115,6 +115,7 @@ fn any_schedule(seed: u64, random: &mut Random, records: usize) -> Followed {
 /// Some workers pause inside a call while others make whole ones.
 fn pauses(random: &mut Random, records: usize) -> Followed {
     let shape = small_shape(random);
+    let choice = Choice::of(random, shape);
     let mut followed = Followed::default();
     let _ = followed.apply(Record::Open(shape));
     while followed.bytes.len() < 4 * records {
@@ -125,7 +126,7 @@ fn pauses(random: &mut Random, records: usize) -> Followed {
                 continue;
             }
         } else {
-            let _ = followed.apply(start(random, shape, worker));
+            let _ = followed.apply(choice.start(random, worker));
         }
         if random.one_in(3) {
             followed.turns(worker, random.between(1, 5));
@@ -136,17 +137,37 @@ fn pauses(random: &mut Random, records: usize) -> Followed {
     followed
 }
 
-fn start(random: &mut Random, shape: Shape, worker: u8) -> Record {
-    if random.one_in(2) {
-        return take(worker);
+/// What the times and orders of a history are chosen from: mostly few.
+struct Choice {
+    times: Vec<u32>,
+    reflection_orders: Vec<u32>,
+}
+
+impl Choice {
+    fn of(random: &mut Random, shape: Shape) -> Self {
+        let times = match random.below(3) {
+            0 => (0..100).map(|_| times::any(random, shape)).collect(),
+            _ => times::few(random, shape),
+        };
+        let reflection_orders = reflections::reflection_orders(random);
+        Self {
+            times,
+            reflection_orders,
+        }
     }
-    let arrival = Arrival {
-        time: times::any(random, shape),
-        path: random.between(0, Arrival::MAX_PATH),
-        order: random.between(0, Arrival::MAX_ORDER),
-        distance: random.between(1, Arrival::MAX_DISTANCE),
-    };
-    put_arrival(worker, arrival)
+
+    fn start(&self, random: &mut Random, worker: u8) -> Record {
+        if random.one_in(2) {
+            return take(worker);
+        }
+        let arrival = Arrival {
+            time: random.choose(&self.times),
+            path: random.between(0, Arrival::MAX_PATH),
+            order: random.choose(&self.reflection_orders),
+            distance: random.between(1, Arrival::MAX_DISTANCE),
+        };
+        put_arrival(worker, arrival)
+    }
 }
 
 /// A turn file, and the pool it leads to.

@@ -61,7 +61,7 @@ impl Made {
         let arrival = Arrival {
             time: random.below(3),
             path: random.below(paths),
-            order: 0,
+            order: random.below(2),
             distance: 1,
         };
         let (kind, record) = match random.one_in(2) {
@@ -91,8 +91,11 @@ impl Made {
         let line = match answer {
             None => "on".to_string(),
             Some(Answer::Stored) => format!("stored {}", call + 1),
-            Some(Answer::Took(Arrival { time, path, .. })) => {
-                format!("took {time} {path} 0 16777216")
+            Some(Answer::Took(arrival)) => {
+                let Arrival {
+                    time, path, order, ..
+                } = arrival;
+                format!("took {time} {path} {order} 16777216")
             }
             Some(Answer::Empty) => "empty".to_string(),
         };
@@ -110,7 +113,7 @@ impl Made {
                 left.push(arrival);
             }
         }
-        left.sort_by_key(|arrival| arrival.time);
+        left.sort_by_key(|arrival| (arrival.time, arrival.order));
         for call in &self.calls {
             if let Some(Answer::Took(taken)) = call.answer {
                 let place = left.iter().position(|&arrival| arrival == taken);
@@ -165,7 +168,7 @@ impl Made {
     fn are_kept(&self, takers: &[Option<usize>]) -> bool {
         let calls = &self.calls;
         let key = |put: usize| match calls[put].kind {
-            Kind::Put(arrival) => (arrival.time, put),
+            Kind::Put(arrival) => (arrival.time, arrival.order, put),
             Kind::Take => unreachable!("only puts have takers"),
         };
         let answered = |take: usize| {

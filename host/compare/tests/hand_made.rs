@@ -1,7 +1,7 @@
 //! Histories made by hand: which of them have an order of a plain queue.
 
 use compare::linearizability::{check, Checked, Violation};
-use schedule::script::{arrival, put_arrival, take, took, turn};
+use schedule::script::{put_arrival, reflection, take, took, took_reflection, turn};
 use schedule::{by_hand, orders, Script};
 use second::Arrival;
 
@@ -123,31 +123,72 @@ fn taken_out_of_order() {
     refuse_at_the_end(both.take(2).taken(1, 7, &took(20)).end(2, 7, "empty"));
 }
 
-/// Of equal times the lower ticket comes first.
+/// The first of two comes out first, whether its put begins first or last, and ends first
+/// or last.
+#[track_caller]
+fn first_in_any_case(first: Arrival, second: Arrival) {
+    for [one, other] in [[first, second], [second, first]] {
+        let apart = fresh()
+            .stored_arrival(0, one, 5)
+            .stored_arrival(0, other, 6);
+        let crossed = fresh()
+            .begin(put_arrival(0, one))
+            .stored_arrival(1, other, 5)
+            .end(0, 6, "stored 1");
+        for both in [apart, crossed] {
+            accept(both.clone().taken(1, 8, &took_reflection(first)));
+            refuse_at_the_end(both.taken(1, 8, &took_reflection(second)));
+        }
+    }
+}
+
+/// Of equal times the lower reflection order comes first.
 #[test]
-fn equal_times_by_ticket() {
-    let put = |worker, path| {
-        let arrival = Arrival {
-            path,
-            ..arrival(10)
-        };
-        put_arrival(worker, arrival)
-    };
+fn equal_times_by_order() {
+    first_in_any_case(reflection(10, 0, 7), reflection(10, 1, 7));
+    first_in_any_case(reflection(10, 62, 1), reflection(10, 63, 0));
+}
+
+/// A lower order does not pass an earlier time.
+#[test]
+fn times_before_orders() {
+    first_in_any_case(reflection(10, 63, 7), reflection(11, 0, 7));
+}
+
+/// Of equal times and orders the lower ticket comes first.
+#[test]
+fn equal_times_and_orders_by_ticket() {
+    let [first, second] = [2, 1].map(|path| reflection(10, 1, path));
     let both = fresh()
-        .begin(put(0, 2))
-        .end(0, 5, "stored 1")
-        .begin(put(0, 1))
-        .end(0, 6, "stored 2");
-    accept(both.clone().taken(1, 8, "took 10 2 1 1864135"));
-    refuse_at_the_end(both.taken(1, 8, "took 10 1 1 1864135"));
+        .stored_arrival(0, first, 5)
+        .stored_arrival(0, second, 6);
+    accept(both.clone().taken(1, 8, &took_reflection(first)));
+    refuse_at_the_end(both.taken(1, 8, &took_reflection(second)));
     // The ticket is of the start, even if the other put ended first.
     let crossed = fresh()
-        .begin(put(0, 2))
-        .begin(put(1, 1))
-        .end(1, 5, "stored 2")
+        .begin(put_arrival(0, first))
+        .stored_arrival(1, second, 5)
         .end(0, 5, "stored 1");
-    accept(crossed.clone().taken(1, 8, "took 10 2 1 1864135"));
-    refuse_at_the_end(crossed.taken(1, 8, "took 10 1 1 1864135"));
+    accept(crossed.clone().taken(1, 8, &took_reflection(first)));
+    refuse_at_the_end(crossed.taken(1, 8, &took_reflection(second)));
+}
+
+/// Three of one time, all put when the takes begin: only one way is right.
+#[test]
+fn orders_and_tickets_in_one_list() {
+    let [a, b, c] = [(1, 1), (0, 2), (1, 3)].map(|(order, path)| reflection(10, order, path));
+    let taken = |arrivals: [Arrival; 3]| {
+        let puts = fresh()
+            .stored_arrival(0, a, 5)
+            .stored_arrival(0, b, 6)
+            .stored_arrival(0, c, 7);
+        let take = |script: Script, arrival| script.taken(1, 8, &took_reflection(arrival));
+        arrivals.into_iter().fold(puts, take)
+    };
+    accept(taken([b, a, c]));
+    for other in [[a, b, c], [a, c, b], [b, c, a], [c, a, b], [c, b, a]] {
+        assert!(verdict(&taken(other)).is_err());
+    }
 }
 
 /// A queue would give these answers, but not in the order of time.
@@ -344,9 +385,9 @@ fn a_violation_can_be_read() {
 no order of a plain queue gives the answers of records 1 to 23
 (without the last of them there is one)
 calls:
-  1    worker 0   put at 10         records 2 to 7        stored 1
-  2    worker 1   take              records 8 to 23       took 10 7 1 1864135
-  3    worker 2   take              records 9 to 16       took 10 7 1 1864135
+  1    worker 0   put at 10, order 1          records 2 to 7        stored 1
+  2    worker 1   take                        records 8 to 23       took 10 7 1 1864135
+  3    worker 2   take                        records 9 to 16       took 10 7 1 1864135
 records:
   1             OP 4 8 1 100              open
   2             PU 0 10 7 1 3             begun 1

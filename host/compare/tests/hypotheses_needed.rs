@@ -8,14 +8,14 @@ use compare::taken_list;
 use schedule::script::took;
 use schedule::{orders, Script};
 use second::layout::{field, head_at, node_at};
-use second::{word, Program, Record};
+use second::{word, Arrival, Program, Record};
 
 /// A call by the records of its start and end.
 #[derive(Clone, Copy)]
 struct Call<'a> {
     worker: u8,
     /// None for a take.
-    time: Option<u32>,
+    put: Option<Arrival>,
     start: usize,
     end: Option<usize>,
     answer: &'a str,
@@ -35,15 +35,15 @@ fn calls(script: &Script) -> Vec<Call<'_>> {
     }
     let none = Call {
         worker: 0,
-        time: None,
+        put: None,
         start: 0,
         end: None,
         answer: "",
     };
     let mut calls = vec![none];
     for (at, (record, line)) in script.records().iter().zip(script.lines()).enumerate() {
-        let (worker, time) = match *record {
-            Record::EnqueueStart { worker, arrival } => (worker, Some(arrival.time)),
+        let (worker, put) = match *record {
+            Record::EnqueueStart { worker, arrival } => (worker, Some(arrival)),
             Record::DequeueStart { worker } => (worker, None),
             Record::Step { worker } if line != "on" => {
                 let ended = calls.iter_mut().rfind(|call| call.worker == worker);
@@ -55,7 +55,7 @@ fn calls(script: &Script) -> Vec<Call<'_>> {
         };
         calls.push(Call {
             worker,
-            time,
+            put,
             start: at,
             ..none
         });
@@ -66,9 +66,9 @@ fn calls(script: &Script) -> Vec<Call<'_>> {
 /// What a plain queue answers to these calls, one after the other.
 fn queue(calls: &[Call<'_>], tickets: &[usize]) -> Vec<String> {
     let mut keys = BTreeSet::new();
-    let mut answer = |ticket: usize| match calls[ticket].time {
-        Some(time) => {
-            keys.insert((time, ticket));
+    let mut answer = |ticket: usize| match calls[ticket].put {
+        Some(Arrival { time, order, .. }) => {
+            keys.insert((time, order, ticket));
             format!("stored {ticket}")
         }
         None => match keys.iter().next().copied() {
@@ -145,7 +145,8 @@ fn what_is_put_during_a_take_may_be_passed_over() {
     let script = orders::take_set_into_the_past();
     let calls = calls(&script);
     let (x, d, taker) = (calls[3], calls[2], calls[4]);
-    assert!(x.time < calls[1].time && d.answer == took(7));
+    let time = |call: Call<'_>| call.put.map(|arrival| arrival.time);
+    assert!(time(x) < time(calls[1]) && d.answer == took(7));
     assert!(!x.ended_before(d.start) && x.ended_before(d.end.unwrap()));
     assert!(taker.answer == took(3) && d.ended_before(taker.start));
 }

@@ -99,6 +99,11 @@ fn a_broken_promise_is_named() {
             "promise 2 (nothing earlier is passed over) is broken",
         ),
         ("PassNextAfterLoss", "promise 4 (two takes) is broken"),
+        (
+            "OrderIgnored",
+            "wrong: by hand, orders put in the wrong order\n",
+        ),
+        ("OrderIgnored", "promise 4 (two takes) is broken"),
         ("StoredUnlinked", "promise 3 (empty means empty) is broken"),
         (
             "OtherPath",
@@ -106,7 +111,7 @@ fn a_broken_promise_is_named() {
         ),
         (
             "OtherPath",
-            "calls:\n  2    worker 0   take              records 8 to 15",
+            "calls:\n  2    worker 0   take                        records 8 to 15",
         ),
     ] {
         let (status, text) = compare(Some(mistake), &FEW);

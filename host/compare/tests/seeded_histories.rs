@@ -3,6 +3,7 @@
 
 use compare::linearizability::check;
 use compare::seeded;
+use schedule::decided::Decided;
 use schedule::script::shape;
 use schedule::{Options, Random};
 
@@ -48,6 +49,20 @@ impl Sample {
     fn words(&self, place: usize) -> Vec<&str> {
         self.lines[place].split(' ').collect()
     }
+}
+
+/// In many histories a take is decided by a reflection order against the tickets, and in
+/// many by the ticket.
+#[test]
+fn many_histories_have_ties() {
+    let (mut by_order, mut by_ticket) = (0, 0);
+    for seed in 0..800 {
+        let decided = Decided::of(&Sample::of(seed).bytes);
+        by_order += usize::from(decided.by_order > 0);
+        by_ticket += usize::from(decided.by_ticket > 0);
+    }
+    println!("{by_order} by order, {by_ticket} by ticket");
+    assert!(by_order > 200 && by_ticket > 200, "{by_order} {by_ticket}");
 }
 
 #[test]
@@ -119,11 +134,11 @@ fn wrong_numbers_are_noticed() {
     }
 }
 
-/// Of takes alone, one after the other, the first answers the lower time:
-/// exchanged, they are wrong. Of all neighbours, most are.
+/// Of takes alone, one after the other, the first answers the lower key:
+/// exchanged, they are wrong, also of equal times. Of all neighbours, most are.
 #[test]
 fn exchanged_arrivals_are_noticed() {
-    let (mut altered, mut noticed, mut alone) = (0, 0, 0);
+    let (mut altered, mut noticed, mut alone, mut ties) = (0, 0, 0, 0);
     for sample in drained() {
         for pair in sample.places("took").windows(2) {
             let (first, second) = (pair[0], pair[1]);
@@ -135,14 +150,15 @@ fn exchanged_arrivals_are_noticed() {
             let is_noticed = !other.is_accepted();
             altered += 1;
             noticed += usize::from(is_noticed);
-            let differ = sample.words(first)[1] != sample.words(second)[1];
-            if differ && are_alone(&sample, first, second) {
+            if are_alone(&sample, first, second) {
                 assert!(is_noticed);
                 alone += 1;
+                ties += usize::from(sample.words(first)[1] == sample.words(second)[1]);
             }
         }
     }
-    assert!(alone > 50, "{alone}");
+    println!("{alone} alone, {ties} of them ties");
+    assert!(alone > 50 && ties > 50, "{alone}, {ties}");
     assert!(2 * noticed > altered, "{noticed} of {altered}");
 }
 

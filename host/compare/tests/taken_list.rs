@@ -2,7 +2,7 @@
 //! boundary.
 
 use compare::taken_list::{check, Promise, Violation};
-use schedule::script::{arrival, put_arrival, took};
+use schedule::script::{put_arrival, reflection, took, took_reflection};
 use schedule::{by_hand, orders, Script};
 use second::Arrival;
 
@@ -217,28 +217,40 @@ fn the_put_ends_just_before_the_first_of_two_takes() {
     accept(takes(nearly.take(1).end(0, 1, "stored 2")));
 }
 
-/// Of equal times the lower ticket comes first, also if its put ended last.
-#[test]
-fn equal_times_by_ticket() {
-    let crossed = fresh()
-        .begin(put_of_path(0, 2))
-        .begin(put_of_path(1, 1))
+/// Put 1 begins first and ends last; a take then gets one of the two.
+fn crossed(puts: [Arrival; 2], taken: Arrival) -> Script {
+    fresh()
+        .begin(put_arrival(0, puts[0]))
+        .begin(put_arrival(1, puts[1]))
         .end(1, 5, "stored 2")
-        .end(0, 5, "stored 1");
-    accept(crossed.clone().taken(2, 7, "took 10 2 1 1864135"));
-    refuse(
-        crossed.taken(2, 7, "took 10 1 1 1864135"),
-        Promise::NothingPassedOver,
-        &[1, 3],
-    );
+        .end(0, 5, "stored 1")
+        .taken(2, 7, &took_reflection(taken))
 }
 
-fn put_of_path(worker: u8, path: u32) -> second::Record {
-    let arrival = Arrival {
-        path,
-        ..arrival(10)
-    };
-    put_arrival(worker, arrival)
+/// Of equal times the lower reflection order comes first, also if its put began last; and
+/// a lower order does not pass an earlier time.
+#[test]
+fn equal_times_by_order() {
+    for [first, second] in [
+        [reflection(10, 0, 7), reflection(10, 1, 7)],
+        [reflection(10, 62, 1), reflection(10, 63, 0)],
+        [reflection(10, 63, 7), reflection(11, 0, 7)],
+    ] {
+        for (puts, passed_over) in [([first, second], 1), ([second, first], 2)] {
+            accept(crossed(puts, first));
+            let wrong = crossed(puts, second);
+            refuse(wrong, Promise::NothingPassedOver, &[passed_over, 3]);
+        }
+    }
+}
+
+/// Of equal times and orders the lower ticket comes first, also if its put ended last.
+#[test]
+fn equal_times_and_orders_by_ticket() {
+    let puts = [2, 1].map(|path| reflection(10, 1, path));
+    accept(crossed(puts, puts[0]));
+    let wrong = crossed(puts, puts[1]);
+    refuse(wrong, Promise::NothingPassedOver, &[1, 3]);
 }
 
 #[test]
@@ -349,17 +361,17 @@ fn alike_arrivals_are_answered_in_the_order_they_are_due() {
 #[test]
 fn alike_arrivals_have_any_order() {
     let alike = fresh().stored(0, 10, 5).stored(0, 10, 5);
-    let other = alike.clone().begin(put_of_path(1, 1)).end(1, 5, "stored 3");
+    let path_1 = reflection(10, 1, 1);
+    let other = alike.clone().stored_arrival(1, path_1, 5);
     accept(other.clone().taken(2, 7, &took(10)));
     refuse(
-        other.taken(2, 7, "took 10 1 1 1864135"),
+        other.taken(2, 7, &took_reflection(path_1)),
         Promise::NothingPassedOver,
         &[1, 4],
     );
     let between = fresh()
         .stored(0, 10, 5)
-        .begin(put_of_path(1, 1))
-        .end(1, 5, "stored 2")
+        .stored_arrival(1, path_1, 5)
         .stored(0, 10, 5);
     accept(between.taken(2, 7, &took(10)));
 }
@@ -420,15 +432,15 @@ fn a_violation_can_be_read() {
 promise 2 (nothing earlier is passed over) is broken at record 21
   put 2 had ended before take 3 started, which answered a later arrival; when it ended, no take had answered or could hold put 2, which take 4 answered
 calls:
-  2    worker 0   put at 10         records 8 to 13       stored 2
-  3    worker 1   take              records 14 to 21      took 20 7 1 1864135
-  4    worker 2   take              records 22 to 29      took 10 7 1 1864135
+  2    worker 0   put at 10, order 1          records 8 to 13       stored 2
+  3    worker 1   take                        records 14 to 21      took 20 7 1 1864135
+  4    worker 2   take                        records 22 to 29      took 10 7 1 1864135
 promise 4 (two takes) is broken at record 29
   put 2 had ended before take 3 started, and take 3 before take 4; take 4 answered put 2, and take 3 a later arrival
 calls:
-  2    worker 0   put at 10         records 8 to 13       stored 2
-  3    worker 1   take              records 14 to 21      took 20 7 1 1864135
-  4    worker 2   take              records 22 to 29      took 10 7 1 1864135
+  2    worker 0   put at 10, order 1          records 8 to 13       stored 2
+  3    worker 1   take                        records 14 to 21      took 20 7 1 1864135
+  4    worker 2   take                        records 22 to 29      took 10 7 1 1864135
 ";
     assert_eq!(text, expected);
 }

@@ -14,12 +14,13 @@ pub fn help() -> String {
 usage: hall [options]
 
 Traces the echoes of a shoebox hall with several workers that share one pool of
-arrivals: each takes the earliest, mirrors its source once more, and puts the
-reflections back. Prints what was taken (time in samples at 48 kHz, path, order,
-distance in metres, energy), an account, and the echogram, the energies added up by
-time, with the level of each slot in decibels. At the end come early decay and T20, in
-slots and milliseconds: by first crossings, in whole slots; no line is fitted, where
-ISO 3382 fits one. The same options print the same.
+arrivals: each takes the earliest, at equal times the one with the fewest reflections,
+mirrors its source once more, and puts the reflections back. Prints what was taken
+(time in samples at 48 kHz, path, order, distance in metres, energy), an account, and
+the echogram, the energies added up by time, with the level of each slot in decibels.
+At the end come early decay and T20, in slots and milliseconds: by first crossings, in
+whole slots; no line is fitted, where ISO 3382 fits one. The same options print the
+same.
 
 options:
   --seed N       the workers' starts and turns come in a random order, made from

@@ -10,12 +10,14 @@ use crate::trace::Trace;
 /// The taken list, the account of the run, and the echogram.
 pub fn report(shape: Shape, trace: &Trace) -> String {
     let mut text = String::from("   time   path order distance    energy\n");
-    let mut latest = 0;
+    let mut latest = (0, 0);
     let mut overtaken = 0;
     for arrival in trace.taken() {
-        let is_overtaken = arrival.time < latest;
+        // What the list shows of a key, which has the ticket, too.
+        let key = (arrival.time, arrival.order);
+        let is_overtaken = key < latest;
         overtaken += usize::from(is_overtaken);
-        latest = latest.max(arrival.time);
+        latest = latest.max(key);
         push_arrival(&mut text, arrival, is_overtaken);
     }
     push_account(&mut text, shape, trace, overtaken);

@@ -230,5 +230,6 @@ fn words_that_make_no_sense() {
     assert!(help.contains("comes after 40 slots is refused"));
     assert!(help.contains("--dealer       instead of a random order, a dealer:"));
     assert!(help.contains("--curve FILE   writes the decay curve"));
-    assert!(help.contains("no line is fitted, where\nISO 3382 fits one."));
+    assert!(help.contains("no line is fitted, where ISO 3382 fits one."));
+    assert!(help.contains("at equal times the one with the fewest reflections,"));
 }

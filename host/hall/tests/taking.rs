@@ -1,8 +1,12 @@
 //! What the workers take, under many orders of turns.
 
+mod common;
+
 use std::collections::HashMap;
 use std::iter::successors;
 
+use common::runs::{halls_with_equal_times, interleavings, put_of, run_in, runs_in, taken_list};
+use common::runs::{Listed, MIDDLE};
 use hall::{trace, Arguments, Call, Event, Hall, Image, Interleaving, Trace};
 use order::{find_order, Answer, End, Kind};
 use wubraken::{Arrival, Shape, Taken};
@@ -11,34 +15,14 @@ fn run(arguments: Arguments) -> Trace {
     trace(&arguments.job()).unwrap()
 }
 
-/// Milliseconds: all but the tail is empty, some is behind, nothing is.
-const SPANS: [u64; 3] = [1, 100, 1_000];
-
-/// At random, and by a dealer.
-fn interleavings(seeds: u64) -> impl Iterator<Item = Interleaving> {
-    (0..seeds)
-        .map(Interleaving::AtRandom)
-        .chain([Interleaving::Dealt])
+fn runs() -> Vec<Trace> {
+    runs_in(Arguments::default().job().hall)
 }
 
-/// Few and many workers and nodes, with several orders of turns and several spans.
-fn runs() -> Vec<Trace> {
-    let mut runs = Vec::new();
-    for workers in [1, 2, 3, 8, 64] {
-        for nodes in [1, 5, 12, 500] {
-            for (interleaving, span) in interleavings(6).zip(SPANS.into_iter().cycle()) {
-                runs.push(run(Arguments {
-                    interleaving,
-                    workers,
-                    nodes,
-                    order: 3,
-                    span,
-                    ..Arguments::default()
-                }));
-            }
-        }
-    }
-    runs
+/// In halls with arrivals of equal time, too.
+fn all_runs() -> impl Iterator<Item = Trace> {
+    let others = halls_with_equal_times().into_iter().flat_map(runs_in);
+    runs().into_iter().chain(others)
 }
 
 fn sorted<A: Into<Arrival>>(arrivals: Vec<A>) -> Vec<Arrival> {
@@ -85,7 +69,7 @@ fn all_but_what_is_too_far_is_taken() {
 }
 
 #[test]
-fn one_worker_takes_in_the_order_of_time() {
+fn one_worker_takes_in_the_order_of_keys() {
     for (order, span) in [(0, 1), (2, 1), (2, 100), (6, 100), (6, 1_000)] {
         let trace = run(Arguments {
             workers: 1,
@@ -95,8 +79,7 @@ fn one_worker_takes_in_the_order_of_time() {
             ..Arguments::default()
         });
         assert_eq!(trace.no_node, 0);
-        let times: Vec<u32> = trace.taken().iter().map(|taken| taken.time).collect();
-        assert!(times.windows(2).all(|pair| pair[0] <= pair[1]));
+        assert!(overtaken(&trace).is_empty());
     }
 }
 
@@ -160,42 +143,21 @@ fn what_is_too_far_does_not_end_a_dealt_run() {
     }
 }
 
-/// An arrival that was taken after a later one.
+/// An arrival x that was taken after a later one, y.
 struct Overtaken<'a> {
-    x: Taken,
-    put: &'a Call,
-    take: &'a Call,
-    /// The take of the later one, y.
-    take_of_y: &'a Call,
+    x: Listed<'a>,
+    y: Listed<'a>,
 }
 
-/// All pairs of x and y; the report has a star at each x.
+/// All pairs. The report has a star at each x that has another time or order than its y.
 fn overtaken(trace: &Trace) -> Vec<Overtaken<'_>> {
-    let takes: Vec<(Taken, &Call)> = trace.calls.iter().filter_map(took).collect();
+    let list = taken_list(trace);
     let mut overtaken = Vec::new();
-    for (place, &(x, take)) in takes.iter().enumerate() {
-        for &(_, take_of_y) in takes[..place].iter().filter(|(y, _)| x.time < y.time) {
-            overtaken.push(Overtaken {
-                x,
-                put: put_of(trace, x.path),
-                take,
-                take_of_y,
-            });
-        }
+    for (place, &x) in list.iter().enumerate() {
+        let later = list[..place].iter().filter(|y| x.key() < y.key());
+        overtaken.extend(later.map(|&y| Overtaken { x, y }));
     }
     overtaken
-}
-
-fn took(call: &Call) -> Option<(Taken, &Call)> {
-    match call.event {
-        Event::Took(taken) => Some((taken, call)),
-        _ => None,
-    }
-}
-
-fn put_of(trace: &Trace, path: u32) -> &Call {
-    let is_it = |call: &&Call| matches!(call.event, Event::Put(put) if put.path == path);
-    trace.calls.iter().find(is_it).unwrap()
 }
 
 fn take_of(trace: &Trace, path: u32) -> &Call {
@@ -208,17 +170,11 @@ fn take_of(trace: &Trace, path: u32) -> &Call {
 #[test]
 fn why_an_arrival_is_taken_after_a_later_one() {
     let (mut put_late, mut in_hand) = (0, 0);
-    for trace in runs() {
-        for overtaken in overtaken(&trace) {
-            let Overtaken {
-                x,
-                put,
-                take,
-                take_of_y,
-            } = overtaken;
-            let is_put_late = put.end > take_of_y.start;
-            let is_in_hand = take.start < take_of_y.end && take_of_y.end < take.end;
-            assert!(is_put_late || is_in_hand, "path {}", x.path);
+    for trace in all_runs() {
+        for Overtaken { x, y } in overtaken(&trace) {
+            let is_put_late = x.put.end > y.take.start;
+            let is_in_hand = x.take.start < y.take.end && y.take.end < x.take.end;
+            assert!(is_put_late || is_in_hand, "path {}", x.arrival.path);
             put_late += usize::from(!is_in_hand);
             in_hand += usize::from(!is_put_late);
         }
@@ -232,18 +188,18 @@ fn why_an_arrival_is_taken_after_a_later_one() {
 /// was in progress.
 #[test]
 fn it_or_what_it_was_reflected_from_was_in_a_workers_hand() {
-    for trace in runs() {
+    for trace in all_runs() {
         let reflected: HashMap<u32, u32> = trace.taken().iter().flat_map(reflections).collect();
         let parent = |path: &u32| reflected.get(path).copied();
-        for Overtaken { x, take_of_y, .. } in overtaken(&trace) {
-            let overlaps = |from, to| from < take_of_y.end && take_of_y.start < to;
+        for Overtaken { x, y } in overtaken(&trace) {
+            let overlaps = |from, to| from < y.take.end && y.take.start < to;
             let was_in_hand = |path: u32| {
                 let made = parent(&path).map_or(0, |parent| take_of(&trace, parent).end);
                 let take = take_of(&trace, path);
                 overlaps(made, put_of(&trace, path).end) || overlaps(take.start, take.end)
             };
-            let mut line = successors(Some(x.path), parent);
-            assert!(line.any(was_in_hand), "path {}", x.path);
+            let mut line = successors(Some(x.arrival.path), parent);
+            assert!(line.any(was_in_hand), "path {}", x.arrival.path);
         }
     }
 }
@@ -277,15 +233,16 @@ fn the_energy_is_of_the_distance() {
 /// The calls have an order in which a plain queue gives the same answers.
 #[test]
 fn there_is_a_sequential_order() {
-    for workers in [1, 2, 3] {
-        for nodes in [3, 12] {
+    for hall in [Arguments::default().job().hall, MIDDLE] {
+        for (workers, nodes) in [(1, 3), (1, 12), (2, 3), (2, 12), (3, 3), (3, 12)] {
             for interleaving in interleavings(20) {
-                let trace = run(Arguments {
+                let arguments = Arguments {
                     interleaving,
                     workers,
                     nodes,
                     ..Arguments::default()
-                });
+                };
+                let trace = run_in(hall, arguments);
                 let mut calls: Vec<_> = trace.calls.iter().map(seen_from_outside).collect();
                 calls.sort_by_key(|call| call.start);
                 assert!(find_order(&calls).is_some(), "{interleaving:?}");
@@ -297,7 +254,11 @@ fn there_is_a_sequential_order() {
 fn seen_from_outside(call: &Call) -> order::Call<Arrival> {
     let (kind, answer) = match call.event {
         Event::Put(arrival) => (
-            Kind::Put(arrival.time, arrival),
+            Kind::Put {
+                time: arrival.time,
+                order: arrival.order,
+                shown: arrival,
+            },
             Answer::Stored(call.ticket),
         ),
         Event::Took(taken) => (Kind::Take, Answer::Took(taken.into())),

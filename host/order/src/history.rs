@@ -20,9 +20,17 @@ pub struct Call<T> {
 /// What a call is.
 #[derive(Clone, Copy, Debug, PartialEq, Eq)]
 pub enum Kind<T> {
-    /// Of an arrival at a time, and what a take shows of it.
-    Put(u32, T),
-    /// Of the earliest arrival.
+    /// Of an arrival.
+    Put {
+        /// Its time. The lowest is taken first.
+        time: u32,
+        /// Its reflection order. Of equal times the lowest is taken first, and of equal
+        /// orders that of the lowest ticket.
+        order: u32,
+        /// What a take shows of it.
+        shown: T,
+    },
+    /// Of the first arrival by time, order and ticket.
     Take,
 }
 

@@ -29,7 +29,7 @@ pub fn find_order<T: Copy + PartialEq>(calls: &[Call<T>]) -> Option<Vec<usize>> 
 /// Such a put stands in no order.
 fn is_put_with_another_answer<T: Copy + PartialEq>(call: &Call<T>) -> bool {
     let stored = Answer::Stored(call.ticket);
-    matches!(call.kind, Kind::Put(..)) && call.end.map_or(false, |end| end.answer != stored)
+    matches!(call.kind, Kind::Put { .. }) && call.end.map_or(false, |end| end.answer != stored)
 }
 
 #[derive(Clone, PartialEq, Eq, Hash)]
@@ -75,14 +75,14 @@ impl<'a, T: Copy + PartialEq> Search<'a, T> {
     fn new(calls: &'a [Call<T>]) -> Self {
         let mut keys = Vec::new();
         for (place, call) in calls.iter().enumerate() {
-            if let Kind::Put(time, shown) = call.kind {
-                keys.push((time, call.ticket, place, shown));
+            if let Kind::Put { time, order, shown } = call.kind {
+                keys.push(((time, order, call.ticket), place, shown));
             }
         }
-        keys.sort_unstable_by_key(|&(time, ticket, ..)| (time, ticket));
+        keys.sort_unstable_by_key(|&(key, ..)| key);
         let puts: Vec<_> = keys
             .iter()
-            .map(|&(.., place, taken)| (place, taken))
+            .map(|&(_, place, taken)| (place, taken))
             .collect();
         let mut rank = vec![0; calls.len()];
         for (nth, &(place, _)) in puts.iter().enumerate() {
@@ -175,8 +175,8 @@ impl<'a, T: Copy + PartialEq> Search<'a, T> {
             let call = &self.calls[place];
             match (call.kind, call.end) {
                 // A put that can wait no longer; the others wait.
-                (Kind::Put(..), Some(_)) if nth == 0 => steps.push(alone),
-                (Kind::Put(..), _) => {}
+                (Kind::Put { .. }, Some(_)) if nth == 0 => steps.push(alone),
+                (Kind::Put { .. }, _) => {}
                 (Kind::Take, Some(end)) => {
                     if end.answer == self.answer(lowest) {
                         steps.push(alone);
@@ -215,7 +215,7 @@ impl<'a, T: Copy + PartialEq> Search<'a, T> {
     ) -> impl Iterator<Item = usize> + 'b {
         open.iter().copied().filter(move |&place| {
             let rank = self.rank[place];
-            matches!(self.calls[place].kind, Kind::Put(..))
+            matches!(self.calls[place].kind, Kind::Put { .. })
                 && lowest.map_or(true, |lowest| rank < lowest)
                 && self.answer(Some(rank)) == answer
         })
@@ -226,7 +226,7 @@ impl<'a, T: Copy + PartialEq> Search<'a, T> {
         for place in step.calls() {
             state.ordered.insert(place);
             match (self.calls[place].kind, state.queue.first()) {
-                (Kind::Put(..), _) => state.queue.insert(self.rank[place]),
+                (Kind::Put { .. }, _) => state.queue.insert(self.rank[place]),
                 (Kind::Take, Some(lowest)) => state.queue.remove(lowest),
                 (Kind::Take, None) => {}
             }

@@ -1,8 +1,9 @@
-//! The worked example and the cases to check by hand, as scripts.
+//! The worked example and the cases to check by hand, as scripts; ties are among them.
 
 use second::{Arrival, Record};
 
 use crate::script::{arrival, put, put_arrival, take, took, Script};
+use crate::ties;
 
 /// The worked example: the bytes of its turn file and what they print.
 pub const WORKED_EXAMPLE: (&[u8], &str) = (
@@ -36,6 +37,7 @@ pub fn cases() -> Vec<(String, Script)> {
         ),
     ]
     .into_iter()
+    .chain(ties::cases())
     .map(|(name, script)| (name.to_string(), script))
     .collect::<Vec<_>>();
     for (distance, energy) in ENERGIES {

@@ -177,11 +177,15 @@ impl Generator {
             .any(|node| Reclamation::from_word(node[field::RECLAMATION]).is_free(oldest))
     }
 
+    /// Its path often tells it from others of its time and order.
     fn arrival(&mut self, time: u32) -> Arrival {
+        let any_path = self.random.between(0, Arrival::MAX_PATH);
         Arrival {
             time,
-            path: self.random.choose(&[0, 1, 7, Arrival::MAX_PATH]),
-            order: self.random.between(0, Arrival::MAX_ORDER),
+            path: self
+                .random
+                .choose(&[0, 7, Arrival::MAX_PATH, any_path, any_path, any_path]),
+            order: self.phase.order(&mut self.random),
             distance: self.random.between(1, Arrival::MAX_DISTANCE),
         }
     }

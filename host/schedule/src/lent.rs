@@ -164,6 +164,10 @@ impl Memory {
                 let epoch = word::current_epoch(value);
                 word::current(random.below(self.shape.buckets).into(), epoch)
             }
+            // Few of them, so that keys often differ only in what comes behind.
+            Field::Node(_, field::TIME | field::ORDER) if !random.one_in(3) => {
+                random.below(2).into()
+            }
             _ => value,
         }
     }

@@ -3,13 +3,16 @@
 #![forbid(unsafe_code)]
 
 pub mod by_hand;
+pub mod decided;
 pub mod distances;
 pub mod echograms;
 pub mod lent;
 pub mod orders;
+pub mod reflections;
 pub mod rows;
 pub mod script;
 pub mod stored;
+pub mod ties;
 pub mod times;
 
 mod damage;

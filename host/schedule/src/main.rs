@@ -16,9 +16,10 @@ always give the same bytes; another SEED (0 to 2^64 - 1) gives other ones.
 Schedules have small shapes with few nodes and sometimes large ones, several
 openings, bursts and long pauses of single workers inside a call, workers
 gathered before the same stage, times of all 32 bits (equal and close ones, at
-the borders of the last bucket and far behind them), and records that are
-refused by 1, 2, 4, 5, 9, 10 and 12. (3 and 11 are out of a turn file's reach;
-7 and 8 need --damaged; 6 is not given since Q-1.)
+the borders of the last bucket and far behind them), few reflection orders or
+all, so that equal times have equal and other ones, and records that are refused
+by 1, 2, 4, 5, 9, 10 and 12. (3 and 11 are out of a turn file's reach; 7 and 8
+need --damaged; 6 is not given since Q-1.)
 
 options:
   --damaged          flips fields now and then, and mostly ends the run by 7 or 8:

@@ -3,7 +3,7 @@
 
 use second::Arrival;
 
-use crate::script::{arrival, put, put_arrival, took, Script};
+use crate::script::{arrival, put, put_arrival, reflection, took, Script};
 
 /// Every order with its right ending, by name.
 pub fn cases() -> Vec<(&'static str, Script)> {
@@ -15,6 +15,7 @@ pub fn cases() -> Vec<(&'static str, Script)> {
         ("linked below current", stored_after_lowering()),
         ("a stale advance", stale_advance_fails()),
         ("a take in the tail", take_in_the_tail()),
+        ("a tie", tie()),
     ]
 }
 
@@ -158,5 +159,27 @@ pub fn take_in_the_tail() -> Script {
         .taken(0, 7, "took 5 7 1 16")
         .taken(0, 10, "took 1000 7 1 16777216")
         .taken(0, 7, "took 4294967295 7 1 1864135")
+        .taken(0, 3, "empty")
+}
+
+/// All at time 5: worker 1's take has come to order 1; order 0 is stored in front of it, and the
+/// take answers what it came to. Orders 63, 1 and 1 are stored, and order 0 is taken. Then one of
+/// order 0 is stored at time 6: it comes out last.
+pub fn tie() -> Script {
+    Script::open(2, 4, 1, 10)
+        .stored_arrival(0, reflection(5, 1, 21), 5)
+        .take(1)
+        .turns(1, 3)
+        .stored_arrival(0, reflection(5, 0, 23), 6)
+        .end(1, 5, "took 5 21 1 1864135")
+        .stored_arrival(0, reflection(5, 63, 24), 6)
+        .stored_arrival(0, reflection(5, 1, 26), 7)
+        .stored_arrival(0, reflection(5, 1, 25), 8)
+        .taken(0, 8, "took 5 23 0 1864135")
+        .stored_arrival(0, reflection(6, 0, 28), 8)
+        .taken(0, 8, "took 5 26 1 1864135")
+        .taken(0, 8, "took 5 25 1 1864135")
+        .taken(0, 8, "took 5 24 63 1864135")
+        .taken(0, 7, "took 6 28 0 1864135")
         .taken(0, 3, "empty")
 }

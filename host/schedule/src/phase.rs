@@ -3,7 +3,7 @@
 use random::Random;
 use second::{stage, Shape, Worker};
 
-use crate::times;
+use crate::{reflections, times};
 
 /// How the next worker is chosen.
 enum Pattern {
@@ -25,7 +25,8 @@ enum Times {
     /// In all buckets, with no tail.
     Within,
     Any,
-    Same(u32),
+    /// One of these.
+    Few(Vec<u32>),
     /// A few neighbouring times.
     Close(u32),
     /// First and last times of buckets, of the last one with its tail or without.
@@ -40,6 +41,8 @@ pub struct Phase {
     left: u32,
     pattern: Pattern,
     times: Times,
+    /// One of these is the reflection order of each put.
+    reflection_orders: Vec<u32>,
     /// Of ten starts, how many are puts.
     pub enqueues: u32,
     /// A busy worker is frozen once in so many records.
@@ -69,19 +72,20 @@ impl Phase {
             _ => Pattern::RoundRobin(0),
         };
         let time = times::any(random, shape);
-        let times = match random.below(10) {
-            0 => Times::Within,
-            1..=3 => Times::Any,
-            4 => Times::Same(time),
-            5 => Times::Close(time),
-            6 => Times::Edges,
-            7 => Times::Borders,
+        let times = match random.below(15) {
+            0 | 1 => Times::Within,
+            2 | 3 => Times::Any,
+            4..=8 => Times::Few(times::few(random, shape)),
+            9 | 10 => Times::Close(time),
+            11 => Times::Edges,
+            12 => Times::Borders,
             _ => Times::Falling(time),
         };
         Self {
             left: random.length(9),
             pattern,
             times,
+            reflection_orders: reflections::reflection_orders(random),
             enqueues: random.choose(&[3, 5, 5, 6, 9]),
             freezes: random.choose(&[16, 64, 256, 1_000]),
             refusals: random.choose(&[10, 50, 200]),
@@ -142,7 +146,7 @@ impl Phase {
         match &mut self.times {
             Times::Within => times::within(random, shape),
             Times::Any => times::any(random, shape),
-            Times::Same(time) => *time,
+            Times::Few(times) => random.choose(times),
             Times::Close(time) => time.saturating_add(random.below(3)),
             Times::Edges => edge(random, shape),
             Times::Borders => times::near_a_border(random, shape),
@@ -151,6 +155,11 @@ impl Phase {
                 *time
             }
         }
+    }
+
+    /// The reflection order of the next put.
+    pub fn order(&self, random: &mut Random) -> u32 {
+        random.choose(&self.reflection_orders)
     }
 }
 

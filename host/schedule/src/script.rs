@@ -86,7 +86,12 @@ impl Script {
 
     /// A whole put of so many turns.
     pub fn stored(self, worker: u8, time: u32, turns: usize) -> Self {
-        let begun = self.put(worker, time);
+        self.stored_arrival(worker, arrival(time), turns)
+    }
+
+    /// The same of any arrival.
+    pub fn stored_arrival(self, worker: u8, arrival: Arrival, turns: usize) -> Self {
+        let begun = self.begin(put_arrival(worker, arrival));
         let answer = format!("stored {}", begun.started);
         begun.end(worker, turns, &answer)
     }
@@ -129,9 +134,26 @@ pub fn arrival(time: u32) -> Arrival {
     }
 }
 
+/// The same of any reflection order. The path tells it from others of its time and order.
+pub fn reflection(time: u32, order: u32, path: u32) -> Arrival {
+    Arrival {
+        path,
+        order,
+        ..arrival(time)
+    }
+}
+
 /// The line of a take that answers [`arrival`].
 pub fn took(time: u32) -> String {
-    format!("took {time} 7 1 1864135")
+    took_reflection(arrival(time))
+}
+
+/// The line of a take that answers a [`reflection`].
+pub fn took_reflection(arrival: Arrival) -> String {
+    let Arrival {
+        time, path, order, ..
+    } = arrival;
+    format!("took {time} {path} {order} 1864135")
 }
 
 pub fn put(worker: u8, time: u32) -> Record {

@@ -13,6 +13,12 @@ pub fn any(random: &mut Random, shape: Shape) -> u32 {
     }
 }
 
+/// One to three times of any kind, to choose from: many will be equal.
+pub fn few(random: &mut Random, shape: Shape) -> Vec<u32> {
+    let count = random.between(1, 3);
+    (0..count).map(|_| any(random, shape)).collect()
+}
+
 /// A time within the span: all buckets alike.
 pub fn within(random: &mut Random, shape: Shape) -> u32 {
     random.below(shape.span())

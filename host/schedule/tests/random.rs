@@ -7,6 +7,7 @@ use std::collections::{BTreeMap, BTreeSet};
 use std::process::Command;
 
 use observer::{Before, Observer};
+use schedule::decided::Decided;
 use schedule::lent::Memory;
 use schedule::script::shape;
 use schedule::{Generator, Options};
@@ -156,9 +157,9 @@ fn is_in_use(program: &Program, time: u32) -> bool {
 
 /// Calls `see` with each put, the pool before it, and the answer.
 fn each_put(mut see: impl FnMut(&Program, u32, Answer)) {
-    for seed in 0..20 {
+    for seed in 0..100 {
         let mut generator = Generator::new(seed, Options::default());
-        for _ in 0..20_000 {
+        for _ in 0..4_000 {
             let record = generator.propose();
             let before = match record {
                 Record::EnqueueStart { .. } => Some(generator.program().clone()),
@@ -224,6 +225,28 @@ fn late_puts_are_refused_as_others() {
     let numbers: Vec<u8> = refused.keys().copied().collect();
     assert_eq!(numbers, [1, 4, 5, 9, 12]);
     assert!(refused.values().all(|&count| count >= 10), "{refused:?}");
+}
+
+/// Of the takes, some are decided by a reflection order against the tickets, and some by
+/// the ticket.
+#[test]
+fn ties_of_every_kind_are_taken() {
+    let mut decided = Decided::default();
+    for seed in 0..100 {
+        let mut input = Vec::new();
+        schedule::write(seed, 4_000, Options::default(), &mut input).unwrap();
+        decided += Decided::of(&input);
+    }
+    println!("{decided:?}");
+    let Decided {
+        takes,
+        by_order,
+        by_ticket,
+    } = decided;
+    assert!(
+        15 * by_order > takes && 15 * by_ticket > takes,
+        "{decided:?}"
+    );
 }
 
 /// Every outcome of every stage occurs, the failing swaps too.

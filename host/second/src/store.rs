@@ -134,9 +134,13 @@ impl<'a> Store<'a> {
         self.set_node(node, field::RECLAMATION, state.to_word());
     }
 
-    /// Keys order by time, then ticket.
-    pub fn key(&self, node: u64) -> (u64, u64) {
-        (self.node(node, field::TIME), self.node(node, field::TICKET))
+    /// Keys order by time, then reflection order, then ticket.
+    pub fn key(&self, node: u64) -> (u64, u64, u64) {
+        (
+            self.node(node, field::TIME),
+            self.node(node, field::ORDER),
+            self.node(node, field::TICKET),
+        )
     }
 
     pub fn swap_current(&mut self, seen: u64, new: u64) -> bool {

@@ -5,7 +5,7 @@ mod common;
 
 use common::noted::Noted;
 use common::*;
-use schedule::script::{put, shape, take, turn};
+use schedule::script::{put_arrival, reflection, shape, take, turn};
 use schedule::{Random, Script};
 use second::layout::{field, CURRENT, LAST_ALLOCATED, STARTED};
 use second::word::{self, MAX_COUNT};
@@ -419,7 +419,9 @@ fn dealt_calls_have_an_order() {
         for _ in 0..60 {
             for worker in 0..3 {
                 if noted.lent.stage(worker.into()) == 0 && random.one_in(3) {
-                    let put = put(worker, random.below(30));
+                    let any = random.below(30);
+                    let time = random.choose(&[5, 15, any]);
+                    let put = put_arrival(worker, reflection(time, random.below(2), 7));
                     // With no free node the start is refused.
                     let _ = noted.apply(random.choose(&[put, take(worker)]));
                 }

@@ -391,8 +391,10 @@ fn read_by(memory: &Memory, worker: usize, call: Call) -> Vec<Field> {
         (Call::Turn, 2) => vec![
             Field::Node(right, field::LINK),
             Field::Node(right, field::TIME),
+            Field::Node(right, field::ORDER),
             Field::Node(right, field::TICKET),
             Field::Node(own, field::TIME),
+            Field::Node(own, field::ORDER),
             Field::Node(own, field::TICKET),
         ],
         (Call::Turn, 3 | 5) => vec![left],

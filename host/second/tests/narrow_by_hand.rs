@@ -239,24 +239,32 @@ fn swaps_of_damaged_words_fail() {
 
 // Keys and epochs.
 
-/// Keys of any size are compared whole: time, then ticket.
+/// Keys of any size are compared whole: time, then reflection order, then ticket.
 #[test]
 fn keys_out_of_range() {
+    const MAX: u64 = u64::MAX;
     // The node's key, the own key, and whether the node is passed.
     for (node, own, passes) in [
-        ((1 << 32, 0), (7, 0), false),
-        ((u64::MAX, 0), (7, 0), false),
-        ((5, 0), (1 << 32, 0), true),
-        ((FAR, 0), (FAR + 1, 0), true),
-        ((FAR, 1), (FAR, FAR), true),
-        ((FAR, FAR), (FAR, 1), false),
-        ((u64::MAX, u64::MAX), (u64::MAX, u64::MAX), false),
+        ((1 << 32, 0, 0), (7, 0, 0), false),
+        ((MAX, 0, 0), (7, 0, 0), false),
+        ((5, 0, 0), (1 << 32, 0, 0), true),
+        ((FAR, 0, 0), (FAR + 1, 0, 0), true),
+        // No order makes up for a time, and no ticket for an order.
+        ((FAR, MAX, MAX), (FAR + 1, 0, 0), true),
+        ((FAR + 1, 0, 0), (FAR, MAX, MAX), false),
+        ((5, 64, MAX), (5, 65, 0), true),
+        ((5, 65, 0), (5, 64, MAX), false),
+        // Their low bits say the opposite.
+        ((5, 1, 0), (5, 1 << 8, 0), true),
+        ((5, 1 << 32, 0), (5, 63, 0), false),
+        ((5, FAR, 1), (5, FAR + 1, 1), true),
+        ((FAR, FAR, 1), (FAR, FAR, FAR), true),
+        ((FAR, FAR, FAR), (FAR, FAR, 1), false),
+        ((MAX, MAX, MAX), (MAX, MAX, MAX), false),
     ] {
         let mut lent = searching(7);
-        for (at, (time, ticket)) in [(0, node), (1, own)] {
-            *lent.node_word(at, field::TIME) = time;
-            *lent.node_word(at, field::TICKET) = ticket;
-        }
+        lent.set_key(0, node);
+        lent.set_key(1, own);
         *lent.head(1) = u64::MAX;
         assert_eq!(turn(&mut lent, 0), ON);
         let expected = if passes { (2, 4) } else { (0, 0) };
@@ -265,10 +273,10 @@ fn keys_out_of_range() {
         // Both are linked, in this order.
         assert_eq!(lent.narrow(0, Call::Turn, 9), stored(2));
         let expected = match passes {
-            true => [node.0, own.0],
-            false => [own.0, node.0],
+            true => [node, own],
+            false => [own, node],
         };
-        assert_eq!(lent.times(0), expected);
+        assert_eq!(lent.keys(0), expected);
     }
 }
 

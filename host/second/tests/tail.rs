@@ -212,7 +212,10 @@ fn one_bucket() {
         .refused(of(LAST, 5), 12);
     let mut lent = play(&script);
     let last = u64::from(LAST);
-    assert_eq!(lent.keys(0), [(0, 4), (1, 3), (last, 1), (last, 2)]);
+    assert_eq!(
+        lent.keys(0),
+        [(0, 1, 4), (1, 1, 3), (last, 1, 1), (last, 1, 2)]
+    );
     assert_eq!(lent.current(), (0, 4));
 
     // A search stops at the next node, if there is one: 8, 9, 10, 11, 1, 2, 3, 2.
@@ -415,7 +418,7 @@ fn a_whole_history() {
         .begin(put_arrival(1, at(LAST, 102)))
         .end(1, 5, "stored 2");
     let mut lent = play(&script);
-    assert_eq!(lent.keys(2), [(far, 1), (last, 2)]);
+    assert_eq!(lent.keys(2), [(far, 1, 1), (last, 1, 2)]);
 
     // Two more of that time. Ticket 3 is about to link its node 2 between the others
     // (1, 2, 2, 4); ticket 4 does so with node 3 (1, 2, 2, 4, 5, 6).
@@ -426,12 +429,15 @@ fn a_whole_history() {
         .end(2, 6, "stored 4");
     let mut lent = play(&script);
     assert_eq!(lent.stage(1), 5);
-    assert_eq!(lent.keys(2), [(far, 1), (far, 4), (last, 2)]);
+    assert_eq!(lent.keys(2), [(far, 1, 1), (far, 1, 4), (last, 1, 2)]);
 
     // 5 fails; 1, and 2 stops before ticket 4; 4, 5, 6.
     let script = script.turns(1, 1).end(1, 6, "stored 3");
     let mut lent = play(&script);
-    assert_eq!(lent.keys(2), [(far, 1), (far, 3), (far, 4), (last, 2)]);
+    assert_eq!(
+        lent.keys(2),
+        [(far, 1, 1), (far, 1, 3), (far, 1, 4), (last, 1, 2)]
+    );
     assert_eq!(lent.current(), (0, 0));
 
     // Ticket 5 takes: 8, 9, 12, 9, 12, 9, 10, and is about to mark node 0.
@@ -453,7 +459,7 @@ fn a_whole_history() {
         .end(0, 5, &took_path(FAR, 101))
         .taken(2, 7, &took_path(15, 106));
     let mut lent = play(&script);
-    assert_eq!(lent.keys(2), [(far, 3), (far, 4), (last, 2)]);
+    assert_eq!(lent.keys(2), [(far, 1, 3), (far, 1, 4), (last, 1, 2)]);
     assert_eq!(lent.current(), (1, 1));
     for (node, started) in [(0, 6), (4, 7)] {
         let word = *lent.node_word(node, field::RECLAMATION);
@@ -477,7 +483,7 @@ fn a_whole_history() {
             .end(0, 10, &took_path(FAR, 104))
             .end(1, 2, &took_path(FAR, 103));
     let mut lent = play(&script);
-    assert_eq!(lent.keys(2), [(last, 2)]);
+    assert_eq!(lent.keys(2), [(last, 1, 2)]);
 
     // Ticket 10 reads (2, 1) and pauses. 30, which is just past three widths, gets node 5
     // and epoch 1; 20, where the last bucket begins, node 0 and epoch 2.
@@ -490,7 +496,7 @@ fn a_whole_history() {
         .begin(put_arrival(2, at(20, 112)))
         .end(2, 6, "stored 12");
     let mut lent = play(&script);
-    assert_eq!(lent.keys(2), [(20, 12), (30, 11), (last, 2)]);
+    assert_eq!(lent.keys(2), [(20, 1, 12), (30, 1, 11), (last, 1, 2)]);
     assert_eq!((lent.workers[1].own, lent.workers[2].own), (5, 0));
     let epochs = [0, 5, 1].map(|node| *lent.node_word(node, field::EPOCH));
     assert_eq!(epochs, [2, 1, 0]);

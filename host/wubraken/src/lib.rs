@@ -53,6 +53,11 @@
 //! Times run to 2^32 − 1: the last bucket takes all that comes behind the others, too
 //! (`examples/tail.rs`).
 //!
+//! The earliest arrival is that of lowest time. At equal times it is that of the lowest
+//! order, the direct sound before a first reflection, and at equal orders the one whose put
+//! began first, which has the lower ticket (`examples/equal_times.rs`). What a take may pass
+//! over where calls overlap is in docs/READING.md.
+//!
 //! [`Pool::run_batch`] works through a batch, a piece of a turn file, in one call.
 //! Threads that share a pool lock it for a step, or for a call
 //! (`examples/threads.rs`).

@@ -256,9 +256,9 @@ impl<S: AsMut<[u64]>, T: AsMut<[Worker]>> Pool<S, T> {
         answer::put(&last)
     }
 
-    /// A worker takes the earliest arrival out: [`Pool::dequeue`], then
-    /// [`Pool::run`] by at most so many turns; `u64::MAX` is as good as no limit. A
-    /// limit that is used up leaves the call in progress.
+    /// A worker takes the earliest arrival out ([`Arrival`] says which that is):
+    /// [`Pool::dequeue`], then [`Pool::run`] by at most so many turns; `u64::MAX` is as
+    /// good as no limit. A limit that is used up leaves the call in progress.
     ///
     /// Workers whose calls overlap may get arrivals out of order: docs/READING.md
     /// says which, and what else the order of answers tells.

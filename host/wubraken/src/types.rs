@@ -64,6 +64,10 @@ impl Shape {
 }
 
 /// An arrival to put in. [`Arrival::check`] says what is outside its limits.
+///
+/// Of two in a pool the earlier has the lower time, at equal times the lower order, and at
+/// equal orders the lower ticket, that of the put that began first. Path and distance do
+/// not count.
 #[repr(C)]
 #[derive(Clone, Copy, Debug, Default, PartialEq, Eq, Hash)]
 pub struct Arrival {

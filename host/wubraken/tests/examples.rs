@@ -12,6 +12,9 @@ mod decay;
 #[path = "../examples/echogram.rs"]
 #[allow(dead_code)]
 mod echogram;
+#[path = "../examples/equal_times.rs"]
+#[allow(dead_code)]
+mod equal_times;
 #[path = "../examples/tail.rs"]
 #[allow(dead_code)]
 mod tail;
@@ -31,6 +34,20 @@ fn threads_take_what_they_have_put() {
 fn the_tail_is_taken_in_its_order() {
     let expected = vec![(5, 0), (700, 14), (960_000, 15)];
     assert_eq!(tail::run(), Ok(expected));
+}
+
+/// By time, whatever the order; at 481 by order, 0 to 2; of the two of order 1 path 11 was put
+/// before path 13.
+#[test]
+fn equal_times_are_taken_by_order_then_by_ticket() {
+    let expected = [
+        (480, 3, 14),
+        (481, 0, 12),
+        (481, 1, 11),
+        (481, 1, 13),
+        (481, 2, 10),
+    ];
+    assert_eq!(equal_times::run(), Ok(expected.to_vec()));
 }
 
 /// 2^24 / 10² is 167,772, and comes twice in slot 2, of 960 to 1,439; 2^24 / 18² and

@@ -2,10 +2,11 @@
 //! the others there too, or, with what they show a part of, as examples.
 
 const README: &str = include_str!("../../../README.md");
-const EXAMPLES: [&str; 6] = [
+const EXAMPLES: [&str; 7] = [
     include_str!("../examples/threads.rs"),
     include_str!("../examples/batches.rs"),
     include_str!("../examples/tail.rs"),
+    include_str!("../examples/equal_times.rs"),
     include_str!("../examples/echogram.rs"),
     include_str!("../examples/dealer.rs"),
     include_str!("../examples/decay.rs"),

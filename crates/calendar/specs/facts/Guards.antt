@@ -25,6 +25,10 @@ forced L o e X = List·Memᴰ·eq-of-singleton (subst (λ (os : List (List ℕ))
 pub item : ℕ → ℕ → Item
 item time ticket = record { time = time; path = 7; order = 1; distance = 3; ticket = ticket }
 
+-- one of time 10, by reflection order and ticket
+pub of-order : ℕ → ℕ → Item
+of-order order ticket = record { time = 10; path = 7; order = order; distance = 3; ticket = ticket }
+
 -- worker i's put, whole; its take begins, and ends with x or empty
 pub stores : ℕ → Item → Ledger → Ledger
 stores i x L = ends i (Stored (x .ticket)) 1 0 (begins i (enqueue x) L)
@@ -51,9 +55,9 @@ paused x =
     (stores 1 (item 20 2)
     (stores 1 (item 10 1) new)))))))))
 
--- two equal arrivals are stored, then taken one after the other
-pub twins : Item → Item → Ledger
-twins x y = takes 0 y (asks 0 (takes 0 x (asks 0 (stores 0 (item 10 2) (stores 0 (item 10 1) new)))))
+-- two arrivals are stored, a and then b; one after the other x and y are taken
+pub pair : Item → Item → Item → Item → Ledger
+pair a b x y = takes 0 y (asks 0 (takes 0 x (asks 0 (stores 0 b (stores 0 a new)))))
 
 -- an arrival is stored, and a take that starts later finds none
 pub emptied : Ledger
@@ -79,13 +83,23 @@ unfolding paused item stores asks takes ordersOf below lower energyOf
 not-passed-over = forced (paused (item 15 5)) _ refl
 
 -- the later of two equal arrivals first: no order, though all answers read the same
-pub later-twin-first : Linearization (twins (item 10 2) (item 10 1)) → ⊥
-unfolding twins item stores asks takes ordersOf below lower energyOf
-later-twin-first = none-there (twins (item 10 2) (item 10 1)) refl
+pub later-twin-first : Linearization (pair (item 10 1) (item 10 2) (item 10 2) (item 10 1)) → ⊥
+unfolding pair item stores asks takes ordersOf below lower energyOf
+later-twin-first = none-there (pair (item 10 1) (item 10 2) (item 10 2) (item 10 1)) refl
 
-pub earlier-twin-first : (X : Linearization (twins (item 10 1) (item 10 2))) → X .order ≡ 1 ∷ 2 ∷ 3 ∷ 4 ∷ []
-unfolding twins item stores asks takes ordersOf below lower energyOf
-earlier-twin-first = forced (twins (item 10 1) (item 10 2)) _ refl
+pub earlier-twin-first : (X : Linearization (pair (item 10 1) (item 10 2) (item 10 1) (item 10 2))) → X .order ≡ 1 ∷ 2 ∷ 3 ∷ 4 ∷ []
+unfolding pair item stores asks takes ordersOf below lower energyOf
+earlier-twin-first = forced (pair (item 10 1) (item 10 2) (item 10 1) (item 10 2)) _ refl
+
+-- a first reflection before the direct sound of its time, since it was put earlier: no order
+pub reflection-first : Linearization (pair (of-order 1 1) (of-order 0 2) (of-order 1 1) (of-order 0 2)) → ⊥
+unfolding pair of-order stores asks takes ordersOf below lower energyOf
+reflection-first = none-there (pair (of-order 1 1) (of-order 0 2) (of-order 1 1) (of-order 0 2)) refl
+
+-- the direct sound before it: one order
+pub direct-sound-first : (X : Linearization (pair (of-order 1 1) (of-order 0 2) (of-order 0 2) (of-order 1 1))) → X .order ≡ 1 ∷ 2 ∷ 3 ∷ 4 ∷ []
+unfolding pair of-order stores asks takes ordersOf below lower energyOf
+direct-sound-first = forced (pair (of-order 1 1) (of-order 0 2) (of-order 0 2) (of-order 1 1)) _ refl
 
 -- empty after something was stored: no order
 pub not-empty : Linearization emptied → ⊥

@@ -19,12 +19,12 @@ use Rattle.arrival.specs.declared.Shape.{Shape}
 use Rattle.arrival.specs.declared.Item.{Item}
 use Rattle.arrival.specs.declared.Worker.{Worker}
 use Rattle.arrival.specs.declared.Response.the-variants.{Stored, Empty}
-use Rattle.arrival.specs.Keys.{SameKey, lower-by-key}
+use Rattle.arrival.specs.Keys.{keyOf, lower-by-key}
 use Rattle.arrival.specs.Queue.{taken}
 use Rattle.calendar.specs.rules.Layout.{Place, word, cell, field, Write, _≔_, read, started, linkCell, itemAt, epochAt, successor, isMarked, unmarked}
 use Rattle.calendar.specs.rules.Layout.{unlinkedAt, bucketIn, epochIn}
 use Rattle.calendar.specs.rules.Outcome.{Outcome, on, answer, withOwn, withBucket, withLeft, withRight, withSeen, withCurrent}
-use Rattle.calendar.specs.rules.SearchSteps.{found, settle, unlink, step-1, step-2, step-3}
+use Rattle.calendar.specs.rules.SearchSteps.{found, settle, rightIsLower, unlink, step-1, step-2, step-3}
 use Rattle.calendar.specs.rules.EnqueueSteps.{linkOwn, renewCurrent, step-4, step-5, step-6, step-7}
 use Rattle.calendar.specs.rules.DequeueSteps.{walk, markNode, thisCurrent, nextCurrent, step-8, step-9, step-10, step-11, step-12, step-13}
 use Rattle.calendar.specs.rules.Steps.{Rule, no-step, step}
@@ -68,8 +68,8 @@ sharedWord sh w = getD (sharedWords sh w) (w .stage) current-word
 pub record SameSeen (sh : Shape) (w : Worker) (s s′ : List ℕ) : Type 0 where
   pub shared : read sh s′ (sharedWord sh w) ≡ read sh s (sharedWord sh w)
   pub calls : w .stage ≡ 3 → started sh s′ ≡ started sh s
-  pub own : w .stage ≡ 2 → SameKey (itemAt sh s′ (w .own)) (itemAt sh s (w .own))
-  pub right : w .stage ≡ 2 → SameKey (itemAt sh s′ (w .right)) (itemAt sh s (w .right))
+  pub own : w .stage ≡ 2 → keyOf (itemAt sh s′ (w .own)) ≡ keyOf (itemAt sh s (w .own))
+  pub right : w .stage ≡ 2 → keyOf (itemAt sh s′ (w .right)) ≡ keyOf (itemAt sh s (w .right))
   pub answer : 1 ≤ w .stage → w .stage ≤ 3 → w .kind ≢ 0 → itemAt sh s′ (w .own) ≡ itemAt sh s (w .own)
   pub epoch : w .stage ≡ 10 → epochAt sh s′ (w .right) ≡ epochAt sh s (w .right)
 
@@ -111,8 +111,11 @@ module _ (sh : Shape) (s s′ : List ℕ) where
     unfolding step-2
     same-2 q h = λ j.
         cond (isMarked (x j)) (on [] 3 (withSeen (x j) w))
-        (cond (lower-by-key _ _ _ _ (h .right q) (h .own q) j) (passes j) (stops j))
+        (cond (compared j) (passes j) (stops j))
       where
+        compared : rightIsLower sh s′ w ≡ rightIsLower sh s w
+        compared = lower-by-key (itemAt sh s′ (w .right)) (itemAt sh s (w .right)) (itemAt sh s′ (w .own)) (itemAt sh s (w .own)) (h .right q) (h .own q)
+
         x : read sh s′ (right-link sh w) ≡ read sh s (right-link sh w)
         x = shared-at 2 q h
 

@@ -15,7 +15,7 @@ use borrow.Author.Tests.{eqb-true, le-ltb}
 use Rattle.arrival.specs.declared.Shape.{Shape}
 use Rattle.arrival.specs.declared.Item.{Item}
 use Rattle.arrival.specs.declared.Worker.{Worker}
-use Rattle.arrival.specs.Keys.{SameKey}
+use Rattle.arrival.specs.Keys.{keyOf}
 use Rattle.arrival.specs.declared.Action.{Action}
 use Rattle.arrival.specs.declared.Action.the-variants.{Enqueue, Dequeue, Step}
 use Rattle.arrival.specs.declared.Response.{Response}
@@ -70,8 +70,8 @@ module _ (sh : Shape) (s v : List ℕ) (long : layout sh ≤ length s) where
     ticket = same-field 2 n (lit< tt) l j;
   }
 
-  same-key : (n : ℕ) → n < sh .nodes → SameKey (itemAt sh (s ++ v) n) (itemAt sh s n)
-  same-key n l = let e = same-item n l in record { time = ap (λ (x : Item). x .time) e; ticket = ap (λ (x : Item). x .ticket) e }
+  same-key : (n : ℕ) → n < sh .nodes → keyOf (itemAt sh (s ++ v) n) ≡ keyOf (itemAt sh s n)
+  same-key n l = ap keyOf (same-item n l)
 
   -- ── refusals ──
   long-enough : ltb (length (s ++ v)) (layout sh) ≡ ltb (length s) (layout sh)

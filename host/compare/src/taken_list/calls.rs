@@ -9,8 +9,8 @@ use crate::line::Taken;
 /// The moment of what does not happen in the history.
 pub const NEVER: usize = usize::MAX;
 
-/// Time, then ticket.
-pub type Key = (u64, u64);
+/// Time, then reflection order, then ticket.
+pub type Key = (u64, u64, u64);
 
 #[derive(Clone, Copy, Debug)]
 pub struct Put {
@@ -40,7 +40,7 @@ pub struct Calls {
 
 impl Put {
     pub fn key(&self) -> Key {
-        (self.shown.time, self.ticket)
+        (self.shown.time, self.shown.order, self.ticket)
     }
 }
 
@@ -60,7 +60,7 @@ impl Calls {
             let first_turn = first_turn.unwrap_or(NEVER);
             let end = call.end.map_or(NEVER, |end| end.at);
             let answer = match (call.kind, call.end.map(|end| end.answer)) {
-                (Kind::Put(..), Some(answer)) if answer != Answer::Stored(ticket) => {
+                (Kind::Put { .. }, Some(answer)) if answer != Answer::Stored(ticket) => {
                     return Err(run.fault(end, "not the answer of this put"));
                 }
                 (Kind::Take, Some(Answer::Stored(_))) => {
@@ -70,7 +70,7 @@ impl Calls {
                 _ => None,
             };
             match call.kind {
-                Kind::Put(_, shown) => calls.puts.push(Put {
+                Kind::Put { shown, .. } => calls.puts.push(Put {
                     ticket,
                     shown,
                     start,

@@ -1,9 +1,11 @@
 //! Wrong pools: the rules of the second program, with the lent memory spoilt after
 //! a turn, or another answer given.
 
+use std::collections::HashMap;
+
 use schedule::lent::Memory;
 use second::layout::{field, CURRENT};
-use second::{kind, stage, word, Answer, Lines, Record, Records, Response, Worker};
+use second::{kind, stage, word, Answer, Arrival, Lines, Record, Records, Response, Worker};
 use second::{LENT_RECORDS, LENT_WORDS};
 
 #[derive(Clone, Copy, Debug, PartialEq, Eq)]
@@ -33,10 +35,16 @@ pub enum Mistake {
     OtherPath,
     /// The tail goes round: the last bucket is followed by the first.
     TailGoesRound,
+    /// Keys order by time, then ticket.
+    OrderIgnored,
+    /// Of equal times the higher order comes first.
+    HigherOrderFirst,
+    /// Of equal times and orders the higher ticket comes first.
+    HigherTicketFirst,
 }
 
 impl Mistake {
-    pub const ALL: [Self; 12] = [
+    pub const ALL: [Self; 15] = [
         Self::PassOver,
         Self::FreeWhenMarked,
         Self::FreeWhenTaken,
@@ -49,6 +57,9 @@ impl Mistake {
         Self::StoredUnlinked,
         Self::OtherPath,
         Self::TailGoesRound,
+        Self::OrderIgnored,
+        Self::HigherOrderFirst,
+        Self::HigherTicketFirst,
     ];
 }
 
@@ -68,12 +79,17 @@ pub fn print(mistake: Mistake, input: &[u8]) -> String {
 struct Engine {
     mistake: Mistake,
     memory: Memory,
+    /// By node, the order of the arrival last put there, which its take answers.
+    orders: HashMap<u64, u64>,
 }
 
 impl Engine {
     fn new(mistake: Mistake) -> Self {
-        let memory = Memory::zeros(LENT_WORDS, LENT_RECORDS);
-        Self { mistake, memory }
+        Self {
+            mistake,
+            memory: Memory::zeros(LENT_WORDS, LENT_RECORDS),
+            orders: HashMap::new(),
+        }
     }
 
     fn apply(&mut self, record: Record) -> Answer {
@@ -86,7 +102,7 @@ impl Engine {
             }
             Record::EnqueueStart { worker, arrival } => {
                 let response = self.memory.apply(record)?;
-                self.spoil_start(worker.into(), arrival.time);
+                self.spoil_start(worker.into(), arrival);
                 Ok(response)
             }
             other => self.memory.apply(other),
@@ -94,10 +110,23 @@ impl Engine {
     }
 
     /// Makes the mistake after the start of a put.
-    fn spoil_start(&mut self, worker: usize, time: u32) {
-        if self.mistake == Mistake::TailGoesRound {
-            let shape = self.memory.shape;
-            self.memory.workers[worker].bucket = (time / shape.width % shape.buckets).into();
+    fn spoil_start(&mut self, worker: usize, arrival: Arrival) {
+        let (shape, record) = (self.memory.shape, &mut self.memory.workers[worker]);
+        let (node, ticket) = (record.own as usize, record.ticket);
+        let order = u64::from(arrival.order);
+        self.orders.insert(record.own, order);
+        match self.mistake {
+            Mistake::TailGoesRound => {
+                record.bucket = (arrival.time / shape.width % shape.buckets).into();
+            }
+            Mistake::OrderIgnored => *self.memory.node_word(node, field::ORDER) = 0,
+            Mistake::HigherOrderFirst => {
+                *self.memory.node_word(node, field::ORDER) = u64::from(Arrival::MAX_ORDER) - order;
+            }
+            Mistake::HigherTicketFirst => {
+                *self.memory.node_word(node, field::TICKET) = word::MAX_COUNT - ticket;
+            }
+            _ => {}
         }
     }
 
@@ -128,8 +157,11 @@ impl Engine {
         response
     }
 
-    fn spoil_take(&mut self, worker: usize, before: Worker, response: Response) -> Response {
+    fn spoil_take(&mut self, worker: usize, before: Worker, mut response: Response) -> Response {
         let after = self.memory.workers[worker];
+        if let Response::Took { order, .. } = &mut response {
+            *order = self.orders[&after.own];
+        }
         let took = matches!(response, Response::Took { .. });
         match (self.mistake, before.stage, after.stage) {
             (Mistake::PassOver, stage::DEQUEUE_LINK, stage::DEQUEUE_CURRENT) => {

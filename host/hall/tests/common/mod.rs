@@ -1,7 +1,11 @@
-//! The program, as it is run.
+//! What the tests share. Each of them uses a part of it.
+#![allow(dead_code)]
+
+pub mod runs;
 
 use std::process::{Command, Output};
 
+/// The program, as it is run.
 pub fn hall(words: &[&str]) -> Output {
     Command::new(env!("CARGO_BIN_EXE_hall"))
         .args(words)

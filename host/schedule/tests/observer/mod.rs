@@ -29,7 +29,9 @@ impl Observer {
         self.now += 1;
         match (record, answer) {
             (Record::EnqueueStart { worker, arrival }, Ok(Response::Begun(ticket))) => {
-                let kind = Kind::Put(arrival.time, ticket);
+                let Arrival { time, order, .. } = arrival;
+                let shown = ticket;
+                let kind = Kind::Put { time, order, shown };
                 self.begin(worker.into(), program, ticket, kind);
                 self.puts.insert(ticket, arrival);
                 let own = program.workers()[usize::from(worker)].own;
@@ -145,7 +147,8 @@ impl Observer {
                 }) => ticket,
                 _ => break,
             };
-            let key = Some((self.puts[&ticket].time, ticket));
+            let Arrival { time, order, .. } = self.puts[&ticket];
+            let key = Some((time, order, ticket));
             assert!(last < key, "drained out of order");
             last = key;
         }
@@ -268,12 +271,14 @@ impl Lists {
             let mut last = None;
             while next != u64::from(shape.nodes) {
                 let words = node(program, next);
-                let key = (words[field::TIME], words[field::TICKET]);
+                let [time, order, ticket] =
+                    [field::TIME, field::ORDER, field::TICKET].map(|word| words[word]);
+                let key = (time, order, ticket);
                 assert!(last < Some(key), "a list out of order");
-                assert!((first..behind).contains(&key.0), "{key:?} in {bucket}");
+                assert!((first..behind).contains(&time), "{key:?} in {bucket}");
                 lists.linked += 1;
                 if !word::is_marked(words[field::LINK]) {
-                    lists.unmarked.push(key.1);
+                    lists.unmarked.push(ticket);
                 }
                 last = Some(key);
                 next = word::successor(words[field::LINK]);

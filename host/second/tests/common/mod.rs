@@ -65,6 +65,9 @@ pub fn refused(number: u8) -> Answer {
     Err(refusal)
 }
 
+/// Time, reflection order and ticket.
+pub type Key = (u64, u64, u64);
+
 /// A start or a turn.
 #[derive(Clone, Copy, Debug)]
 pub enum Call {
@@ -233,17 +236,28 @@ impl Lent {
         self.keys(bucket).iter().map(|key| key.0).collect()
     }
 
-    /// Times and tickets, likewise.
-    pub fn keys(&mut self, bucket: usize) -> Vec<(u64, u64)> {
+    /// Keys, likewise.
+    pub fn keys(&mut self, bucket: usize) -> Vec<Key> {
         let mut keys = Vec::new();
         let mut node = word::successor(*self.head(bucket)) as usize;
         while node != self.shape.nodes as usize {
-            let time = *self.node_word(node, field::TIME);
-            keys.push((time, *self.node_word(node, field::TICKET)));
+            keys.push(self.key(node));
             assert!(keys.len() <= self.shape.nodes as usize, "cycle");
             node = word::successor(*self.node_word(node, field::LINK)) as usize;
         }
         keys
+    }
+
+    pub fn key(&mut self, node: usize) -> Key {
+        let words = [field::TIME, field::ORDER, field::TICKET];
+        let [time, order, ticket] = words.map(|word| *self.node_word(node, word));
+        (time, order, ticket)
+    }
+
+    pub fn set_key(&mut self, node: usize, (time, order, ticket): Key) {
+        *self.node_word(node, field::TIME) = time;
+        *self.node_word(node, field::ORDER) = order;
+        *self.node_word(node, field::TICKET) = ticket;
     }
 
     /// Makes a call and checks what every call must keep.

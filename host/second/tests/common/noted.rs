@@ -4,7 +4,7 @@ use order::{History, Kind};
 use schedule::script::{put, take, turn};
 use schedule::{to_the_end, Script};
 use second::layout::field;
-use second::{Answer, Record, Response};
+use second::{Answer, Arrival, Record, Response};
 
 use super::{opening, printed, steps, Lent, ON};
 
@@ -34,7 +34,9 @@ impl Noted {
         let answer = self.lent.apply(record);
         match (record, answer) {
             (Record::EnqueueStart { worker, arrival }, Ok(Response::Begun(ticket))) => {
-                let kind = Kind::Put(arrival.time, ticket);
+                let Arrival { time, order, .. } = arrival;
+                let shown = ticket;
+                let kind = Kind::Put { time, order, shown };
                 self.history.begin(worker.into(), ticket, kind, self.now);
             }
             (Record::DequeueStart { worker }, Ok(Response::Begun(ticket))) => {

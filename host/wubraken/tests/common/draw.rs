@@ -7,8 +7,8 @@ use wubraken::{Arrival, Shape, Worker};
 use super::guarded::{GARBAGE, GARBAGE_RECORD};
 use super::translate;
 
-/// At any time. Mostly in range; each other field sometimes at its bound, past it, or
-/// far past it.
+/// At any time, or, half of them, of few times and orders, so that many are equal. Mostly
+/// in range; each other field sometimes at its bound, past it, or far past it.
 pub fn any_arrival(random: &mut Random, shape: Shape) -> Arrival {
     let time = times::any(random, translate::shape(shape));
     let mut field = |least: u32, most: u32| match random.below(24) {
@@ -19,11 +19,19 @@ pub fn any_arrival(random: &mut Random, shape: Shape) -> Arrival {
         4..=7 => most,
         _ => random.between(least, most),
     };
-    Arrival {
+    let arrival = Arrival {
         time,
         path: field(0, Arrival::MAX_PATH),
         order: field(0, Arrival::MAX_ORDER),
         distance: field(1, Arrival::MAX_DISTANCE),
+    };
+    match random.below(2) {
+        0 => arrival,
+        _ => Arrival {
+            time: random.below(2),
+            order: random.below(3),
+            ..arrival
+        },
     }
 }
 
