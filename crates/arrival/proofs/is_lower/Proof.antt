@@ -1,10 +1,8 @@
--- `arrival::is_lower` computes the order of keys: at equal times by what comes behind the time, else by the time. Assumes nothing.
-use mathlib.Core.Path.{sym}
+-- `arrival::is_lower` computes the order of keys: behind the branch the times are equal, past it they differ. Assumes nothing.
 use mathlib.Core.Bool.{or-false, and-false}
 use native.Mathlib.Omega.{arith}
 use borrow.Author.Needs.{needs}
-use borrow.Author.Tests.{le-ltb, eq-eqb}
-use Rattle.arrival.specs.Keys.{time-decides}
+use borrow.Author.Tests.{le-ltb, eq-eqb, ne-eqb}
 use Rattle.arrival.proofs.is_lower.Statement.{statement}
 use Rattle.arrival.proofs.is_lower.Tie as tie
 
@@ -17,7 +15,7 @@ returns c =
 returns-2 : tie.Need-returns-2
 returns-2 c =
     let k = c .before .before .before .before .before .args
-    in sym (time-decides (k .a) (k .b) (c .before .before .if1 .left))
+    in search (needs, or-false, ne-eqb (k .a .time) (k .b .time) (c .before .before .if1 .left))
 
 pub is-lower-spec : {M : Type 1} → statement M
 is-lower-spec = tie.close (tie.spec returns returns-2)
