@@ -101,9 +101,11 @@ pub enum Response {
 pub fn is_lower(a: Key, b: Key) -> bool
     ensures { λ r. ⌜ r ≡ lowerKey a b ⌝ }
 {
-    let by_ticket = a.ticket < b.ticket;
-    let by_order = (a.order < b.order) | (a.order == b.order) & by_ticket;
-    (a.time < b.time) | (a.time == b.time) & by_order
+    if a.time == b.time {
+        let by_ticket = a.ticket < b.ticket;
+        return (a.order < b.order) | (a.order == b.order) & by_ticket;
+    }
+    a.time < b.time
 }
 
 // The bucket of a time.
