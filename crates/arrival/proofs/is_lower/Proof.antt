@@ -2,7 +2,8 @@
 use mathlib.Core.Bool.{or-false, and-false}
 use native.Mathlib.Omega.{arith}
 use borrow.Author.Needs.{needs}
-use borrow.Author.Tests.{le-ltb, eq-eqb, ne-eqb}
+use borrow.Author.Tests.{le-ltb, eq-eqb}
+use Rattle.arrival.specs.Keys.{time-decides}
 use Rattle.arrival.proofs.is_lower.Statement.{statement}
 use Rattle.arrival.proofs.is_lower.Tie as tie
 
@@ -15,7 +16,7 @@ returns c =
 returns-2 : tie.Need-returns-2
 returns-2 c =
     let k = c .before .before .before .before .before .args
-    in search (needs, or-false, ne-eqb (k .a .time) (k .b .time) (c .before .before .if1 .left))
+    in search (needs, time-decides (k .a) (k .b) (c .before .before .if1 .left))
 
 pub is-lower-spec : {M : Type 1} → statement M
 is-lower-spec = tie.close (tie.spec returns returns-2)
