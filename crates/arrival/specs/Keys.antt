@@ -11,7 +11,7 @@
 --     bucket_below                          the bucket of a time is one of the buckets
 --     lower_time, bucket_mono               a lower key has no higher time, and lies in no higher bucket
 -- Assumes nothing.
-use Rattle.std.specs.Prelude.{◌≡◌, refl, Bool, true, false, ◌≢◌, ◌⊎◌, List, [], ◌∷◌, ℕ, ◌-◌, ◌*◌, ◌/◌, min, ◌≤◌, ◌<◌, eqb, ltb}
+use Rattle.std.specs.Prelude.{◌≡◌, refl, Bool, true, false, ◌≢◌, ◌⊎◌, List, [], ◌∷◌, ℕ, ◌-◌, ◌/◌, min, ◌≤◌, ◌<◌, eqb, ltb}
 use Rattle.std.proofs.Math.Bool.{and-false, or-false}
 use mathlib.Core.List.Memᴰ.{head as here}
 use mathlib.Core.List.Memᴰ.{tail as there}

@@ -1,4 +1,6 @@
 // The types that specifications and code share, the order of keys and the bucket of a time.
+#![tactic(auto)]
+
 ghost use Rattle.std.specs.Prelude.{◌≡◌, ◌≤◌};
 ghost use Rattle.arrival.specs.Keys.{lower_key, bucket_of};
 
