@@ -18,7 +18,7 @@ use Rattle.arrival.specs.declared.Response.TheVariants.{On, Refused}
 use Rattle.laws.specs.Tests.{never}
 use Rattle.calendar.specs.rules.Ranges.{blank, worker, record_in_range}
 use Rattle.calendar.specs.rules.Operations.{Memory, Result}
-use Rattle.calendar.specs.rules.NarrowCalls.{goes_on_lem}
+use Rattle.calendar.specs.rules.NarrowCalls.{goes_on}
 use Rattle.words.specs.Done.{Done, gives}
 use Rattle.words.specs.declared.replies.Reply.{Reply}
 use Rattle.stages.specs.Ready.{Ready}
@@ -110,9 +110,9 @@ module _ {whole : Bool} {sh : Shape} {turns : ℕ} {goal : Deal} {s : List ℕ} 
           memory_is : lent s' (set t i reply.worker) ≡ result.memory
           memory_is = ap (λ (r : Result). r.memory) left_is
 
-          module _ (g : Bool) (g-is : g ≡ goes_on_lem reply.response) where
-            goes : g ≡ goes_on_lem result.response
-            goes = g-is ∙ ap goes_on_lem response_is
+          module _ (g : Bool) (g-is : g ≡ goes_on reply.response) where
+            goes : g ≡ goes_on result.response
+            goes = g-is ∙ ap goes_on response_is
 
             pub last_turn : (eqb (made + 1) turns || not g) ≡ true
                 → record { memory = lent s' (set t i reply.worker); dealer = i; turns = made + 1; response = reply.response } ≡ goal

@@ -1,7 +1,7 @@
 -- Whom the dealer serves: the first worker after it that has a call in progress, and none is passed over on the way round.
 --     after_below                the worker after any worker is a worker
 --     served_busy                who is served is a worker with a call in progress
---     nth_after_lem                   the k-th worker after one, going round
+--     nth_after                   the k-th worker after one, going round
 --     Round, nth_after_lem           which number that is
 --     FirstBusy, none_between    who is served is the first after the dealer: none between the two has a call in progress
 --     Ahead                      among the k workers that follow n
@@ -51,9 +51,9 @@ served_busy sh t last h e = busy_of sh t sh.workers last h (eqb-false _ _ e)
 
 -- ── none between ──
 -- the k-th worker after n, going round
-unfoldable pub nth_after_lem : Shape → ℕ → ℕ → ℕ
-nth_after_lem sh zero n = n
-nth_after_lem sh (suc k) n = nth_after_lem sh k (worker_after sh n)
+unfoldable pub nth_after : Shape → ℕ → ℕ → ℕ
+nth_after sh zero n = n
+nth_after sh (suc k) n = nth_after sh k (worker_after sh n)
 
 -- that is n + k, or as many fewer as there are workers
 abbrev pub Round : Shape → ℕ → ℕ → ℕ → Type 0
@@ -67,28 +67,28 @@ round_over : (sh : Shape) (k n x : ℕ) → suc k ≤ sh.workers → n + 1 ≡ s
 round_over sh k n x most e (inl p) = inr (omega arith, omega arith)
 round_over sh k n x most e (inr p) = absurd (omega arith)
 
-pub nth_after_lem : (sh : Shape) (k n : ℕ) → k ≤ sh.workers → n < sh.workers → Round sh k n (nth_after_lem sh k n)
-unfolding nth_after_lem
+pub nth_after_lem : (sh : Shape) (k n : ℕ) → k ≤ sh.workers → n < sh.workers → Round sh k n (nth_after sh k n)
+unfolding nth_after
 nth_after_lem sh zero n most l = inl (omega arith, omega arith)
 nth_after_lem sh (suc k) n most l =
     go (ltb (n + 1) sh.workers) refl (λ h. nth_after_lem sh k (n + 1) (omega arith) h) (nth_after_lem sh k 0 (omega arith) (omega arith))
   where
-    go : (t : Bool) → ltb (n + 1) sh.workers ≡ t → (n + 1 < sh.workers → Round sh k (n + 1) (nth_after_lem sh k (n + 1))) → Round sh k 0 (nth_after_lem sh k 0)
-        → Round sh (suc k) n (nth_after_lem sh k (cond t (n + 1) 0))
-    go true e on over = round_on sh k n (nth_after_lem sh k (n + 1)) (on (ltb-true _ _ e))
-    go false e on over = round_over sh k n (nth_after_lem sh k 0) most (omega (arith, ltb-false (n + 1) sh.workers e)) over
+    go : (t : Bool) → ltb (n + 1) sh.workers ≡ t → (n + 1 < sh.workers → Round sh k (n + 1) (nth_after sh k (n + 1))) → Round sh k 0 (nth_after sh k 0)
+        → Round sh (suc k) n (nth_after sh k (cond t (n + 1) 0))
+    go true e on over = round_on sh k n (nth_after sh k (n + 1)) (on (ltb-true _ _ e))
+    go false e on over = round_over sh k n (nth_after sh k 0) most (omega (arith, ltb-false (n + 1) sh.workers e)) over
 
 -- j is the first of the k workers after n that has a call in progress: it is one of them, and those between n and j have none
 pub record FirstBusy (sh : Shape) (t : List Worker) (k n j : ℕ) : Type 0 where
   pub place : ℕ
   pub from_1 : 1 ≤ place
   pub to_k : place ≤ k
-  pub is : j ≡ nth_after_lem sh place n
+  pub is : j ≡ nth_after sh place n
   pub busy : in_progress (worker t j) ≡ true
-  pub idle_between : (b : ℕ) → 1 ≤ b → b < place → in_progress (worker t (nth_after_lem sh b n)) ≡ false
+  pub idle_between : (b : ℕ) → 1 ≤ b → b < place → in_progress (worker t (nth_after sh b n)) ≡ false
 
 first_of : (sh : Shape) (t : List Worker) (k n : ℕ) → first_busy_of sh t k n ≢ sh.workers → FirstBusy sh t k n (first_busy_of sh t k n)
-unfolding first_busy_of nth_after_lem
+unfolding first_busy_of nth_after
 first_of sh t zero n e = absurd (e refl)
 first_of sh t (suc k) n e = go (in_progress (worker t (worker_after sh n))) refl e (first_of sh t k (worker_after sh n))
   where
@@ -113,7 +113,7 @@ first_of sh t (suc k) n e = go (in_progress (worker t (worker_after sh n))) refl
     }
       where
         between : (F : FirstBusy sh t k (worker_after sh n) (first_busy_of sh t k (worker_after sh n))) (b : ℕ) → 1 ≤ b → b < suc F.place
-            → in_progress (worker t (nth_after_lem sh b n)) ≡ false
+            → in_progress (worker t (nth_after sh b n)) ≡ false
         between F zero l h = absurd (omega arith)
         between F (suc zero) l h = f
         between F (suc (suc b)) l h = F.idle_between (suc b) (omega arith) (omega arith)

@@ -7,7 +7,7 @@ use Rattle.arrival.specs.declared.Shape.{Shape}
 use Rattle.calendar.specs.rules.Operations.{Memory, open_pool}
 use Rattle.calendar.specs.rules.Ledger.{Ledger, new, ledger}
 use Rattle.calendar.specs.rules.Linearizability.{Correct, Always, Demand3}
-use Rattle.calendar.specs.rules.HostHistory.{one_by_one_lem, HostAlways, HostDemand3}
+use Rattle.calendar.specs.rules.HostHistory.{one_by_one, HostAlways, HostDemand3}
 use Rattle.calendar.specs.facts.HostRun.{StaysInRange, host_memory, host_answers_lem, host_single}
 use Rattle.lists.specs.NodeReuse.{always_in_range}
 use Rattle.interleavings.specs.Demand3.{demand_3}
@@ -16,7 +16,7 @@ pub host_always : (P : Shape → Memory → Ledger → Type 0) → Always P → 
 host_always P always sh m e qs =
     let p = (open_pool sh m).memory in
     let S : StaysInRange sh p = always_in_range sh m e in
-    subst (λ (n : Memory). P sh n (ledger sh p (one_by_one_lem sh p qs) new)) (sym (host_memory sh p qs S)) (always sh m e (one_by_one_lem sh p qs))
+    subst (λ (n : Memory). P sh n (ledger sh p (one_by_one sh p qs) new)) (sym (host_memory sh p qs S)) (always sh m e (one_by_one sh p qs))
 
 pub host_demand_3 : HostDemand3
 unfolding HostDemand3 Demand3

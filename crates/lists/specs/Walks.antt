@@ -15,7 +15,7 @@ use Rattle.arrival.specs.declared.Item.{Item}
 use Rattle.laws.specs.Tests.{never, parts}
 use Rattle.laws.specs.Lists.{Once, once_below}
 use Rattle.calendar.specs.rules.Layout.{link, item_at, is_marked}
-use Rattle.calendar.specs.rules.Snapshot.{onto, nodes_from, bucket_list, same_item_lem, unmarked_of}
+use Rattle.calendar.specs.rules.Snapshot.{onto, nodes_from, bucket_list, same_item, unmarked_of}
 use Rattle.calendar.specs.facts.Views.{view}
 use Rattle.lists.specs.Chain.{In, Runs}
 use Rattle.lists.specs.LinkInvariant.{Chains, chain_distinct, Lists}
@@ -39,7 +39,7 @@ module _ (sh : Shape) (s : List ℕ) where
       walk_runs (sh.nodes + 1) b (ch b) (omega arith) (I.runs b l) (λ n i. (I.member b n i).is_node)
 
   -- ── unmarked nodes that hold x ──
-  pub same_item_lem : (x y : Item) → same_item_lem x y ≡ true → x ≡ y
+  pub same_item_lem : (x y : Item) → same_item x y ≡ true → x ≡ y
   same_item_lem x y e =
       let (e, ticket) = parts _ _ e in
       let (e, distance) = parts _ _ e in
@@ -53,7 +53,7 @@ module _ (sh : Shape) (s : List ℕ) where
         ticket = eqb-true x.ticket y.ticket ticket i;
       }
 
-  item_same : (x : Item) → same_item_lem x x ≡ true
+  item_same : (x : Item) → same_item x x ≡ true
   item_same x =
       rw (
         eq-eqb x.time x.time refl,
@@ -65,20 +65,20 @@ module _ (sh : Shape) (s : List ℕ) where
 
   -- the test at one node
   holds_not : (x : Item) (n : ℕ) → ((view sh s).cells (sh.buckets + n) % 2 ≡ 0 → item_at sh s n ≢ x)
-      → (not (is_marked (link sh s n)) && same_item_lem (item_at sh s n) x) ≡ false
-  holds_not x n h = go (is_marked (link sh s n)) refl (same_item_lem (item_at sh s n) x) refl
+      → (not (is_marked (link sh s n)) && same_item (item_at sh s n) x) ≡ false
+  holds_not x n h = go (is_marked (link sh s n)) refl (same_item (item_at sh s n) x) refl
     where
       clean : is_marked (link sh s n) ≡ false → (view sh s).cells (sh.buckets + n) % 2 ≡ 0
       clean e = omega (arith, eqb-false (link sh s n % 2) 1 e)
 
-      go : (a : Bool) → is_marked (link sh s n) ≡ a → (b : Bool) → same_item_lem (item_at sh s n) x ≡ b → (not a && b) ≡ false
+      go : (a : Bool) → is_marked (link sh s n) ≡ a → (b : Bool) → same_item (item_at sh s n) x ≡ b → (not a && b) ≡ false
       go true e b f = refl
       go false e false f = refl
       go false e true f = absurd (h (clean e) (same_item_lem (item_at sh s n) x f))
 
   holds_is : (x : Item) (n : ℕ) → (view sh s).cells (sh.buckets + n) % 2 ≡ 0 → item_at sh s n ≡ x
-      → (not (is_marked (link sh s n)) && same_item_lem (item_at sh s n) x) ≡ true
-  holds_is x n c e = rw (ne_eqb (link sh s n % 2) 1 (λ q. omega arith)) (subst (λ y. same_item_lem (item_at sh s n) y ≡ true) e (item_same (item_at sh s n)))
+      → (not (is_marked (link sh s n)) && same_item (item_at sh s n) x) ≡ true
+  holds_is x n c e = rw (ne_eqb (link sh s n % 2) 1 (λ q. omega arith)) (subst (λ y. same_item (item_at sh s n) y ≡ true) e (item_same (item_at sh s n)))
 
   pub unmarked_none : (x : Item) (ns : List ℕ) → ((n : ℕ) → In n ns → (view sh s).cells (sh.buckets + n) % 2 ≡ 0 → item_at sh s n ≢ x) → unmarked_of sh s x ns ≡ 0
   unfolding unmarked_of
@@ -89,8 +89,8 @@ module _ (sh : Shape) (s : List ℕ) where
       → ((n : ℕ) → In n ns → n ≢ k → item_at sh s n ≢ x) → unmarked_of sh s x ns ≡ 1
   unfolding unmarked_of
   unmarked_once x k (n ∷ ns) d (Memᴰ.head e) c q h =
-      let p : (not (is_marked (link sh s n)) && same_item_lem (item_at sh s n) x)
-      ≡ true = subst (λ y. (not (is_marked (link sh s y)) && same_item_lem (item_at sh s y) x) ≡ true) e (holds_is x k c q) in
+      let p : (not (is_marked (link sh s n)) && same_item (item_at sh s n) x)
+      ≡ true = subst (λ y. (not (is_marked (link sh s y)) && same_item (item_at sh s y) x) ≡ true) e (holds_is x k c q) in
       rw (p, unmarked_none x ns (λ m i y. h m (Memᴰ.tail i) (λ z. d.0 m i (sym e ∙ sym z))))
   unmarked_once x k (n ∷ ns) d (Memᴰ.tail i) c q h =
       rw (holds_not x n (λ y. h n (Memᴰ.head refl) (d.0 k i)), unmarked_once x k ns d.1 i c q (λ m j. h m (Memᴰ.tail j)))
@@ -99,13 +99,13 @@ module _ (sh : Shape) (s : List ℕ) where
   pub unmarked_there : (x : Item) (ns : List ℕ) → unmarked_of sh s x ns ≢ 0 → (n : ℕ) × In n ns × (is_marked (link sh s n) ≡ false) × (item_at sh s n ≡ x)
   unfolding unmarked_of
   unmarked_there x [] h = absurd (h refl)
-  unmarked_there x (n ∷ ns) h = go (is_marked (link sh s n)) refl (same_item_lem (item_at sh s n) x) refl h (unmarked_there x ns)
+  unmarked_there x (n ∷ ns) h = go (is_marked (link sh s n)) refl (same_item (item_at sh s n) x) refl h (unmarked_there x ns)
     where
       further : (k : ℕ) × In k ns × (is_marked (link sh s k) ≡ false) × (item_at sh s k ≡ x)
           → (k : ℕ) × In k (n ∷ ns) × (is_marked (link sh s k) ≡ false) × (item_at sh s k ≡ x)
       further (k, i, c, e) = (k, Memᴰ.tail i, c, e)
 
-      go : (a : Bool) → is_marked (link sh s n) ≡ a → (b : Bool) → same_item_lem (item_at sh s n) x ≡ b → cond (not a && b) 1 0 + unmarked_of sh s x ns ≢ 0
+      go : (a : Bool) → is_marked (link sh s n) ≡ a → (b : Bool) → same_item (item_at sh s n) x ≡ b → cond (not a && b) 1 0 + unmarked_of sh s x ns ≢ 0
           → (unmarked_of sh s x ns ≢ 0 → (k : ℕ) × In k ns × (is_marked (link sh s k) ≡ false) × (item_at sh s k ≡ x))
           → (k : ℕ) × In k (n ∷ ns) × (is_marked (link sh s k) ≡ false) × (item_at sh s k ≡ x)
       go true e b f u rec = further (rec (λ q. u (omega arith)))
@@ -115,8 +115,8 @@ module _ (sh : Shape) (s : List ℕ) where
   pub there_unmarked : (x : Item) (n : ℕ) (ns : List ℕ) → In n ns → is_marked (link sh s n) ≡ false → item_at sh s n ≡ x → unmarked_of sh s x ns ≢ 0
   unfolding unmarked_of
   there_unmarked x n (k ∷ ns) (Memᴰ.head e) c q z =
-      let p : (not (is_marked (link sh s n)) && same_item_lem (item_at sh s n) x) ≡ true = holds_is x n (omega (arith, eqb-false (link sh s n % 2) 1 c)) q in
-      counted _ (subst (λ y. (not (is_marked (link sh s y)) && same_item_lem (item_at sh s y) x) ≡ true) e p) z
+      let p : (not (is_marked (link sh s n)) && same_item (item_at sh s n) x) ≡ true = holds_is x n (omega (arith, eqb-false (link sh s n % 2) 1 c)) q in
+      counted _ (subst (λ y. (not (is_marked (link sh s y)) && same_item (item_at sh s y) x) ≡ true) e p) z
     where
       counted : (b : Bool) → b ≡ true → cond b 1 0 + unmarked_of sh s x ns ≡ 0 → ⊥
       counted true f z = omega arith

@@ -28,7 +28,7 @@ use Rattle.calendar.specs.rules.Operations.{Memory, open_pool, run}
 use Rattle.calendar.specs.rules.Ledger.{Ledger, new, ledger}
 use Rattle.calendar.specs.rules.Snapshot.{bucket_list}
 use Rattle.calendar.specs.rules.Linearizability.{Finished, EndedBefore, pool_reply, Agree, HeldBy, AnsweredBy}
-use Rattle.calendar.specs.rules.HostHistory.{host_run, one_by_one_lem}
+use Rattle.calendar.specs.rules.HostHistory.{host_run, one_by_one}
 
 -- ── what became of an arrival ──
 -- take d has answered x, which is what it marked
@@ -150,5 +150,5 @@ abbrev pub HostDrains : Type 0
 HostDrains =
     (sh : Shape) (m : Memory) → (open_pool sh m).response ≡ Opened → (qs rs : List Request) → let p = (open_pool sh m).memory in
     let place = host_run sh p qs in
-    let before = ledger sh p (one_by_one_lem sh p qs) new in
-    DrainedIf sh place before (ledger sh place (one_by_one_lem sh place rs) before)
+    let before = ledger sh p (one_by_one sh p qs) new in
+    DrainedIf sh place before (ledger sh place (one_by_one sh place rs) before)

@@ -20,7 +20,7 @@ use Rattle.arrival.specs.declared.Response.TheVariants.{Opened}
 use Rattle.calendar.specs.rules.Operations.{Memory, open_pool, act, run}
 use Rattle.calendar.specs.rules.Ledger.{Ledger, new, reads, ledger}
 use Rattle.calendar.specs.rules.Linearizability.{Correct, Always, Demand3}
-use Rattle.calendar.specs.rules.HostHistory.{one_by_one_lem, HostAlways}
+use Rattle.calendar.specs.rules.HostHistory.{one_by_one, HostAlways}
 use Rattle.taken_list.specs.Promises.{OneAtATime, NothingPassedOver, EmptyMeansEmpty, TwoTakes, Swapped, OnceEach, DrainedIf, Drains, HostDrains}
 use Rattle.taken_list.specs.LedgerLaws.{Lawful, lawful, lawful_new, Kept, kept_refl, kept_trans, kept_act, FromHistory, history_on}
 use Rattle.calendar.specs.facts.HostRun.{host_memory}
@@ -114,4 +114,4 @@ host_once_each = host_always OnceEach once_each
 pub host_drains : HostDrains
 host_drains sh m e qs rs =
     let p = (open_pool sh m).memory in
-    drained_after sh m e (one_by_one_lem sh _ rs) _ _ (one_by_one_lem sh p qs, sym (host_memory sh p qs (always_in_range sh m e)), refl)
+    drained_after sh m e (one_by_one sh _ rs) _ _ (one_by_one sh p qs, sym (host_memory sh p qs (always_in_range sh m e)), refl)

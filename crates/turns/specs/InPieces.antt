@@ -24,7 +24,7 @@ use Rattle.batch.specs.PartOfFile.{PartOf, part_of_file, line_behind}
 use Rattle.turns.specs.declared.Next.{Next}
 use Rattle.turns.specs.declared.Next.TheVariants.{More, Read, End, Last}
 use Rattle.turns.specs.LastLines.{nothing_written}
-use Rattle.turns.specs.TurnsRun.{follows, last_line_lem, Held, Rounded, rounded, round_of, Reads, handed, later, is_empty, worked_on, read_on, next_round, rounds}
+use Rattle.turns.specs.TurnsRun.{follows, last_line, Held, Rounded, rounded, round_of, Reads, handed, later, is_empty, worked_on, read_on, next_round, rounds}
 use Rattle.turns.specs.TurnsRun.{at_first, input_of}
 
 -- ── the ends of a file ──
@@ -138,8 +138,8 @@ module _ (x : Pool) (b out : List ℕ) (big : 89 ≤ length out) (reads : Reads)
           record {
             pool = g.pool;
             rest = drop g.at b;
-            out = written g.lines g.to (last_line_lem next);
-            to = after g.lines g.to (last_line_lem next);
+            out = written g.lines g.to (last_line next);
+            to = after g.lines g.to (last_line next);
             next = next;
           }
 

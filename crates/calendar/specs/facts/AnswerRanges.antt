@@ -28,10 +28,10 @@ use Rattle.calendar.specs.rules.Outcome.{Outcome}
 use Rattle.calendar.specs.rules.Starts.{enqueue_start, dequeue_start}
 use Rattle.calendar.specs.rules.Refusals.{open_tests, enqueue_tests, dequeue_tests, step_tests, open_refusal, enqueue_refusal, dequeue_refusal, step_refusal}
 use Rattle.calendar.specs.rules.Operations.{Memory, Result, unless, perform, open_pool, actor, refusal, outcome, act, responses}
-use Rattle.calendar.specs.rules.HostHistory.{host_answers, one_by_one_lem, counts, last_of_each}
+use Rattle.calendar.specs.rules.HostHistory.{host_answers, one_by_one, counts, last_of_each}
 use Rattle.calendar.specs.facts.Views.{view}
 use Rattle.calendar.specs.facts.RangeFacts.{StoreRanges, RecordRanges}
-use Rattle.calendar.specs.facts.Changes.{Found, put_found, take_ends, Settled, at_end, goes_on, Walked, out, out_last, meets, Change, head_read}
+use Rattle.calendar.specs.facts.Changes.{Found, put_found, take_ends, Settled, at_end, still_on, Walked, out, out_last, meets, Change, head_read}
 use Rattle.calendar.specs.facts.Changes.{mark_seen, passed, stopped, unlinked, again_3, prepared, linked, again_5, stored_6, on_7, stored_7, back_6}
 use Rattle.calendar.specs.facts.Changes.{current_read, first_read, mark_passed, newer, on_11, marked, back_10, advanced, back_12, emptied, back_13}
 use Rattle.calendar.specs.facts.Changes.{step_is}
@@ -58,7 +58,7 @@ module _ (sh : Shape) (s : List ℕ) (store : StoreRanges sh (view sh s)) where
 
   settled_values : {ws : List Write} {v : Worker} {o : Outcome} → v.own < sh.nodes → Settled sh s ws v o → ValuesInRange o.response
   settled_values h (at_end e f) = found_values h f
-  settled_values h (goes_on e) = tt
+  settled_values h (still_on e) = tt
 
   walked_values : {v : Worker} {o : Outcome} → Walked sh s v o → ValuesInRange o.response
   walked_values (out e f) = tt
@@ -158,4 +158,4 @@ last_values (k ∷ ks) rs h = (at_values rs (k - 1) h, last_values ks (drop k rs
 -- whole calls, narrow ones and runs
 pub host_values : (sh : Shape) (m : Memory) (qs : List Request) → StaysInRange sh m → AllInRange (host_answers sh m qs)
 host_values sh m qs S =
-    subst⁻¹ AllInRange (host_answers_lem sh m qs S) (last_values (counts sh m qs) (responses sh m (one_by_one_lem sh m qs)) (history_values sh m (one_by_one_lem sh m qs)))
+    subst⁻¹ AllInRange (host_answers_lem sh m qs S) (last_values (counts sh m qs) (responses sh m (one_by_one sh m qs)) (history_values sh m (one_by_one sh m qs)))

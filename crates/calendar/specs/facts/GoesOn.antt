@@ -16,7 +16,7 @@ use Rattle.calendar.specs.rules.Outcome.{Outcome}
 use Rattle.calendar.specs.rules.Starts.{enqueue_start, dequeue_start}
 use Rattle.laws.specs.FirstOf.{first_of}
 use Rattle.calendar.specs.rules.Operations.{Memory, actor, outcome}
-use Rattle.calendar.specs.rules.NarrowCalls.{narrow_refusal, narrow_act, still_on}
+use Rattle.calendar.specs.rules.NarrowCalls.{narrow_refusal, narrow_act, goes_on}
 use Rattle.calendar.specs.facts.RangeFacts.{RecordRanges}
 use Rattle.calendar.specs.facts.Changes.{Found, put_found, take_ends, Settled, at_end, still_on, Walked, out, out_last, meets, Change, head_read}
 use Rattle.calendar.specs.facts.Changes.{mark_seen, passed, stopped, unlinked, again_3, prepared, linked, again_5, stored_6, on_7, stored_7, back_6}
@@ -27,20 +27,20 @@ use Rattle.calendar.specs.facts.RefusalParts.{own_of}
 use Rattle.calendar.specs.facts.NarrowAccepted.{narrow_accepted, narrow_passes}
 
 module _ (sh : Shape) (s : List ℕ) where
-  found_goes : {ws : List Write} {v : Worker} {o : Outcome} → Found sh s ws v o → still_on o.response ≡ in_progress o.worker
+  found_goes : {ws : List Write} {v : Worker} {o : Outcome} → Found sh s ws v o → goes_on o.response ≡ in_progress o.worker
   found_goes (put_found e) = refl
   found_goes (take_ends e) = refl
 
-  settled_goes : {ws : List Write} {v : Worker} {o : Outcome} → Settled sh s ws v o → still_on o.response ≡ in_progress o.worker
+  settled_goes : {ws : List Write} {v : Worker} {o : Outcome} → Settled sh s ws v o → goes_on o.response ≡ in_progress o.worker
   settled_goes (at_end e f) = found_goes f
   settled_goes (still_on e) = refl
 
-  walked_goes : {v : Worker} {o : Outcome} → Walked sh s v o → still_on o.response ≡ in_progress o.worker
+  walked_goes : {v : Worker} {o : Outcome} → Walked sh s v o → goes_on o.response ≡ in_progress o.worker
   walked_goes (out e f) = refl
   walked_goes (out_last e f) = refl
   walked_goes (meets e) = refl
 
-  pub change_goes : {w : Worker} {o : Outcome} → Change sh s w o → still_on o.response ≡ in_progress o.worker
+  pub change_goes : {w : Worker} {o : Outcome} → Change sh s w o → goes_on o.response ≡ in_progress o.worker
   change_goes (head_read a b) = settled_goes b
   change_goes (mark_seen a b) = refl
   change_goes (passed a b c d) = settled_goes d
@@ -67,7 +67,7 @@ module _ (sh : Shape) (s : List ℕ) where
   change_goes (back_13 a b) = refl
 
 pub rule_goes : (sh : Shape) (m : Memory) (a : Action) → RecordRanges sh (worker m.table (actor a)) → first_of (own_of sh m a) ≡ 0
-    → still_on (outcome sh m a).response ≡ in_progress (outcome sh m a).worker
+    → goes_on (outcome sh m a).response ≡ in_progress (outcome sh m a).worker
 unfolding enqueue_start dequeue_start
 rule_goes sh m (Enqueue i x) r e = refl
 rule_goes sh m (Dequeue i) r e = refl
@@ -75,7 +75,7 @@ rule_goes sh m (Step i) r e =
     change_goes sh m.store (step_is sh m.store (worker m.table i) (step_passed sh m.store (worker m.table i) e).0 r.stage)
 
 pub narrow_goes : (sh : Shape) (m : Memory) (a : Action) → narrow_refusal sh m a ≡ 0
-    → still_on (narrow_act sh m a).response ≡ in_progress (worker (narrow_act sh m a).memory.table (actor a))
+    → goes_on (narrow_act sh m a).response ≡ in_progress (worker (narrow_act sh m a).memory.table (actor a))
 unfolding narrow_act
 narrow_goes sh m a e =
     let A = narrow_accepted sh m a e in

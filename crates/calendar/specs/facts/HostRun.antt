@@ -21,7 +21,7 @@ use Rattle.laws.specs.Tests.{parts}
 use Rattle.calendar.specs.rules.Ranges.{store_in_range, table_in_range}
 use Rattle.calendar.specs.rules.Operations.{Memory, Result, act, run, responses}
 use Rattle.calendar.specs.rules.NarrowCalls.{turns_after, narrow_act, narrow_call, narrow_made, narrow_run, narrow_responses}
-use Rattle.calendar.specs.rules.HostHistory.{requested, host_run, host_answers, made_by, one_by_one_lem, counts, last_of_each, single}
+use Rattle.calendar.specs.rules.HostHistory.{requested, host_run, host_answers, made_by, one_by_one, counts, last_of_each, single}
 use Rattle.calendar.specs.rules.HostHistory.{action_of}
 use Rattle.calendar.specs.facts.Untouched.{SameSize, SameBeyond, act_same_size, act_same_beyond}
 use Rattle.calendar.specs.facts.Narrow.{narrow_same}
@@ -93,14 +93,14 @@ replied sh m (Narrow a n) S =
 stays_requested : (sh : Shape) (m : Memory) (q : Request) → StaysInRange sh m → StaysInRange sh (requested sh m q).memory
 stays_requested sh m q S = subst (λ n. StaysInRange sh n) (sym (replied sh m q S).memory) (stays_after sh m (made_by sh m q) S)
 
-pub host_memory : (sh : Shape) (m : Memory) (qs : List Request) → StaysInRange sh m → host_run sh m qs ≡ run sh m (one_by_one_lem sh m qs)
-unfolding host_run one_by_one_lem run
+pub host_memory : (sh : Shape) (m : Memory) (qs : List Request) → StaysInRange sh m → host_run sh m qs ≡ run sh m (one_by_one sh m qs)
+unfolding host_run one_by_one run
 host_memory sh m [] S = refl
 host_memory sh m (q ∷ qs) S =
     let n = (requested sh m q).memory in
     host_memory sh n qs (stays_requested sh m q S)
-    ∙ ap (λ k. run sh k (one_by_one_lem sh n qs)) (replied sh m q S).memory
-    ∙ sym (run_append sh m (made_by sh m q) (one_by_one_lem sh n qs))
+    ∙ ap (λ k. run sh k (one_by_one sh n qs)) (replied sh m q S).memory
+    ∙ sym (run_append sh m (made_by sh m q) (one_by_one sh n qs))
 
 -- responses in two parts: the last of the first part, and what lies behind it
 parted : (rs front rest before : List Response) (r : Response) (k : ℕ) → rs ≡ front ++ rest → length front ≡ k → front ≡ before ++ r ∷ []
@@ -112,14 +112,14 @@ parted rs front rest before r k split long e =
     )
 
 pub host_answers_lem : (sh : Shape) (m : Memory) (qs : List Request) → StaysInRange sh m
-    → host_answers sh m qs ≡ last_of_each (counts sh m qs) (responses sh m (one_by_one_lem sh m qs))
-unfolding host_answers one_by_one_lem counts
+    → host_answers sh m qs ≡ last_of_each (counts sh m qs) (responses sh m (one_by_one sh m qs))
+unfolding host_answers one_by_one counts
 host_answers_lem sh m [] S = refl
 host_answers_lem sh m (q ∷ qs) S =
     let R = replied sh m q S in
     let made = made_by sh m q in
     let n = (requested sh m q).memory in
-    let later = one_by_one_lem sh n qs in
+    let later = one_by_one sh n qs in
     let split = responses_append sh m made later ∙ ap (λ k. responses sh m made ++ responses sh k later) (sym R.memory) in
     let (first, behind) = parted (responses sh m (made ++ later)) (responses sh m made) (responses sh n later) R.before (requested sh m q).response
     (length made) split (length_responses sh m made) R.responses in
@@ -132,13 +132,13 @@ made_alone : (sh : Shape) (m : Memory) (a : Action) (n : ℕ) → n ≡ 0 → na
 unfolding narrow_made
 made_alone sh m a n e = rw e
 
-pub made_single : (sh : Shape) (m : Memory) (qs : List Request) → single qs ≡ true → one_by_one_lem sh m qs ≡ map action_of qs
-unfolding one_by_one_lem
+pub made_single : (sh : Shape) (m : Memory) (qs : List Request) → single qs ≡ true → one_by_one sh m qs ≡ map action_of qs
+unfolding one_by_one
 made_single sh m [] e = refl
 made_single sh m (Whole a ∷ qs) e = ap (λ h. a ∷ h) (made_single sh (act sh m a).memory qs e)
 made_single sh m (Narrow a n ∷ qs) e =
     let (none, rest) = parts (eqb n 0) (single qs) e in
-    ap (λ h. h ++ one_by_one_lem sh (narrow_call sh m a n).memory qs) (made_alone sh m a n (eqb-true n 0 none))
+    ap (λ h. h ++ one_by_one sh (narrow_call sh m a n).memory qs) (made_alone sh m a n (eqb-true n 0 none))
     ∙ ap (λ h. a ∷ h) (made_single sh (narrow_call sh m a n).memory qs rest)
 
 call_alone : (sh : Shape) (m : Memory) (a : Action) (n : ℕ) → n ≡ 0 → StaysInRange sh m → narrow_call sh m a n ≡ act sh m a

@@ -17,7 +17,7 @@ use Rattle.calendar.specs.rules.Starts.{enqueue_start, dequeue_start}
 use Rattle.calendar.specs.facts.Places.{length_write, word_inside, cell_inside, field_inside}
 use Rattle.calendar.specs.facts.Views.{AllInside}
 use Rattle.calendar.specs.facts.RangeFacts.{RecordRanges}
-use Rattle.calendar.specs.facts.Changes.{Found, put_found, take_ends, Settled, at_end, goes_on, Walked, out, out_last, meets, Change, head_read}
+use Rattle.calendar.specs.facts.Changes.{Found, put_found, take_ends, Settled, at_end, still_on, Walked, out, out_last, meets, Change, head_read}
 use Rattle.calendar.specs.facts.Changes.{mark_seen, passed, stopped, unlinked, again_3, prepared, linked, again_5, stored_6, on_7, stored_7, back_6}
 use Rattle.calendar.specs.facts.Changes.{current_read, first_read, mark_passed, newer, on_11, marked, back_10, advanced, back_12, emptied, back_13}
 
@@ -49,7 +49,7 @@ module _ (sh : Shape) (s : List ℕ) where
 
   pub settled_writes : {ws : List Write} {v : Worker} {o : Outcome} → Settled sh s ws v o → o.writes ≡ ws
   settled_writes (at_end e f) = found_writes f
-  settled_writes (goes_on e) = refl
+  settled_writes (still_on e) = refl
 
   pub walked_writes : {v : Worker} {o : Outcome} → Walked sh s v o → o.writes ≡ []
   walked_writes (out e f) = refl
@@ -97,7 +97,7 @@ module _ (sh : Shape) (s : List ℕ) where
 
   settled_said : {ws : List Write} {v : Worker} {o : Outcome} → Settled sh s ws v o → (said o.response).number ≡ 0
   settled_said (at_end e f) = found_said f
-  settled_said (goes_on e) = refl
+  settled_said (still_on e) = refl
 
   walked_said : {v : Worker} {o : Outcome} → Walked sh s v o → (said o.response).number ≡ 0
   walked_said (out e f) = refl

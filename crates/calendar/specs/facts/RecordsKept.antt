@@ -23,7 +23,7 @@ use Rattle.calendar.specs.rules.Refusals.{no_epoch}
 use Rattle.calendar.specs.facts.Views.{View, view, updates, AllInside, view_write_all}
 use Rattle.calendar.specs.facts.RangeFacts.{WordRanges, RecordRanges, record_ranges, record_tests_lem}
 use Rattle.calendar.specs.facts.Inside.{found_writes, settled_writes, walked_writes, enqueue_inside, dequeue_inside, change_inside}
-use Rattle.calendar.specs.facts.Changes.{Found, put_found, take_ends, Settled, at_end, goes_on, Walked, out, out_last, meets, Change, head_read}
+use Rattle.calendar.specs.facts.Changes.{Found, put_found, take_ends, Settled, at_end, still_on, Walked, out, out_last, meets, Change, head_read}
 use Rattle.calendar.specs.facts.Changes.{mark_seen, passed, stopped, unlinked, again_3, prepared, linked, again_5, stored_6, on_7, stored_7, back_6}
 use Rattle.calendar.specs.facts.Changes.{current_read, first_read, mark_passed, newer, on_11, marked, back_10, advanced, back_12, emptied, back_13}
 
@@ -135,7 +135,7 @@ module _ (sh : Shape) (s : List ℕ) where
 
   pub settled_same : {ws : List Write} {v : Worker} {o : Outcome} → Settled sh s ws v o → Same v o.worker
   settled_same (at_end q f) = found_same f
-  settled_same (goes_on n) = (refl, refl)
+  settled_same (still_on n) = (refl, refl)
 
   pub walked_same : {v : Worker} {o : Outcome} → Walked sh s v o → Same v o.worker
   walked_same (out e more) = (refl, refl)
@@ -148,7 +148,7 @@ module _ (sh : Shape) (s : List ℕ) where
 
   settled_ranged : {ws : List Write} {v : Worker} {o : Outcome} → Settled sh s ws v o → Fields sh v → RecordRanges sh o.worker
   settled_ranged (at_end q f) r = found_ranged f r
-  settled_ranged {v} (goes_on n) r =
+  settled_ranged {v} (still_on n) r =
       at_stage sh v 2 r (omega arith) (λ p q. absurd (omega arith)) (λ p q. absurd (omega arith)) (λ p. absurd (omega arith)) (λ p q. n)
       (λ p q. absurd (omega arith))
 

@@ -17,15 +17,15 @@ pub at_stage : ℕ → ℕ → Worker
 at_stage left k = record { stage = k; kind = 0; own = 0; bucket = 0; left = left; right = 2; seen = 0; current = 0; ticket = 1 }
 
 -- the nodes below n that a call stands on, the highest first
-pub stood_on_lem : Worker → ℕ → List ℕ
-stood_on_lem w zero = []
-stood_on_lem w (suc n) = cond (holds shape w n) (n ∷ stood_on_lem w n) (stood_on_lem w n)
+pub stood_on : Worker → ℕ → List ℕ
+stood_on w zero = []
+stood_on w (suc n) = cond (holds shape w n) (n ∷ stood_on w n) (stood_on w n)
 
 pub behind_node : ℕ → List ℕ
-behind_node k = stood_on_lem (at_stage (link_cell shape 1) k) 4
+behind_node k = stood_on (at_stage (link_cell shape 1) k) 4
 
 pub behind_head : ℕ → List ℕ
-behind_head k = stood_on_lem (at_stage 1 k) 4
+behind_head k = stood_on (at_stage 1 k) 4
 
 -- own at 1 to 7, left at 2 to 5, right at 2 to 5, 10 and 11
 pub stood_on_lem :
@@ -45,7 +45,7 @@ pub stood_on_lem :
     × (behind_node 13 ≡ [])
     × (behind_head 2 ≡ 2 ∷ 0 ∷ [])
     × (behind_head 5 ≡ 2 ∷ 0 ∷ [])
-unfolding behind_node behind_head stood_on_lem at_stage shape
+unfolding behind_node behind_head stood_on at_stage shape
 stood_on_lem = (refl, refl, refl, refl, refl, refl, refl, refl, refl, refl, refl, refl, refl, refl, refl, refl)
 
 -- the nodes whose arrival or epoch a turn looks at (OneWord) are among them

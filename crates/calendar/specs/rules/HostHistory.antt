@@ -1,7 +1,7 @@
 -- What a host asks of a pool, request by request, and what is promised of it.
 --     requested                          what one request leaves and answers
 --     host_run, host_answers               the memory after a list of requests, and their answers
---     made_by, one_by_one_lem, counts           the starts and turns that a request makes; those of a list, one by one; how many each request makes
+--     made_by, one_by_one, counts           the starts and turns that a request makes; those of a list, one by one; how many each request makes
 --     last_of_each                         of responses one by one, the last for each request
 --     single, action_of                   no request has turns behind it; its start or turn
 --     HostCorrect                        the promise
@@ -38,9 +38,9 @@ abbrev pub made_by : Shape → Memory → Request → List Action
 made_by sh m (Whole a) = a ∷ []
 made_by sh m (Narrow a n) = narrow_made sh m a n
 
-unfoldable pub one_by_one_lem : Shape → Memory → List Request → List Action
-one_by_one_lem sh m [] = []
-one_by_one_lem sh m (q ∷ qs) = made_by sh m q ++ one_by_one_lem sh (requested sh m q).memory qs
+unfoldable pub one_by_one : Shape → Memory → List Request → List Action
+one_by_one sh m [] = []
+one_by_one sh m (q ∷ qs) = made_by sh m q ++ one_by_one sh (requested sh m q).memory qs
 
 unfoldable pub counts : Shape → Memory → List Request → List ℕ
 counts sh m [] = []
@@ -64,19 +64,19 @@ action_of (Narrow a n) = a
 -- ── the promise ──
 pub record HostCorrect (sh : Shape) (m : Memory) (qs : List Request) : Type 0 where
   -- the memory is what the starts and turns of Operations leave, one by one;
-  pub memory : host_run sh m qs ≡ run sh m (one_by_one_lem sh m qs)
+  pub memory : host_run sh m qs ≡ run sh m (one_by_one sh m qs)
   -- each answer is the last of their responses to the request
-  pub answers : host_answers sh m qs ≡ last_of_each (counts sh m qs) (responses sh m (one_by_one_lem sh m qs))
+  pub answers : host_answers sh m qs ≡ last_of_each (counts sh m qs) (responses sh m (one_by_one sh m qs))
   -- without turns behind them, narrow or whole is all the same
   pub item_by_item : single qs ≡ true → (host_run sh m qs ≡ run sh m (map action_of qs)) × (host_answers sh m qs ≡ responses sh m (map action_of qs))
   -- and all of demand 3 holds of what the host did
-  pub correct : Correct sh (host_run sh m qs) (ledger sh m (one_by_one_lem sh m qs) new)
+  pub correct : Correct sh (host_run sh m qs) (ledger sh m (one_by_one sh m qs) new)
 
 -- P holds after any opening that is not refused and any list of requests, narrow ones and runs among them, read one by one
 abbrev pub HostAlways : (Shape → Memory → Ledger → Type 0) → Type 0
 HostAlways P =
     (sh : Shape) (m : Memory) → (open_pool sh m).response ≡ Opened → (qs : List Request) → let p = (open_pool sh m).memory in
-    P sh (host_run sh p qs) (ledger sh p (one_by_one_lem sh p qs) new)
+    P sh (host_run sh p qs) (ledger sh p (one_by_one sh p qs) new)
 
 -- DEMAND 3 FOR A HOST: after any opening that is not refused, any list of requests.
 unfoldable pub HostDemand3 : Type 0
