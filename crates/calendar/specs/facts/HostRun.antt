@@ -8,7 +8,7 @@
 --     host_single                                        and answered as those are
 --     host_same_size, host_same_beyond                   on any memory lengths stay, and what lies beyond
 -- Assumes nothing.
-use Rattle.std.specs.Prelude.{◌≡◌, refl, List, [], ◌∷◌, ◌++◌, map, true, ℕ, suc, ◌-◌, ◌+◌, eqb, length, get_or, drop}
+use Rattle.std.specs.Prelude.{◌≡◌, refl, List, [], ◌∷◌, ◌++◌, map, true, ℕ, suc, ◌-◌, eqb, length, get_or, drop}
 use Rattle.std.proofs.Common.{sym, ap, subst, ◌∙◌, append_assoc, arith, length-append, drop_at, eqb-true}
 use Rattle.std.proofs.Math.Seq.{get_or-append_seam}
 use Rattle.arrival.specs.declared.Shape.{Shape}

@@ -14,7 +14,6 @@ use Rattle.std.proofs.Math.ListN.{drop, set, get_or-append}
 use Rattle.std.proofs.lemmas.List.{set-append_left, drop-append-le}
 use borrow.Author.Tests.{eqb-true, le-ltb}
 use Rattle.arrival.specs.declared.Shape.{Shape}
-use Rattle.arrival.specs.declared.Item.{Item}
 use Rattle.arrival.specs.declared.Worker.{Worker}
 use Rattle.arrival.specs.Keys.{key_of}
 use Rattle.arrival.specs.declared.Action.{Action}

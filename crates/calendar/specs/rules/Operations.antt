@@ -2,7 +2,6 @@
 -- turns one after the other. Assumes nothing.
 use Rattle.std.specs.Prelude.{List, [], ◌∷◌, cond, ℕ, eqb, set}
 use Rattle.arrival.specs.declared.Shape.{Shape}
-use Rattle.arrival.specs.declared.Arrival.{Arrival}
 use Rattle.arrival.specs.declared.Worker.{Worker}
 use Rattle.arrival.specs.declared.Action.{Action}
 use Rattle.arrival.specs.declared.Action.TheVariants.{Enqueue, Dequeue, Step}
