@@ -1,4 +1,6 @@
 // The lent store by place: reading and writing one word. Only these functions know addresses.
+#![tactic(auto)]
+
 ghost use Rattle.std.specs.Prelude.{◌≡◌, ◌+◌, ◌-◌, ◌*◌, ◌<◌, ◌≤◌};
 ghost use Rattle.arrival.specs.Keys.{key_of};
 ghost use Rattle.calendar.specs.rules.Layout.{word, cell, field, layout, read, write, item_at};
