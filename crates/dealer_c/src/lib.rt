@@ -1,12 +1,12 @@
 // The dealer for C, `libdealer.a`: each export calls the function of its name, under the same clauses.
 #![tactic(auto)]
+
 ghost use Rattle.std.specs.Prelude.{◌≡◌, true, false};
 ghost use Rattle.wubraken.specs.Results.{lent};
 ghost use Rattle.dealer.specs.Dealing.{new_dealer, dealt, dealt_run};
 ghost use Rattle.dealer.specs.Answered.{hands, handed};
 
-use arrival::Shape;
-use arrival::Worker;
+use arrival::{Shape, Worker};
 use dealer::answers::Dealt;
 
 // What a new dealer remembers: the shape's last worker.

@@ -1,5 +1,6 @@
 // The decay for C, `libdecay.a`: each export calls the function of its name, under the same clauses.
 #![tactic(auto)]
+
 ghost use Rattle.std.specs.Prelude.{◌≡◌};
 ghost use Rattle.decay.specs.Decay.{early_decay, t20, level, decay_refusal, measured, curve_refusal, curve};
 

@@ -1,9 +1,9 @@
 // The echogram for C, `libechogram.a`: each export calls the function of its name, under the same clauses.
 #![tactic(auto)]
+
 ghost use Rattle.std.specs.Prelude.{◌≡◌};
 ghost use Rattle.echogram.specs.Row.{record_answer, recorded, clear_answer, cleared};
 ghost use Rattle.echogram.specs.Series.{recording, SeriesEnd, series};
-
 
 // Clears a row: every slot is 0. The answer is 0, or the number of the refusal.
 #[unsafe(no_mangle)]

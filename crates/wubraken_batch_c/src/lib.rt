@@ -1,10 +1,10 @@
 // The library's batches for C, `libwubraken_batch.a`: each export calls the function of its name, under the same clauses.
 #![tactic(auto)]
+
 ghost use Rattle.std.specs.Prelude.{◌≡◌};
 ghost use Rattle.wubraken_batch.specs.LentBatch.{account, batch_on};
 
-use arrival::Shape;
-use arrival::Worker;
+use arrival::{Shape, Worker};
 use wubraken_batch::batches::BatchEnd;
 
 // Works through a batch of turn-file bytes and writes the lines. The lent memory is looked at once, not for every record.

@@ -1,5 +1,6 @@
 // The library's single calls for C, `libwubraken.a`: each export calls the function of its name, under the same clauses.
 #![tactic(auto)]
+
 ghost use Rattle.std.specs.Prelude.{◌≡◌, cond};
 ghost use Rattle.arrival.specs.declared.Action.TheVariants.{Enqueue, Dequeue, Step};
 ghost use Rattle.calendar.specs.rules.Layout.{layout};
@@ -8,9 +9,7 @@ ghost use Rattle.calendar.specs.rules.Operations.{act, open_pool};
 ghost use Rattle.calendar.specs.rules.NarrowCalls.{narrow_call};
 ghost use Rattle.wubraken.specs.Results.{lent, leaves, told};
 
-use arrival::Arrival;
-use arrival::Shape;
-use arrival::Worker;
+use arrival::{Arrival, Shape, Worker};
 use wubraken::answers::Answer;
 
 // How many words to lend for a shape; 0 where it is outside its limits.
