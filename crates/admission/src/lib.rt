@@ -1,4 +1,6 @@
 // Refusals 1 to 4 and the ranges that 3 tests. Of 3 there is a flag: computed by a look at every field, or carried from record to record.
+#![tactic(auto)]
+
 ghost use Rattle.std.specs.Prelude.{◌≡◌, true};
 ghost use Rattle.calendar.specs.rules.Ranges.{shape_in_range};
 ghost use Rattle.calendar.specs.rules.Refusals.{short};

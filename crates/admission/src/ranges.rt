@@ -1,7 +1,8 @@
 // The ranges as tests: of the shape, of an arrival's fields, of the lent store, of one worker's record.
 ghost use Rattle.std.specs.Prelude.{◌≡◌, ◌+◌, ◌<◌, ◌≤◌};
 ghost use Rattle.laws.specs.Counting.{every};
-ghost use Rattle.calendar.specs.rules.Ranges.{shape_in_range, path_in_range, order_in_range, distance_in_range, head_in_range, node_in_range, words_in_range, store_in_range};
+ghost use Rattle.calendar.specs.rules.Ranges.{shape_in_range, path_in_range, order_in_range, distance_in_range};
+ghost use Rattle.calendar.specs.rules.Ranges.{head_in_range, node_in_range, words_in_range, store_in_range};
 ghost use Rattle.calendar.specs.rules.Ranges.{call_in_range, place_in_range, words_held_in_range, record_in_range};
 ghost use Rattle.calendar.specs.facts.RecordsKept.{links_in_range};
 ghost use Rattle.words.specs.Laid.{Laid};
