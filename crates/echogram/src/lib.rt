@@ -1,4 +1,6 @@
 // The echogram: a lent row of slots to which taken arrivals are added up, for C and Rust to call. It knows nothing of the pool.
+#![tactic(auto)]
+
 ghost use Rattle.std.specs.Prelude.{◌≡◌};
 ghost use Rattle.echogram.specs.Row.{record_answer, recorded, clear_answer, cleared};
 ghost use Rattle.echogram.specs.Series.{recording, SeriesEnd, series};
