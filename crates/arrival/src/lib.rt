@@ -8,7 +8,7 @@ pub mod spreading;
 
 // The shape of a pool: how many workers, nodes and buckets, and a bucket's width in samples.
 #[repr(C)]
-#[derive(Drop)]
+#[derive(Clone, Copy)]
 pub struct Shape {
     pub workers: u64,
     pub nodes: u64,
@@ -18,7 +18,7 @@ pub struct Shape {
 
 // What a tracer hands in: the time in samples, the path's number, the reflection order, the distance in metres.
 #[repr(C)]
-#[derive(Drop)]
+#[derive(Clone, Copy)]
 pub struct Arrival {
     pub time: u32,
     pub path: u32,
@@ -29,7 +29,7 @@ pub struct Arrival {
 // A worker's record. `left` is a cell (heads first, then node links), `right` a node or the end, `seen` the link word
 // seen, `current` the current word seen, `ticket` the call's place among all calls.
 #[repr(C)]
-#[derive(Drop)]
+#[derive(Clone, Copy)]
 pub struct Worker {
     pub stage: u64,
     pub kind: u64,
@@ -56,7 +56,7 @@ pub const IDLE_WORKER: Worker = Worker {
 };
 
 // An arrival with its ticket, as a queue holds it.
-#[derive(Drop)]
+#[derive(Clone, Copy)]
 pub struct Item {
     pub time: u64,
     pub path: u64,
@@ -66,7 +66,7 @@ pub struct Item {
 }
 
 // What an item's place in the order is read from.
-#[derive(Drop)]
+#[derive(Clone, Copy)]
 pub struct Key {
     pub time: u64,
     pub order: u64,
@@ -74,7 +74,7 @@ pub struct Key {
 }
 
 // What is done to an open pool: a put start, a take start or a turn, each of one worker.
-#[derive(Drop)]
+#[derive(Clone, Copy)]
 pub enum Action {
     Enqueue(u64, Arrival),
     Dequeue(u64),
@@ -82,14 +82,14 @@ pub enum Action {
 }
 
 // What a host asks of it: an action by a look at the whole of the lent memory; or a narrow one, with at most so many turns behind it.
-#[derive(Drop)]
+#[derive(Clone, Copy)]
 pub enum Request {
     Whole(Action),
     Narrow(Action, u64),
 }
 
 // What the pool answers. `Begun` and `Stored` carry the ticket, `Refused` the refusal's number.
-#[derive(Drop)]
+#[derive(Clone, Copy)]
 pub enum Response {
     Opened,
     Begun(u64),
