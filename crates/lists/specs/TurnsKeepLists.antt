@@ -94,7 +94,8 @@ module _ (sh : Shape) (s : List ℕ) (T : ℕ → Worker) (i : ℕ) (l : i < sh.
         own (with_stage 13 v) e (at_walk sh m ch v 13 take (omega arith) (λ a. walk) (λ a b. absurd (omega arith)) (λ a. absurd (omega arith))
         (λ a. absurd (omega arith)))
     walked_keeps {v} (meets q) e take walk right =
-        own (with_stage 10 v) e (at_walk sh m ch v 10 take (omega arith) (λ a. walk) (λ a b. node right) (λ a. absurd (omega arith)) (λ a. absurd (omega arith)))
+        own (with_stage 10 v) e
+        (at_walk sh m ch v 10 take (omega arith) (λ a. walk) (λ a b. node right) (λ a. absurd (omega arith)) (λ a. absurd (omega arith)))
       where
         node : Right sh m ch v → Stands sh m ch v.ticket v.bucket v.right
         node (inl e) = absurd (q e)

@@ -80,7 +80,8 @@ module _ (sh : Shape) (s : List ℕ) where
       → (not (is_marked (link sh s n)) && same_item (item_at sh s n) x) ≡ true
   holds_is x n c e = rw (ne_eqb (link sh s n % 2) 1 (λ q. omega arith)) (subst (λ y. same_item (item_at sh s n) y ≡ true) e (item_same (item_at sh s n)))
 
-  pub unmarked_none : (x : Item) (ns : List ℕ) → ((n : ℕ) → In n ns → (view sh s).cells (sh.buckets + n) % 2 ≡ 0 → item_at sh s n ≢ x) → unmarked_of sh s x ns ≡ 0
+  pub unmarked_none : (x : Item) (ns : List ℕ) → ((n : ℕ) → In n ns → (view sh s).cells (sh.buckets + n) % 2 ≡ 0 → item_at sh s n ≢ x)
+      → unmarked_of sh s x ns ≡ 0
   unfolding unmarked_of
   unmarked_none x [] h = refl
   unmarked_none x (n ∷ ns) h = rw (holds_not x n (h n (Memᴰ.head refl)), unmarked_none x ns (λ m i. h m (Memᴰ.tail i)))

@@ -98,7 +98,13 @@ module _ (sh : Shape) (s : List ℕ) where
 
     found_worth : {ws : List Write} {v : Worker} {o : Outcome} → v.kind ≡ w.kind → Found sh s ws v o → Worth w t t o
     found_worth {v} k (put_found z) =
-        omega (arith, linked_low w (omega arith), linked_low (with_stage 4 v) (omega arith), marked_put w (sym k ∙ z), marked_high (with_stage 4 v) (omega arith))
+        omega (
+          arith,
+          linked_low w (omega arith),
+          linked_low (with_stage 4 v) (omega arith),
+          marked_put w (sym k ∙ z),
+          marked_high (with_stage 4 v) (omega arith),
+        )
     found_worth {v} k (take_ends n) =
         omega (arith, linked_low w (omega arith), linked_low (with_stage 0 v) (omega arith), marked_on w (other kinds) a b, marked_idle (with_stage 0 v) refl)
       where
