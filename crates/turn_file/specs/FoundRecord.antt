@@ -74,7 +74,8 @@ enough s at known room =
 pub refused_by : (s : List ℕ) (at k : ℕ) → record_at s at ≡ Refused k → (k ≡ 7) ⊎ (k ≡ 8)
 unfolding record_at marked_at
 refused_by s at k =
-    go (leb (length s) at) (leb (length s) (at + 1)) (eqb (size_of (two_at s at)) 0) (ltb (length s) (at + size_of (two_at s at))) (fields_at s at (two_at s at))
+    go (leb (length s) at) (leb (length s) (at + 1)) (eqb (size_of (two_at s at)) 0) (ltb (length s) (at + size_of (two_at s at)))
+    (fields_at s at (two_at s at))
     (at + size_of (two_at s at))
   where
     go : (a b c d : Bool) (r : Record) (next : ℕ) → cond a End (cond b (Refused 8) (cond c (Refused 7) (cond d (Refused 8) (whole r next)))) ≡ Refused k

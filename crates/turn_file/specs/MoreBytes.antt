@@ -7,7 +7,8 @@
 --     cut_short                             a cut record is shorter than any record can be
 -- Assumes nothing.
 use Rattle.std.specs.Prelude.{◌≡◌, refl, List, ◌++◌, Bool, true, false, cond, ◌⊎◌, ℕ, ◌+◌, ◌-◌, ◌<◌, ◌≤◌, eqb, leb, ltb, length, drop}
-use Rattle.std.proofs.Common.{sym, ap, ◌∙◌, inl, inr, arith, length-append, length-drop, eqb-true, leb-true, leb-false, ltb-true, le-leb, eq-eqb, ne_eqb, lt-ltb}
+use Rattle.std.proofs.Common.{sym, ap, ◌∙◌, inl, inr, arith, length-append, length-drop}
+use Rattle.std.proofs.Common.{eqb-true, leb-true, leb-false, ltb-true, le-leb, eq-eqb, ne_eqb, lt-ltb}
 use Rattle.std.proofs.Math.ListN.{get_or-append}
 use Rattle.std.proofs.lemmas.Bool.{lt-leb}
 use Rattle.turn_file.specs.declared.Read.TheVariants.{End, Refused}
@@ -60,7 +61,8 @@ Cut s at = (length s ≡ at + 1) ⊎ ((at + 1 < length s) × (length s < at + si
 pub at_end : (s : List ℕ) (at : ℕ) → record_at s at ≡ End → length s ≤ at
 unfolding record_at marked_at
 at_end s at =
-    go (leb (length s) at) refl (leb (length s) (at + 1)) (eqb (size_of (two_at s at)) 0) (ltb (length s) (at + size_of (two_at s at))) (fields_at s at (two_at s at))
+    go (leb (length s) at) refl (leb (length s) (at + 1)) (eqb (size_of (two_at s at)) 0) (ltb (length s) (at + size_of (two_at s at)))
+    (fields_at s at (two_at s at))
     (at + size_of (two_at s at))
   where
     go : (a : Bool) → leb (length s) at ≡ a → (b c d : Bool) (r : Record) (next : ℕ)

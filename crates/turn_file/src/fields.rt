@@ -27,6 +27,7 @@ pub fn four_at(bytes: &[u8], at: usize) -> u64
 }
 
 // The shape in an `OP` record that starts at `at`.
+#[tactic(auto, unfolding(crate::specs::Fields::shape_at))]
 pub fn shape_at(bytes: &[u8], at: usize) -> Shape
     requires { at + 9 ≤ length bytes.now }
     ensures { result ≡ shape_at bytes.now at }
@@ -40,6 +41,7 @@ pub fn shape_at(bytes: &[u8], at: usize) -> Shape
 }
 
 // The arrival in a `PU` record that starts at `at`.
+#[tactic(auto, unfolding(crate::specs::Fields::arrival_at))]
 pub fn arrival_at(bytes: &[u8], at: usize) -> Arrival
     requires { at + 12 ≤ length bytes.now }
     ensures { result ≡ arrival_at bytes.now at }
