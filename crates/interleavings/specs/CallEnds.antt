@@ -7,7 +7,7 @@
 -- Assumes nothing.
 use Rattle.std.specs.Prelude.{◌≡◌, refl, ◌≢◌, ◌⊎◌, ℕ, ◌+◌, ◌/◌, ◌%◌, ◌≤◌, ◌<◌}
 use Rattle.std.proofs.Common.{sym, ap, ◌∙◌, subst, inl, inr, arith}
-use Rattle.std.proofs.Math.Option.{none, some, none-ne-some, some-injective}
+use Rattle.std.proofs.Math.Option.{some, none-ne-some, some-injective}
 use mathlib.Core.List.Memᴰ.{append_cases as mem-append}
 use mathlib.Core.List.Memᴰ.{head as here}
 use mathlib.Core.List.Memᴰ.{tail as there}
@@ -25,7 +25,7 @@ use Rattle.order.specs.RealTime.{ended, Hist, ticket_of_lem, pairs_snoc}
 use Rattle.order.specs.Scans.{Alike, alike_sym, alike_run, alike_mem, alike_unscan, unscan}
 use Rattle.order.specs.OrderAfterMark.{Inv as Orderly, inv_unscan}
 use Rattle.order.specs.Appending.{Ends, Past, inv_end, inv_enqueue, inv_empty, unscan_mem, walked_out}
-use Rattle.order.specs.Calls.{Call, Apart, scans, scans_unscan}
+use Rattle.order.specs.Calls.{Call, Apart, scans_unscan}
 use Rattle.order.specs.EntriesAfterMark.{alike_distinct, alike_call, scans_in, scans_out}
 use Rattle.lists.specs.Chain.{In}
 use Rattle.lists.specs.LinkInvariant.{Chains, home, Safe}
@@ -174,6 +174,7 @@ module _ (sh : Shape) (wd : 0 < sh.width) (m : View) (ch : Chains) (T : ℕ → 
     mem_snoc : (L : Order K) (e f : Entry K) → Mem e L ⊎ Mem e (f ∷ []) → Mem e L ⊎ (e ≡ f)
     mem_snoc L e f (inl j) = inl j
     mem_snoc L e f (inr (here h)) = inr h
+    mem_snoc L e f (inr (there m)) = elim m [ ]
 
     -- it has not: its entry is set to the end
     pub stored_clean : Clean sh wd m (T i).own
@@ -201,6 +202,7 @@ module _ (sh : Shape) (wd : 0 < sh.width) (m : View) (ch : Chains) (T : ℕ → 
         scan_old : (v : ℕ) → Mem (scan v) g.order ⊎ Mem {A = Entry K} (scan v) (enqueue y ∷ []) → Mem (scan v) g.order
         scan_old v (inl j) = j
         scan_old v (inr (here e)) = absurd (let z : ◌≡◌ {A = ℕ} 0 1 = cc in omega arith)
+        scan_old v (inr (there m)) = elim m [ ]
 
         from' : (q : Element K) → Mem q (y ∷ run [] g.order) → (n : ℕ) × Holds sh wd m ch (bucket q) q n
         from' q (here e) = ((T i).own, record { inside = rw (e, at_home) (inside k); clean = k; key = ap (λ (z : Element K). z.it) (sym e) })
@@ -262,7 +264,9 @@ module _ (sh : Shape) (wd : 0 < sh.width) (m : View) (ch : Chains) (T : ℕ → 
       scan_new : (v : ℕ) → Mem (scan v) (unscan g.order i) ⊎ Mem {A = Entry K} (scan v) (empty (T i).ticket ∷ []) → Mem (scan v) (unscan g.order i)
       scan_new v (inl j) = j
       scan_new v (inr (here f)) = absurd (let z : ◌≡◌ {A = ℕ} 0 1 = cc in omega arith)
+      scan_new v (inr (there m)) = elim m [ ]
 
       new : (f : Entry K) → Call f → Mem f (unscan g.order i) ⊎ Mem f (empty (T i).ticket ∷ []) → Mem f g.order ⊎ (f ≡ empty (T i).ticket)
       new f c (inl j) = inl (alike_call (alike_sym (alike_unscan g.order i)) f c j)
       new f c (inr (here h)) = inr h
+      new f c (inr (there m)) = elim m [ ]

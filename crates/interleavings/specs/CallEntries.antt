@@ -11,7 +11,7 @@ use Rattle.std.proofs.Common.{sym, ap, ◌∙◌, subst, inl, inr, pos_of_ne-zer
 use Rattle.std.proofs.Math.Option.{none, some, none-ne-some, some-injective}
 use mathlib.Core.List.Memᴰ.{head as here}
 use mathlib.Core.List.Memᴰ.{tail as there}
-use mathlib.Core.List.{◌∷◌, Memᴰ as Mem}
+use mathlib.Core.List.{[], ◌∷◌, Memᴰ as Mem}
 use Rattle.arrival.specs.declared.Shape.{Shape}
 use Rattle.arrival.specs.declared.Item.{Item}
 use Rattle.arrival.specs.declared.Worker.{Worker}
@@ -22,7 +22,7 @@ use Rattle.calendar.specs.rules.Operations.{Memory}
 use Rattle.calendar.specs.rules.Ledger.{Ledger}
 use Rattle.calendar.specs.rules.Linearizability.{Finished, InProgress}
 use Rattle.calendar.specs.facts.Views.{View, view, item_in}
-use Rattle.order.specs.Entries.{Keys, Element, Entry, enqueue, dequeue, empty, scan, Order, ticket}
+use Rattle.order.specs.Entries.{Keys, Element, Entry, enqueue, dequeue, empty, scan, Order}
 use Rattle.order.specs.RealTime.{End, running, ended, ticket_of_lem}
 use Rattle.order.specs.Scans.{running_ended}
 use Rattle.order.specs.Calls.{Call, Distinct}
@@ -33,6 +33,7 @@ use Rattle.interleavings.specs.AlongHistory.{Followed}
 
 -- two entries of one ticket are one
 pub one_entry : {K : Keys} (L : Order K) (e f : Entry K) → Distinct L → Mem e L → Mem f L → Call e → Call f → ticket_of_lem e ≡ ticket_of_lem f → e ≡ f
+one_entry [] e f D m _ a b t = elim m [ ]
 one_entry (g ∷ L) e f D (here p) (here q) a b t = p ∙ sym q
 one_entry (g ∷ L) e f D (here p) (there q) a b t = absurd (D.0 f q (subst Call p a) b (ap ticket_of_lem (sym p) ∙ t))
 one_entry (g ∷ L) e f D (there p) (here q) a b t = absurd (D.0 e p (subst Call q b) a (ap ticket_of_lem (sym q) ∙ sym t))

@@ -14,7 +14,7 @@ use Rattle.calendar.specs.rules.Layout.{Write}
 use Rattle.calendar.specs.rules.Outcome.{Outcome}
 use Rattle.calendar.specs.rules.DequeueSteps.{link_holds}
 use Rattle.calendar.specs.facts.Views.{view, updates, item_in}
-use Rattle.calendar.specs.facts.Changes.{Found, put_found, take_ends, Settled, at_end, goes_on, Walked, out, out_last, meets, Change, head_read, mark_seen}
+use Rattle.calendar.specs.facts.Changes.{Found, put_found, take_ends, Settled, at_end, still_on, Walked, out, out_last, meets, Change, head_read, mark_seen}
 use Rattle.calendar.specs.facts.Changes.{passed, stopped, unlinked, again_3, prepared, linked, again_5, stored_6, on_7, stored_7, back_6, current_read}
 use Rattle.calendar.specs.facts.Changes.{first_read, mark_passed, newer, on_11, marked, back_10, advanced, back_12, emptied, back_13}
 
@@ -81,7 +81,7 @@ module _ (sh : Shape) (s : List ℕ) where
   settled_answer : {ws : List Write} {v : Worker} {o : Outcome} (w : Worker) → v.kind ≡ w.kind → 1 ≤ w.stage → w.stage ≤ 3 → Settled sh s ws v o
       → Answered w o.response
   settled_answer w k a b (at_end q f) = found_answer w k a b f
-  settled_answer w k a b (goes_on q) = tt
+  settled_answer w k a b (still_on q) = tt
 
   walked_answer : {v : Worker} {o : Outcome} (w : Worker) → Walked sh s v o → Answered w o.response
   walked_answer w (out e f) = tt
@@ -90,11 +90,11 @@ module _ (sh : Shape) (s : List ℕ) where
 
   settled_sub : {ws : List Write} {v : Worker} {o : Outcome} → Settled sh s ws v o → Sub v ws o
   settled_sub (at_end q f) = found_sub f
-  settled_sub (goes_on q) = record { ticket = refl; kind = refl; own = refl; writes = refl; goes_on = λ q z. omega arith }
+  settled_sub (still_on q) = record { ticket = refl; kind = refl; own = refl; writes = refl; goes_on = λ q z. omega arith }
 
   settled_stage : {ws : List Write} {v : Worker} {o : Outcome} → Settled sh s ws v o → o.worker.stage ≤ 4
   settled_stage (at_end q f) = found_stage f
-  settled_stage (goes_on q) = omega arith
+  settled_stage (still_on q) = omega arith
 
   walked_sub : {v : Worker} {o : Outcome} → Walked sh s v o → Sub v [] o
   walked_sub (out e f) = record { ticket = refl; kind = refl; own = refl; writes = refl; goes_on = λ q z. omega arith }

@@ -42,6 +42,7 @@ module _ (sh : Shape) (wd : 1 ≤ sh.width) where
   tickets (scan v ∷ L) = tickets L
 
   tickets_in : (L : Order (keys sh wd)) (e : Entry (keys sh wd)) → Call e → Mem e L → Mem (ticket_of_lem e) (tickets L)
+  tickets_in [] e c m = elim m [ ]
   tickets_in (enqueue x ∷ L) e c (here p) = here (ap ticket_of_lem p)
   tickets_in (dequeue z d ∷ L) e c (here p) = here (ap ticket_of_lem p)
   tickets_in (empty d ∷ L) e c (here p) = here (ap ticket_of_lem p)
@@ -52,6 +53,7 @@ module _ (sh : Shape) (wd : 1 ≤ sh.width) where
   tickets_in (scan v ∷ L) e c (there p) = tickets_in L e c p
 
   tickets_out : (L : Order (keys sh wd)) (n : ℕ) → Mem n (tickets L) → (e : Entry (keys sh wd)) × Mem e L × Call e × (ticket_of_lem e ≡ n)
+  tickets_out [] n p = elim p [ ]
   tickets_out (enqueue x ∷ L) n (here p) = (enqueue x, here refl, tt, sym p)
   tickets_out (enqueue x ∷ L) n (there p) = let (e, m, c, t) = tickets_out L n p in (e, there m, c, t)
   tickets_out (dequeue z d ∷ L) n (here p) = (dequeue z d, here refl, tt, sym p)
@@ -109,7 +111,8 @@ module _ (sh : Shape) (wd : 1 ≤ sh.width) where
     -- the answer of a finished call is its entry's
     module _ (W : Order (keys sh wd)) (D : Distinct W)
         (finished : (c s : ℕ) → g.hist.end c ≡ ended s → Mem (g.said c) W × Call (g.said c) × (ticket_of_lem (g.said c) ≡ c)) where
-      said_is : (e : Entry (keys sh wd)) → Call e → Mem e W → Finished M (ticket_of_lem e) → Same sh wd e (M.response (ticket_of_lem e)) (M.marked (ticket_of_lem e))
+      said_is : (e : Entry (keys sh wd)) → Call e → Mem e W → Finished M (ticket_of_lem e)
+          → Same sh wd e (M.response (ticket_of_lem e)) (M.marked (ticket_of_lem e))
       said_is e c m (s, q) =
           let h = end_known (g.hist.end (ticket_of_lem e)) s (sym (A.finish (ticket_of_lem e)) ∙ q) in
           let (k, b, t) = finished (ticket_of_lem e) s h in

@@ -12,11 +12,10 @@ use Rattle.arrival.specs.declared.Worker.{Worker}
 use Rattle.laws.specs.Tests.{upd_other, upd_cases}
 use Rattle.calendar.specs.rules.Layout.{cell, field}
 use Rattle.calendar.specs.facts.Views.{View, update}
-use Rattle.order.specs.Entries.{Keys, Element, scan, ticket, bucket, run}
+use Rattle.order.specs.Entries.{Keys, Element, scan, bucket, run}
 use Rattle.order.specs.RealTime.{running, ended}
-use Rattle.order.specs.Scans.{right, running_ended}
+use Rattle.order.specs.Scans.{running_ended}
 use Rattle.order.specs.OrderAfterMark.{Inv as Orderly}
-use Rattle.order.specs.Calls.{scans}
 use Rattle.order.specs.Appending.{inv_shift}
 use Rattle.lists.specs.Chain.{In, insert_at, remove_at, in_insert, in_remove}
 use Rattle.lists.specs.LinkInvariant.{Chains, set_chain, set_cases, Lists, Linking, Unlinking, unlinked, edge, link_in, un_in}

@@ -11,18 +11,19 @@ use Rattle.std.proofs.Common.{sym, ap, ◌∙◌, subst, inl, inr, arith}
 use mathlib.Core.List.Memᴰ.{append_cases as mem-append}
 use mathlib.Core.List.Memᴰ.{append_left as mem-left}
 use mathlib.Core.List.Memᴰ.{head as here}
+use mathlib.Core.List.Memᴰ.{tail as there}
 use mathlib.Core.List.{[], ◌∷◌, ◌++◌, append-nil, Memᴰ as Mem}
 use Rattle.std.proofs.Math.Decide.{ℕ_discrete}
 use Rattle.arrival.specs.declared.Shape.{Shape}
 use Rattle.arrival.specs.declared.Worker.{Worker}
 use Rattle.laws.specs.Tests.{upd_same, upd_other, upd_cases}
 use Rattle.calendar.specs.facts.Views.{View}
-use Rattle.order.specs.Entries.{Keys, Element, Entry, enqueue, dequeue, empty, scan, Order, ticket, bucket, run}
+use Rattle.order.specs.Entries.{Keys, Element, Entry, enqueue, dequeue, empty, scan, Order, bucket, run}
 use Rattle.order.specs.RealTime.{running, ended, Hist, ticket_of_lem}
 use Rattle.order.specs.Scans.{Alike, nil, right, alike_append, alike_refl, alike_sym, alike_run, alike_mem, alike_unscan, unscan, running_ended}
 use Rattle.order.specs.OrderAfterMark.{Inv as Orderly, inv_unscan}
 use Rattle.order.specs.Appending.{Ends, inv_scan, unscan_mem}
-use Rattle.order.specs.Calls.{Call, Distinct, scans, scans_unscan}
+use Rattle.order.specs.Calls.{Call, Distinct, scans_unscan}
 use Rattle.order.specs.EntriesAfterMark.{alike_distinct, alike_call, scans_in, scans_out}
 use Rattle.lists.specs.Chain.{In}
 use Rattle.lists.specs.LinkInvariant.{Chains, home}
@@ -155,6 +156,7 @@ module _ (sh : Shape) (wd : 0 < sh.width) (m : View) (ch : Chains) (T : ℕ → 
       out : (v : ℕ) → v ≢ i → Mem (scan v) (unscan g.order i) ⊎ Mem {A = Entry K} (scan v) (scan i ∷ []) → Mem (scan v) g.order
       out v u (inl j) = scans_out v g.order (omega (arith, scans_unscan v i g.order u, scans_in v (unscan g.order i) j))
       out v u (inr (here e)) = absurd (u (let z : v ≡ i = cc in z))
+      out v u (inr (there m)) = elim m [ ]
 
 -- ── a call ends ──
 abbrev pub over : Hist → ℕ → ℕ → ℕ → Hist

@@ -42,10 +42,12 @@ module _ (sh : Shape) (wd : 1 ≤ sh.width) where
   items (p ∷ S) = p.it ∷ items S
 
   items_in : (S : Q (keys sh wd)) (x : Item) → Mem x (items S) → (p : Element (keys sh wd)) × Mem p S × (p.it ≡ x)
+  items_in [] x m = elim m [ ]
   items_in (p ∷ S) x (here e) = (p, here refl, sym e)
   items_in (p ∷ S) x (there i) = let (q, j, e) = items_in S x i in (q, there j, e)
 
   in_items : (S : Q (keys sh wd)) (p : Element (keys sh wd)) → Mem p S → Mem p.it (items S)
+  in_items [] p m = elim m [ ]
   in_items (q ∷ S) p (here e) = here (ap (λ (u : Element (keys sh wd)). u.it) e)
   in_items (q ∷ S) p (there i) = there (in_items S p i)
 

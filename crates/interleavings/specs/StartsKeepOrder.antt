@@ -20,9 +20,8 @@ use Rattle.calendar.specs.facts.Views.{View, update, item_in}
 use Rattle.order.specs.Entries.{Keys, Element, Entry, enqueue, dequeue, empty, scan, ticket, bucket, run}
 use Rattle.order.specs.RealTime.{running}
 use Rattle.order.specs.Scans.{running_ended}
-use Rattle.order.specs.Calls.{scans}
 use Rattle.lists.specs.Chain.{In}
-use Rattle.lists.specs.LinkInvariant.{Chains, unlinked}
+use Rattle.lists.specs.LinkInvariant.{Chains}
 use Rattle.lists.specs.AllCalls.{Live, with_record}
 use Rattle.lists.specs.Filling.{filled, Free, key_same, not_in, not_safe}
 use Rattle.lists.specs.StartsKeepLists.{inv_dequeue, inv_enqueue, inv_open, here_key}

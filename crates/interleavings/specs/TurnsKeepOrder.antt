@@ -8,6 +8,7 @@ use Rattle.std.proofs.Common.{sym, ap, ◌∙◌, subst, inl, inr, arith, eqb-tr
 use mathlib.Core.List.Memᴰ.{append_cases as mem-append}
 use mathlib.Core.List.Memᴰ.{append_right as mem-right}
 use mathlib.Core.List.Memᴰ.{head as here}
+use mathlib.Core.List.Memᴰ.{tail as there}
 use mathlib.Core.List.{List, [], ◌∷◌, ◌++◌, Memᴰ as Mem}
 use Rattle.arrival.specs.declared.Shape.{Shape}
 use Rattle.arrival.specs.declared.Worker.{Worker}
@@ -24,7 +25,7 @@ use Rattle.calendar.specs.rules.DequeueSteps.{node_is_marked, link_holds, mark_n
 use Rattle.calendar.specs.rules.Refusals.{no_epoch}
 use Rattle.calendar.specs.facts.Views.{View, view, update, updates, item_in}
 use Rattle.calendar.specs.facts.Inside.{found_writes, settled_writes, walked_writes}
-use Rattle.calendar.specs.facts.Changes.{Found, put_found, take_ends, Settled, at_end, goes_on, Walked, out, out_last, meets, Change, head_read, mark_seen}
+use Rattle.calendar.specs.facts.Changes.{Found, put_found, take_ends, Settled, at_end, still_on, Walked, out, out_last, meets, Change, head_read, mark_seen}
 use Rattle.calendar.specs.facts.Changes.{passed, stopped, unlinked, again_3, prepared, linked, again_5, stored_6, on_7, stored_7, back_6, current_read}
 use Rattle.calendar.specs.facts.Changes.{first_read, mark_passed, newer, on_11, marked, back_10, advanced, back_12, emptied, back_13}
 use Rattle.order.specs.Entries.{Keys, Element, Entry, enqueue, dequeue, empty, scan, run}
@@ -136,7 +137,7 @@ module _ (sh : Shape) (wd : 1 ≤ sh.width) (s : List ℕ) (T : ℕ → Worker) 
 
       settled_share : {ws : List Write} {o : Outcome} (k left right seen : ℕ) → Settled sh s ws (at_search k left right seen) o → Share m ch o
       settled_share k left right seen (at_end q f) = found_share k left right seen f
-      settled_share {ws} k left right seen (goes_on q) = searching ws 2 left right seen (omega arith) (omega arith) (λ z. omega arith)
+      settled_share {ws} k left right seen (still_on q) = searching ws 2 left right seen (omega arith) (omega arith) (λ z. omega arith)
 
   -- ── a put is stored, over any view ──
   stored : (m : View) (ch : Chains) (P : Inv sh m ch T) (O : Ord sh wd m ch T g) (a : 6 ≤ (T i).stage) (b : (T i).stage ≤ 7) → m.started ≡ (view sh s).started
@@ -268,6 +269,7 @@ module _ (sh : Shape) (wd : 1 ≤ sh.width) (s : List ℕ) (T : ℕ → Worker) 
     old : (f : Entry (keys sh wd)) → Call f → Mem f (unscan g.order i) ⊎ Mem f (scan i ∷ []) → Mem f g.order
     old f c (inl j) = alike_call (alike_sym (alike_unscan g.order i)) f c j
     old f c (inr (here e)) = absurd (subst Call e c)
+    old f c (inr (there m)) = elim m [ ]
 
     -- the record of a walk whose scan is set anew, over any current
     scanning : (v : ℕ) (w' : Worker) → w'.stage ≡ 9 → w'.ticket ≡ (T i).ticket → w'.kind ≡ 1 → w'.current ≡ v → 8 ≤ (T i).stage
@@ -391,8 +393,8 @@ module _ (sh : Shape) (wd : 1 ≤ sh.width) (s : List ℕ) (T : ℕ → Worker) 
         (omega arith) in
         let m' : View = updates (prepare sh s (T i)) m₀ in (
           _,
-          quiet sh wd m' ch T g (own_written sh wd m₀ ch T g P O i l a p (2 * (T i).right) (own_epoch sh s)) i (with_stage 5 (with_current (current sh s) (T i)))
-              (λ z c h. absurd (omega (arith, h.hi))) (λ j. absurd (omega (arith, (O.whole.scans i j).1)))
+          quiet sh wd m' ch T g (own_written sh wd m₀ ch T g P O i l a p (2 * (T i).right) (own_epoch sh s)) i
+              (with_stage 5 (with_current (current sh s) (T i))) (λ z c h. absurd (omega (arith, h.hi))) (λ j. absurd (omega (arith, (O.whole.scans i j).1)))
               (unlinked_part m' a (λ c t e h. rw (upd_same (T i).own (T i).own (own_epoch sh s) (m₀.epoch (T i).own) refl) (O.whole.lates c t e))
               (current sh s)),
           (refl, refl, refl),

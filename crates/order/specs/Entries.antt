@@ -1,7 +1,7 @@
 -- The plain queue as a list of elements, the entries of the order, and the walks through it.
 --     Keys, Element, Entry, Q, Order                                   elements with their laws, entries, queues and orders
 --     keep                                                             a list with one more element, or not
---     _≺_, ticket, bucket, bucket_up, irrefl, trans                    the order of elements
+--     ◌≺◌, ticket, bucket, bucket_up, irrefl, trans                    the order of elements
 --     same?, below?, at_most_below                                     it is decided; what is at most an element below x is below x
 --     without, without_yes, without_no, without_comm                   a queue without an element
 --     mem_without, without_mem                                         who is in it

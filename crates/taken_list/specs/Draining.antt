@@ -2,7 +2,7 @@
 -- L is the ledger at the place, M the ledger later.
 --     drained_from     the promise, from what is known of both
 -- Assumes nothing.
-use Rattle.std.specs.Prelude.{◌≡◌, refl, ◌≢◌, ◌⊎◌, ℕ, suc, ◌+◌, ◌≤◌, ◌<◌, eqb, length}
+use Rattle.std.specs.Prelude.{◌≡◌, refl, ◌≢◌, ◌⊎◌, ℕ, suc, ◌+◌, ◌≤◌, ◌<◌, length}
 use Rattle.std.proofs.Common.{sym, ap, ◌∙◌, subst, inl, inr, arith}
 use Rattle.std.proofs.Math.Option.{some}
 use mathlib.Core.List.Memᴰ
@@ -12,9 +12,8 @@ use Rattle.arrival.specs.declared.Item.{Item}
 use Rattle.arrival.specs.Keys.{bucket_of}
 use Rattle.arrival.specs.Queue.{enqueue, dequeue, Items, dequeued}
 use Rattle.arrival.specs.QueueLaws.{drained, drained_in, Told, in_drained}
-use Rattle.laws.specs.Tests.{never, parts, within, is_not}
+use Rattle.laws.specs.Tests.{never}
 use Rattle.laws.specs.Lists.{words_in, Once, once_front, once_behind}
-use Rattle.calendar.specs.rules.Ranges.{worker}
 use Rattle.calendar.specs.rules.Operations.{Memory}
 use Rattle.calendar.specs.rules.Ledger.{Ledger}
 use Rattle.calendar.specs.rules.Snapshot.{unmarked_of}

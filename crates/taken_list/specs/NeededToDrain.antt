@@ -10,7 +10,7 @@ use mathlib.Core.List.{List, [], ◌∷◌, ◌++◌, Memᴰ}
 use Rattle.std.proofs.Math.Option.{none, some}
 use Rattle.arrival.specs.declared.Item.{Item}
 use Rattle.arrival.specs.declared.Action.{Action}
-use Rattle.arrival.specs.declared.Response.TheVariants.{Stored, Empty}
+use Rattle.arrival.specs.declared.Response.TheVariants.{Empty}
 use Rattle.arrival.specs.Keys.{lower, bucket_of}
 use Rattle.arrival.specs.Energy.{energy_of}
 use Rattle.arrival.specs.Queue.{dequeue, Reply, dequeued, taken}
@@ -80,10 +80,10 @@ going_on_run :
     × ((afterwards beginning going_on).ended 2 ≡ some 2)
     × (pool_reply (afterwards beginning going_on) 2 ≡ dequeued (some (item 7 1)))
     × TakesInTurn 1 (afterwards beginning going_on)
-unfolding seen item beginning going_on one_bucket start arrival turns put take lent address read write every blank store_in_range table_in_range is_free first_free_of
-    first_free words_from open_store open_table enqueue_start dequeue_start found settle step_1 step_2 step_3 step_4 step_5 step_6 step_7 walk step_8 step_9
-    step_10 step_11 step_12 step_13 no_step step open_refusal enqueue_refusal dequeue_refusal step_refusal open_pool act run ledger nodes_from lower bucket_of
-    energy_of
+unfolding seen item beginning going_on one_bucket start arrival turns put take lent address read write every blank store_in_range table_in_range is_free
+    first_free_of first_free words_from open_store open_table enqueue_start dequeue_start found settle step_1 step_2 step_3 step_4 step_5 step_6 step_7 walk
+    step_8 step_9 step_10 step_11 step_12 step_13 no_step step open_refusal enqueue_refusal dequeue_refusal step_refusal open_pool act run ledger nodes_from
+    lower bucket_of energy_of
 going_on_run = (refl, refl, refl, refl, λ c lo hi. let z : c ≡ 2 = omega arith in (rw z refl, λ h. absurd (omega arith)))
 
 pub put_in_progress : ((seen beginning).started ≡ 1) × TakesInTurn 1 (afterwards beginning going_on) × (Drain beginning 1 going_on → ⊥)
@@ -107,10 +107,10 @@ taking_on_run :
     × (lower (item 7 2) (item 3 1) ≡ false)
     × ((item 3 1).ticket ≢ (item 7 2).ticket)
     × TakesInTurn 3 (afterwards looking taking_on)
-unfolding seen item looking taking_on one_bucket start arrival turns put take lent address read write every blank store_in_range table_in_range is_free first_free_of
-    first_free words_from open_store open_table enqueue_start dequeue_start found settle step_1 step_2 step_3 step_4 step_5 step_6 step_7 walk step_8 step_9
-    step_10 step_11 step_12 step_13 no_step step open_refusal enqueue_refusal dequeue_refusal step_refusal open_pool act run ledger nodes_from lower bucket_of
-    energy_of
+unfolding seen item looking taking_on one_bucket start arrival turns put take lent address read write every blank store_in_range table_in_range is_free
+    first_free_of first_free words_from open_store open_table enqueue_start dequeue_start found settle step_1 step_2 step_3 step_4 step_5 step_6 step_7 walk
+    step_8 step_9 step_10 step_11 step_12 step_13 no_step step open_refusal enqueue_refusal dequeue_refusal step_refusal open_pool act run ledger nodes_from
+    lower bucket_of energy_of
 taking_on_run = (
   refl,
   (0, 0, 0 ∷ 1 ∷ [], omega arith, refl, Memᴰ.head refl, refl, refl),
@@ -180,10 +180,10 @@ crossing_run :
     × (lower (item 7 2) (item 3 1) ≡ false)
     × Quiet one_bucket (run one_bucket start stored)
     × ((c : ℕ) → 2 < c → c ≤ (afterwards stored crossing).started → (afterwards stored crossing).asked c ≡ dequeue)
-unfolding seen item stored crossing one_bucket start arrival turns put take lent address read write every blank store_in_range table_in_range is_free first_free_of
-    first_free words_from open_store open_table enqueue_start dequeue_start found settle step_1 step_2 step_3 step_4 step_5 step_6 step_7 walk step_8 step_9
-    step_10 step_11 step_12 step_13 no_step step open_refusal enqueue_refusal dequeue_refusal step_refusal open_pool act run ledger nodes_from lower bucket_of
-    energy_of
+unfolding seen item stored crossing one_bucket start arrival turns put take lent address read write every blank store_in_range table_in_range is_free
+    first_free_of first_free words_from open_store open_table enqueue_start dequeue_start found settle step_1 step_2 step_3 step_4 step_5 step_6 step_7 walk
+    step_8 step_9 step_10 step_11 step_12 step_13 no_step step open_refusal enqueue_refusal dequeue_refusal step_refusal open_pool act run ledger nodes_from
+    lower bucket_of energy_of
 crossing_run = (refl, refl, refl, refl, refl, refl, idle, takes)
   where
     idle : (i : ℕ) → i < 2 → in_progress (worker (run one_bucket start stored).table i) ≡ false
