@@ -1,4 +1,4 @@
-//! Links the proved library's archives, from where `rt staticlib` writes them, and tells
+//! Links the proved library's archives, from where `tools/build` writes them, and tells
 //! the tests which they are.
 
 use std::env;
@@ -18,7 +18,7 @@ fn main() {
         let archive = directory.join(format!("lib{}.a", name));
         if !archive.exists() {
             println!(
-                "cargo:warning={} is not there: run `rt staticlib {}` first",
+                "cargo:warning={} is not there: run `tools/build {}` first",
                 archive.display(),
                 name
             );

@@ -16,8 +16,7 @@ pub mod turns;
 pub mod visits;
 
 // What a new dealer remembers: the shape's last worker.
-#[unsafe(no_mangle)]
-pub extern "C" fn wubraken_new_dealer(shape: Shape) -> u64
+pub fn wubraken_new_dealer(shape: Shape) -> u64
     ensures { result ≡ new_dealer shape }
 {
     if shape.workers == 0 {
@@ -27,8 +26,7 @@ pub extern "C" fn wubraken_new_dealer(shape: Shape) -> u64
 }
 
 // One dealt turn, by a look at the whole of the lent memory.
-#[unsafe(no_mangle)]
-pub extern "C" fn wubraken_deal(
+pub fn wubraken_deal(
     shape: Shape,
     dealer: u64,
     store: &mut [u64],
@@ -41,8 +39,7 @@ pub extern "C" fn wubraken_deal(
 }
 
 // At most so many dealt turns, until a call is answered or a turn is refused. The lent memory is looked at once, and not for every turn.
-#[unsafe(no_mangle)]
-pub extern "C" fn wubraken_deal_run(
+pub fn wubraken_deal_run(
     shape: Shape,
     dealer: u64,
     turns: u64,
@@ -56,8 +53,7 @@ pub extern "C" fn wubraken_deal_run(
 }
 
 // The same by narrow turns, each of which looks only at what it needs.
-#[unsafe(no_mangle)]
-pub extern "C" fn wubraken_narrow_deal(
+pub fn wubraken_narrow_deal(
     shape: Shape,
     dealer: u64,
     turns: u64,

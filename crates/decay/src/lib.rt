@@ -21,8 +21,7 @@ pub struct Measured {
 }
 
 // Early decay, in slots.
-#[unsafe(no_mangle)]
-pub extern "C" fn wubraken_early_decay(row: &[u32]) -> Measured
+pub fn wubraken_early_decay(row: &[u32]) -> Measured
     ensures { result ≡ measured (decay_refusal row.now) (early_decay row.now) }
 {
     let total = total_of(row, 0);
@@ -44,8 +43,7 @@ pub extern "C" fn wubraken_early_decay(row: &[u32]) -> Measured
 }
 
 // T20, in slots.
-#[unsafe(no_mangle)]
-pub extern "C" fn wubraken_t20(row: &[u32]) -> Measured
+pub fn wubraken_t20(row: &[u32]) -> Measured
     ensures { result ≡ measured (decay_refusal row.now) (t20 row.now) }
 {
     let total = total_of(row, 0);
@@ -69,8 +67,7 @@ pub extern "C" fn wubraken_t20(row: &[u32]) -> Measured
 }
 
 // The level of a slot, in tenths of a decibel below the start, or 65,535 for none. Any slot: past the last nothing is left.
-#[unsafe(no_mangle)]
-pub extern "C" fn wubraken_level(slot: u64, row: &[u32]) -> Measured
+pub fn wubraken_level(slot: u64, row: &[u32]) -> Measured
     ensures { result ≡ measured (decay_refusal row.now) (level row.now slot) }
 {
     let total = total_of(row, slot as usize);
@@ -89,8 +86,7 @@ pub extern "C" fn wubraken_level(slot: u64, row: &[u32]) -> Measured
 }
 
 // The levels of all slots, one place each; behind the sum, one pass from the end. The answer is 0, or the number of the refusal.
-#[unsafe(no_mangle)]
-pub extern "C" fn wubraken_decay_curve(row: &[u32], levels: &mut [u16]) -> u64
+pub fn wubraken_decay_curve(row: &[u32], levels: &mut [u16]) -> u64
     ensures { (result ≡ curve_refusal row.now levels.old)
         × (levels.new ≡ curve row.now levels.old) }
 {

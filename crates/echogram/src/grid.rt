@@ -6,7 +6,7 @@ ghost use Rattle.echogram.specs.Grid.{grid_of, Drawn};
 const SCALE: u64 = 1099511627776;
 
 // The samples of a slot, the first time past the row, and what a time is multiplied by: 2^40 / samples, rounded down, and 1.
-#[derive(Drop)]
+#[derive(Clone, Copy)]
 pub struct Grid {
     pub samples: u64,
     pub end: u64,

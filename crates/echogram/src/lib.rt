@@ -1,4 +1,6 @@
 // The echogram: a lent row of slots to which taken arrivals are added up, for C and Rust to call. It knows nothing of the pool.
+#![tactic(auto)]
+
 ghost use Rattle.std.specs.Prelude.{◌≡◌};
 ghost use Rattle.echogram.specs.Row.{record_answer, recorded, clear_answer, cleared};
 ghost use Rattle.echogram.specs.Series.{recording, SeriesEnd, series};
@@ -11,8 +13,7 @@ pub mod row;
 mod series;
 
 // Clears a row: every slot is 0. The answer is 0, or the number of the refusal.
-#[unsafe(no_mangle)]
-pub extern "C" fn wubraken_clear_row(slot_length: u64, row: &mut [u32]) -> u64
+pub fn wubraken_clear_row(slot_length: u64, row: &mut [u32]) -> u64
     ensures { (result ≡ clear_answer slot_length row.old) × (row.new ≡ cleared slot_length row.old) }
 {
     if is_outside(slot_length, row.len()) {
@@ -27,8 +28,7 @@ pub extern "C" fn wubraken_clear_row(slot_length: u64, row: &mut [u32]) -> u64
 }
 
 // Records a taken arrival: its energy is added to the slot of its time. The answer is 0, or the number of the refusal.
-#[unsafe(no_mangle)]
-pub extern "C" fn wubraken_record(slot_length: u64, time: u32, energy: u32, row: &mut [u32]) -> u64
+pub fn wubraken_record(slot_length: u64, time: u32, energy: u32, row: &mut [u32]) -> u64
     ensures { (result ≡ record_answer row.old (recording slot_length time energy))
         × (row.new ≡ recorded row.old (recording slot_length time energy)) }
 {
@@ -44,8 +44,7 @@ pub extern "C" fn wubraken_record(slot_length: u64, time: u32, energy: u32, row:
 }
 
 // Records a series, with an answer for each recording. It adds the row up once. The answer is 0, or the number of what refuses the whole series.
-#[unsafe(no_mangle)]
-pub extern "C" fn wubraken_record_series(
+pub fn wubraken_record_series(
     slot_length: u64,
     times: &[u32],
     energies: &[u32],

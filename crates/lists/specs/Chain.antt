@@ -46,7 +46,7 @@ module _ (sh : Shape) where
 
   pub spot_of : {n p : ℕ} {ns : List ℕ} → In n ns → Spot (sh.buckets + n) p ns
   spot_of (Memᴰ.head e) = there (here (ap (λ k. sh.buckets + k) (sym e)))
-  spot_of (Memᴰ.tail i) = there (spot_of i)
+  spot_of {n} {p} (Memᴰ.tail {x = x} i) = there (spot_of {p = sh.buckets + x} i)
 
   unfoldable pub insert_at : {ℓ p : ℕ} {ns : List ℕ} → ℕ → Spot ℓ p ns → List ℕ
   insert_at {ns} o (here e) = o ∷ ns
@@ -67,10 +67,14 @@ module _ (sh : Shape) where
       → ((m : ℕ) → In m ns → d (sh.buckets + m) ≡ c (sh.buckets + m)) → Runs d q ns
   runs_frame c d ns p q r e h = runs_half c d ns p q r e (λ m i. ap (λ x. x / 2) (h m i))
 
+  -- a cell before the spot is not the spot: of q, the link of n
+  apart_spot : {ℓ q : ℕ} {ns : List ℕ} → Spot ℓ q ns → (n p : ℕ) → q ≡ sh.buckets + n → Apart p (n ∷ ns) → p ≢ ℓ
+  apart_spot (here e) n p g h t = h n (Memᴰ.head refl) (t ∙ sym e ∙ g)
+  apart_spot (there {n = k} sp) n p g h t = apart_spot sp k p refl (λ m i. h m (Memᴰ.tail i)) t
+
   -- a cell before the spot is not the spot
   pub spot_apart : {ℓ n p : ℕ} {ns : List ℕ} → Spot ℓ (sh.buckets + n) ns → Apart p (n ∷ ns) → p ≢ ℓ
-  spot_apart {n} (here e) h q = h n (Memᴰ.head refl) (q ∙ sym e)
-  spot_apart (there {n = k} sp) h q = spot_apart sp (λ m i. h m (Memᴰ.tail i)) q
+  spot_apart {n} {p} sp h = apart_spot sp n p refl h
 
   -- what is neither the cell nor a link of a node of ns is not the spot
   pub spot_not : {ℓ p : ℕ} {ns : List ℕ} (x : ℕ) → Spot ℓ p ns → x ≢ p → Apart x ns → x ≢ ℓ
@@ -181,9 +185,10 @@ module _ (sh : Shape) (lt : ℕ → ℕ → Type 0) (trans : (a b c : ℕ) → l
   below_all {o} {k} {m} h a (Memᴰ.tail i) = trans o k m h (a.0 m i)
 
   -- a node before the spot is below what is above the spot
-  below_spot : {ℓ o n : ℕ} {ns : List ℕ} → Spot sh ℓ (sh.buckets + n) ns → Ascends lt (n ∷ ns) → ((k : ℕ) → ℓ ≡ sh.buckets + k → lt k o) → lt n o
-  below_spot {n} (here e) a k = k n (sym e)
-  below_spot {o} {n} (there {n = j} sp) a k = trans n j o (a.0 j (Memᴰ.head refl)) (below_spot sp a.1 k)
+  below_spot : {ℓ o q : ℕ} {ns : List ℕ} → Spot sh ℓ q ns → (n : ℕ) → q ≡ sh.buckets + n → Ascends lt (n ∷ ns)
+      → ((k : ℕ) → ℓ ≡ sh.buckets + k → lt k o) → lt n o
+  below_spot (here e) n g a k = k n (sym e ∙ g)
+  below_spot {o} (there {n = j} sp) n g a k = trans n j o (a.0 j (Memᴰ.head refl)) (below_spot sp j refl a.1 k)
 
   pub insert_ascends : (c : ℕ → ℕ) {ℓ o p : ℕ} {ns : List ℕ} (sp : Spot sh ℓ p ns) → Runs sh c p ns → Ascends lt ns → ((m : ℕ) → In m ns → m ≢ sh.nodes)
       → ((k : ℕ) → ℓ ≡ sh.buckets + k → lt k o) → ((k : ℕ) → c ℓ / 2 ≡ k → k ≢ sh.nodes → lt o k) → Ascends lt (insert_at sh o sp)
@@ -195,7 +200,7 @@ module _ (sh : Shape) (lt : ℕ → ℕ → Type 0) (trans : (a b c : ℕ) → l
       (λ m i. go m (in_insert sh sp i), insert_ascends c sp run.1 a.1 (λ m i. nn m (Memᴰ.tail i)) lo hi)
     where
       go : (m : ℕ) → (m ≡ o) ⊎ In m ns → lt n m
-      go m (inl q) = rw q (below_spot sp a lo)
+      go m (inl q) = rw q (below_spot sp n refl a lo)
       go m (inr i) = a.0 m i
 
   pub remove_ascends : {ℓ r p : ℕ} {ns : List ℕ} (g : Edge sh ℓ r p ns) → Ascends lt ns → Ascends lt (remove_at sh g)
@@ -204,15 +209,19 @@ module _ (sh : Shape) (lt : ℕ → ℕ → Type 0) (trans : (a b c : ℕ) → l
   remove_ascends (there g) a = (λ m i. a.0 m (in_remove sh g i), remove_ascends g a.1)
 
   -- behind a node of the list comes the end, or a higher node of the list
-  pub in_next : (c : ℕ → ℕ) (p : ℕ) {r : ℕ} {ns : List ℕ} → In r ns → Runs sh c p ns → Ascends lt ns
+  next_in : (c : ℕ → ℕ) {r : ℕ} (p : ℕ) {ns : List ℕ} → In r ns → Runs sh c p ns → Ascends lt ns
       → (c (sh.buckets + r) / 2 ≡ sh.nodes) ⊎ (In (c (sh.buckets + r) / 2) ns × lt r (c (sh.buckets + r) / 2))
-  in_next c p (Memᴰ.head {xs = []} f) run a = inl (ap (λ x. c (sh.buckets + x) / 2) f ∙ run.1)
-  in_next c p {r} (Memᴰ.head {x = n} {xs = k ∷ ks} f) run a =
+  next_in c p (Memᴰ.head {xs = []} f) run a = inl (ap (λ x. c (sh.buckets + x) / 2) f ∙ run.1)
+  next_in c {r} p (Memᴰ.head {x = n} {xs = k ∷ ks} f) run a =
       let q : c (sh.buckets + r) / 2 ≡ k = ap (λ x. c (sh.buckets + x) / 2) f ∙ run.1.0 in
       inr (Memᴰ.tail (Memᴰ.head q), rw (q, f) (a.0 k (Memᴰ.head refl)))
-  in_next c p {r} (Memᴰ.tail {x = n} {xs = ns} i) run a = go (in_next c (sh.buckets + n) i run.1 a.1)
+  next_in c {r} p (Memᴰ.tail {x = n} {xs = ns} i) run a = go (next_in c (sh.buckets + n) i run.1 a.1)
     where
       go : (c (sh.buckets + r) / 2 ≡ sh.nodes) ⊎ (In (c (sh.buckets + r) / 2) ns × lt r (c (sh.buckets + r) / 2))
           → (c (sh.buckets + r) / 2 ≡ sh.nodes) ⊎ (In (c (sh.buckets + r) / 2) (n ∷ ns) × lt r (c (sh.buckets + r) / 2))
       go (inl e) = inl e
       go (inr h) = inr (Memᴰ.tail h.0, h.1)
+
+  pub in_next : (c : ℕ → ℕ) (p : ℕ) {r : ℕ} {ns : List ℕ} → In r ns → Runs sh c p ns → Ascends lt ns
+      → (c (sh.buckets + r) / 2 ≡ sh.nodes) ⊎ (In (c (sh.buckets + r) / 2) ns × lt r (c (sh.buckets + r) / 2))
+  in_next c p i run a = next_in c p i run a

@@ -1,5 +1,5 @@
 -- Ahead: a node met from another by following links; each change of the links keeps it. Assumes nothing.
-use Rattle.std.specs.Prelude.{◌≡◌, refl, List, ◌∷◌, Bool, true, false, ◌≢◌, ◌⊎◌, ℕ, ◌+◌, ◌/◌, ◌<◌, eqb}
+use Rattle.std.specs.Prelude.{◌≡◌, refl, List, [], ◌∷◌, Bool, true, false, ◌≢◌, ◌⊎◌, ℕ, ◌+◌, ◌/◌, ◌<◌, eqb}
 use Rattle.std.proofs.Common.{sym, ap, ◌∙◌, subst, inl, inr, arith, eqb-true}
 use mathlib.Core.List.Memᴰ
 use Rattle.std.proofs.lemmas.Bool.{eqb-false}
@@ -61,6 +61,7 @@ module _ (sh : Shape) where
 
   -- from a cell, every node of its run is met
   pub run_reach : (c : ℕ → ℕ) (p z : ℕ) (ns : List ℕ) → Runs sh c p ns → ((m : ℕ) → In m ns → m < sh.nodes) → In z ns → Reach c z (c p / 2)
+  run_reach c p z [] run small m = elim m [ ]
   run_reach c p z (n ∷ ns) run small (Memᴰ.head e) = stop (run.0 ∙ sym e)
   run_reach c p z (n ∷ ns) run small (Memᴰ.tail i) =
       cast (sym run.0) (step (small n (Memᴰ.head refl)) (run_reach c (sh.buckets + n) z ns run.1 (λ m j. small m (Memᴰ.tail j)) i))
@@ -68,6 +69,7 @@ module _ (sh : Shape) where
   -- and from a node of it, every higher one
   pub later_reach : (c : ℕ → ℕ) (lt : ℕ → ℕ → Type 0) (irr : (a b : ℕ) → lt a b → lt b a → ⊥) (p x z : ℕ) (ns : List ℕ) → Runs sh c p ns → Ascends lt ns
       → ((m : ℕ) → In m ns → m < sh.nodes) → In x ns → In z ns → lt x z → Reach c z x
+  later_reach c lt irr p x z [] run a small m _ l = elim m [ ]
   later_reach c lt irr p x z (n ∷ ns) run a small (Memᴰ.head e) (Memᴰ.head f) l = stop (e ∙ sym f)
   later_reach c lt irr p x z (n ∷ ns) run a small (Memᴰ.head e) (Memᴰ.tail j) l =
       cast (sym e) (step (small n (Memᴰ.head refl)) (run_reach c (sh.buckets + n) z ns run.1 (λ m i. small m (Memᴰ.tail i)) j))

@@ -19,7 +19,7 @@ use Rattle.calendar.specs.rules.SearchSteps.{left_holds, unlink}
 use Rattle.calendar.specs.rules.EnqueueSteps.{own_epoch, prepare, link_own, renew_current}
 use Rattle.calendar.specs.rules.DequeueSteps.{node_is_marked, link_holds, mark_node, next_current}
 use Rattle.calendar.specs.facts.Inside.{found_writes, settled_writes, walked_writes}
-use Rattle.calendar.specs.facts.Changes.{Found, put_found, take_ends, Settled, at_end, goes_on, Walked, out, out_last, meets, Change, head_read, mark_seen}
+use Rattle.calendar.specs.facts.Changes.{Found, put_found, take_ends, Settled, at_end, still_on, Walked, out, out_last, meets, Change, head_read, mark_seen}
 use Rattle.calendar.specs.facts.Changes.{passed, stopped, unlinked, again_3, prepared, linked, again_5, stored_6, on_7, stored_7, back_6, current_read}
 use Rattle.calendar.specs.facts.Changes.{first_read, mark_passed, newer, on_11, marked, back_10, advanced, back_12, emptied, back_13}
 use Rattle.calendar.specs.facts.Views.{View, view, update, updates, Lt}
@@ -81,7 +81,7 @@ module _ (sh : Shape) (s : List ℕ) (T : ℕ → Worker) (i : ℕ) (l : i < sh.
     settled_keeps : {ws : List Write} {v : Worker} {o : Outcome} → Settled sh s ws v o → v.ticket ≡ (T i).ticket → Base sh m ch v → Left sh m ch v
         → Right sh m ch v → Inv sh m ch (with_record T i o.worker)
     settled_keeps (at_end q f) e b left right = found_keeps f e b left right (λ z n. absurd (n q))
-    settled_keeps {v} (goes_on q) e b left right =
+    settled_keeps {v} (still_on q) e b left right =
         own (with_stage 2 v) e (at_stage sh m ch v 2 (omega arith) (omega arith) (λ q. omega arith) b (λ a. left) (λ a. right) (λ a a'. q)
         (λ a. absurd (omega arith)) (λ q. absurd (omega arith)) (λ q. absurd (omega arith)))
 
@@ -94,7 +94,8 @@ module _ (sh : Shape) (s : List ℕ) (T : ℕ → Worker) (i : ℕ) (l : i < sh.
         own (with_stage 13 v) e (at_walk sh m ch v 13 take (omega arith) (λ a. walk) (λ a b. absurd (omega arith)) (λ a. absurd (omega arith))
         (λ a. absurd (omega arith)))
     walked_keeps {v} (meets q) e take walk right =
-        own (with_stage 10 v) e (at_walk sh m ch v 10 take (omega arith) (λ a. walk) (λ a b. node right) (λ a. absurd (omega arith)) (λ a. absurd (omega arith)))
+        own (with_stage 10 v) e
+        (at_walk sh m ch v 10 take (omega arith) (λ a. walk) (λ a b. node right) (λ a. absurd (omega arith)) (λ a. absurd (omega arith)))
       where
         node : Right sh m ch v → Stands sh m ch v.ticket v.bucket v.right
         node (inl e) = absurd (q e)

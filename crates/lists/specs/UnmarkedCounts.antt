@@ -53,6 +53,7 @@ module _ (sh : Shape) where
   module _ (c d : ℕ → ℕ) (x : ℕ) (was : c (sh.buckets + x) % 2 ≡ 0) (is : d (sh.buckets + x) % 2 ≡ 1)
       (frame : (n : ℕ) → n ≢ x → d (sh.buckets + n) % 2 ≡ c (sh.buckets + n) % 2) where
     unmarked_mark : (ns : List ℕ) → Once ns → In x ns → unmarked_count c ns ≡ 1 + unmarked_count d ns
+    unmarked_mark [] ds m = elim m [ ]
     unmarked_mark (n ∷ ns) ds (Memᴰ.head e) =
         omega (
           arith,

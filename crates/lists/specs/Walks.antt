@@ -80,7 +80,8 @@ module _ (sh : Shape) (s : List ℕ) where
       → (not (is_marked (link sh s n)) && same_item (item_at sh s n) x) ≡ true
   holds_is x n c e = rw (ne_eqb (link sh s n % 2) 1 (λ q. omega arith)) (subst (λ y. same_item (item_at sh s n) y ≡ true) e (item_same (item_at sh s n)))
 
-  pub unmarked_none : (x : Item) (ns : List ℕ) → ((n : ℕ) → In n ns → (view sh s).cells (sh.buckets + n) % 2 ≡ 0 → item_at sh s n ≢ x) → unmarked_of sh s x ns ≡ 0
+  pub unmarked_none : (x : Item) (ns : List ℕ) → ((n : ℕ) → In n ns → (view sh s).cells (sh.buckets + n) % 2 ≡ 0 → item_at sh s n ≢ x)
+      → unmarked_of sh s x ns ≡ 0
   unfolding unmarked_of
   unmarked_none x [] h = refl
   unmarked_none x (n ∷ ns) h = rw (holds_not x n (h n (Memᴰ.head refl)), unmarked_none x ns (λ m i. h m (Memᴰ.tail i)))
@@ -88,6 +89,7 @@ module _ (sh : Shape) (s : List ℕ) where
   pub unmarked_once : (x : Item) (k : ℕ) (ns : List ℕ) → Once ns → In k ns → (view sh s).cells (sh.buckets + k) % 2 ≡ 0 → item_at sh s k ≡ x
       → ((n : ℕ) → In n ns → n ≢ k → item_at sh s n ≢ x) → unmarked_of sh s x ns ≡ 1
   unfolding unmarked_of
+  unmarked_once x k [] d m c q h = elim m [ ]
   unmarked_once x k (n ∷ ns) d (Memᴰ.head e) c q h =
       let p : (not (is_marked (link sh s n)) && same_item (item_at sh s n) x)
       ≡ true = subst (λ y. (not (is_marked (link sh s y)) && same_item (item_at sh s y) x) ≡ true) e (holds_is x k c q) in
@@ -114,6 +116,7 @@ module _ (sh : Shape) (s : List ℕ) where
 
   pub there_unmarked : (x : Item) (n : ℕ) (ns : List ℕ) → In n ns → is_marked (link sh s n) ≡ false → item_at sh s n ≡ x → unmarked_of sh s x ns ≢ 0
   unfolding unmarked_of
+  there_unmarked x n [] m c q z = elim m [ ]
   there_unmarked x n (k ∷ ns) (Memᴰ.head e) c q z =
       let p : (not (is_marked (link sh s n)) && same_item (item_at sh s n) x) ≡ true = holds_is x n (omega (arith, eqb-false (link sh s n % 2) 1 c)) q in
       counted _ (subst (λ y. (not (is_marked (link sh s y)) && same_item (item_at sh s y) x) ≡ true) e p) z

@@ -15,7 +15,6 @@ use Rattle.arrival.specs.declared.Response.{Response}
 use Rattle.arrival.specs.declared.Response.TheVariants.{Opened, Begun, On, Stored, Took, Empty, Refused}
 use Rattle.laws.specs.Tests.{upd_same, upd_other, upd_cases}
 use Rattle.calendar.specs.rules.Layout.{Write, link}
-use Rattle.calendar.specs.rules.Ranges.{worker}
 use Rattle.calendar.specs.rules.Outcome.{Outcome, with_stage, with_own, with_bucket, with_seen, with_current}
 use Rattle.calendar.specs.rules.SearchSteps.{left_holds, unlink}
 use Rattle.calendar.specs.rules.EnqueueSteps.{link_own, prepare}
@@ -24,7 +23,7 @@ use Rattle.calendar.specs.rules.Snapshot.{has_linked, has_marked}
 use Rattle.calendar.specs.facts.Views.{View, view, updates}
 use Rattle.calendar.specs.facts.RangeFacts.{RecordRanges}
 use Rattle.calendar.specs.facts.Inside.{found_writes, settled_writes, walked_writes}
-use Rattle.calendar.specs.facts.Changes.{Found, put_found, take_ends, Settled, at_end, goes_on, Walked, out, out_last, meets, Change, head_read, mark_seen}
+use Rattle.calendar.specs.facts.Changes.{Found, put_found, take_ends, Settled, at_end, still_on, Walked, out, out_last, meets, Change, head_read, mark_seen}
 use Rattle.calendar.specs.facts.Changes.{passed, stopped, unlinked, again_3, prepared, linked, again_5, stored_6, on_7, stored_7, back_6, current_read}
 use Rattle.calendar.specs.facts.Changes.{first_read, mark_passed, newer, on_11, marked, back_10, advanced, back_12, emptied, back_13}
 use Rattle.lists.specs.Chain.{In, insert_at, remove_at}
@@ -99,7 +98,13 @@ module _ (sh : Shape) (s : List ℕ) where
 
     found_worth : {ws : List Write} {v : Worker} {o : Outcome} → v.kind ≡ w.kind → Found sh s ws v o → Worth w t t o
     found_worth {v} k (put_found z) =
-        omega (arith, linked_low w (omega arith), linked_low (with_stage 4 v) (omega arith), marked_put w (sym k ∙ z), marked_high (with_stage 4 v) (omega arith))
+        omega (
+          arith,
+          linked_low w (omega arith),
+          linked_low (with_stage 4 v) (omega arith),
+          marked_put w (sym k ∙ z),
+          marked_high (with_stage 4 v) (omega arith),
+        )
     found_worth {v} k (take_ends n) =
         omega (arith, linked_low w (omega arith), linked_low (with_stage 0 v) (omega arith), marked_on w (other kinds) a b, marked_idle (with_stage 0 v) refl)
       where
@@ -113,7 +118,7 @@ module _ (sh : Shape) (s : List ℕ) where
 
     settled_worth : {ws : List Write} {v : Worker} {o : Outcome} → v.kind ≡ w.kind → Settled sh s ws v o → Worth w t t o
     settled_worth k (at_end q f) = found_worth k f
-    settled_worth {ws} {v} k (goes_on q) = on_worth (with_stage 2 v) ws k (omega arith) (omega arith)
+    settled_worth {ws} {v} k (still_on q) = on_worth (with_stage 2 v) ws k (omega arith) (omega arith)
 
   walk_on : (w u : Worker) (t : ℕ) → 8 ≤ w.stage → 8 ≤ u.stage → Worth w t t (record { writes = []; worker = u; response = On })
   walk_on w u t a b = omega (arith, linked_high w a, linked_high u b, marked_high w (omega arith), marked_high u (omega arith))

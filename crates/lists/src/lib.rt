@@ -1,1 +1,3 @@
+#![tactic(auto)]
+
 // The lists of the calendar and the reuse of nodes, over every history: invariants and theorems, specs/. No code.

@@ -144,6 +144,7 @@ mem_snoc {A} L {e} {f} m = go (mem-append L m)
     go : Mem f L ⊎ Mem f (e ∷ []) → Mem f L ⊎ (f ≡ e)
     go (inl k) = inl k
     go (inr (here g)) = inr g
+    go (inr (there m)) = elim m [ ]
 
 settled_of_done : (H : Hist) (s n m : ℕ) → Past H s → H.end n ≡ ended s → Settled (H.end m) running → Settled (H.end m) (H.end n)
 settled_of_done H s n m B e h = rw e (settled_late (H.end m) s (B m) h)

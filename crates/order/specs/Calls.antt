@@ -53,6 +53,7 @@ module _ {K : Keys} where
       go (no n) (there k) ih = ih k
 
   pub mem_strip : (B : Order K) (x : Element K) (f : Entry K) → ¬ Own f x → Mem f B → Mem f (strip B x)
+  mem_strip [] x f n m = elim m [ ]
   mem_strip (e ∷ B) x f n m = go (own? e x) (mem-cons m) (mem_strip B x f n)
     where
       go : (d : Dec (Own e x)) → (f ≡ e) ⊎ Mem f B → (Mem f B → Mem f (strip B x)) → Mem f (keep d e (strip B x))

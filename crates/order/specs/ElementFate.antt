@@ -23,6 +23,7 @@ gone_then {K} S L x c d e f l once j =
 -- an element that was put once is taken by one entry
 pub taken_once : {K : Keys} (S : Q K) (L : Order K) (x : Element K) (c d : ℕ) → Legal S L → Distinct L → (Mem x S → ¬ Mem (enqueue x) L) → Mem (dequeue x c) L
     → Mem (dequeue x d) L → c ≡ d
+taken_once S [] x c d l D once m _ = elim m [ ]
 taken_once {K} S (e ∷ L) x c d l D once (here f) (here h) = let z : dequeue x c ≡ dequeue x d = f ∙ sym h in ap ticket_of_lem z
 taken_once {K} S (e ∷ L) x c d l D once (here f) (there j) = absurd (gone_then S L x c d e (sym f) l once j)
 taken_once {K} S (e ∷ L) x c d l D once (there j) (here h) = absurd (gone_then S L x d c e (sym h) l once j)

@@ -40,6 +40,7 @@ one_yes (yes h) p = refl
 one_yes (no n) p = absurd (n p)
 
 pub scans_in : {K : Keys} (v : ℕ) (L : Order K) → Mem (scan v) L → 0 < scans v L
+scans_in v [] m = elim m [ ]
 scans_in v (enqueue x ∷ L) (here g) = absurd (let z : ◌≡◌ {A = ℕ} 0 1 = cc in omega arith)
 scans_in v (enqueue x ∷ L) (there m) = scans_in v L m
 scans_in v (dequeue z c ∷ L) (here g) = absurd (let z : ◌≡◌ {A = ℕ} 0 1 = cc in omega arith)
@@ -89,6 +90,7 @@ still_once S L x (scan w) a o i j = o i (there j)
 
 pub taken_gone : {K : Keys} (S : Q K) (L : Order K) (x : Element K) (d : ℕ) → Legal S L → Distinct L → (Mem x S → ¬ Mem (enqueue x) L) → Mem (dequeue x d) L
     → ¬ Mem x (run S L)
+taken_gone S [] x d l D once m k = elim m [ ]
 taken_gone {K} S (e ∷ L) x d l D once (here g) k = go (subst (λ f. Mem x (run (step S f) L)) (sym g) k) (subst (λ f. Ok S f) (sym g) l.0).0
   where
     go : Mem x (run (without S x) L) → Mem x S → ⊥
@@ -101,6 +103,7 @@ taken_gone {K} S (e ∷ L) x d l D once (there m) k = taken_gone (step S e) L x 
 
 -- what is taken was there or was enqueued
 pub taken_enqueued : {K : Keys} (S : Q K) (L : Order K) (x : Element K) (d : ℕ) → Legal S L → Mem (dequeue x d) L → Mem x S ⊎ Mem (enqueue x) L
+taken_enqueued S [] x d l m = elim m [ ]
 taken_enqueued {K} S (e ∷ L) x d l (here g) = inl (subst (λ f. Ok S f) (sym g) l.0).0
 taken_enqueued {K} S (e ∷ L) x d l (there m) = go e (taken_enqueued (step S e) L x d l.1 m)
   where

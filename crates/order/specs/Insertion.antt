@@ -20,6 +20,7 @@ module _ {K : Keys} where
 
   -- no entry behind the place dequeues anything that is not below x, and none is empty
   pub calm_all : (S : Q K) (x : Element K) (B : Order K) → Busy S x B → Legal S B → (e : Entry K) → Mem e B → Calm e x
+  calm_all S x [] w l e m = elim m [ ]
   calm_all S x (b ∷ B) w l e m = go (mem-cons m) (λ k. calm_all (step S b) x B w.1 l.1 e k)
     where
       go : (e ≡ b) ⊎ Mem e B → (Mem e B → Calm e x) → Calm e x

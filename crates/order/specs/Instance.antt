@@ -47,6 +47,7 @@ legal = (tt, (tt, ((here refl, low), ((mem_without (a 1 ∷ a 3 ∷ []) (a 1) (a
     low : ¬ ((q : Element K₀) × Mem q (a 1 ∷ a 3 ∷ []) × (q ≺ a 1))
     low (q, here e, h) = let g : q.it ≡ 1 = ap (λ (x : Element K₀). x.it) e in omega arith
     low (q, there (here e), h) = let g : q.it ≡ 3 = ap (λ (x : Element K₀). x.it) e in omega arith
+    low (q, there (there m), h) = elim m [ ]
 
     low₂ : ¬ ((q : Element K₀) × Mem q (without (a 1 ∷ a 3 ∷ []) (a 1)) × (q ≺ a 3))
     low₂ (q, m, h) = pick (without_mem (a 1 ∷ a 3 ∷ []) (a 1) m)
@@ -54,6 +55,7 @@ legal = (tt, (tt, ((here refl, low), ((mem_without (a 1 ∷ a 3 ∷ []) (a 1) (a
         pick : Mem q (a 1 ∷ a 3 ∷ []) × ¬ (q ≡ a 1) → ⊥
         pick (here e, n) = n e
         pick (there (here e), n) = let g : q.it ≡ 3 = ap (λ (x : Element K₀). x.it) e in omega arith
+        pick (there (there m), n) = elim m [ ]
 
 illegal : ¬ Legal [] (enqueue (a 3) ∷ enqueue (a 1) ∷ dequeue (a 3) 4 ∷ [])
 illegal l = l.1.1.0.1 (a 1, here refl, omega arith)
@@ -86,6 +88,7 @@ inv =
   where
     it : (q : Element K₀) → Mem q (a 5 ∷ []) → q ≡ a 5
     it q (here e) = e
+    it q (there m) = elim m [ ]
 
     aged : (q : Element K₀) → Mem q (a 5 ∷ []) → (q ≡ a 5) ⊎ Settled (H₀.end (ticket q)) (H₀.end 5)
     aged q m = inl (it q m)
@@ -95,6 +98,7 @@ inv =
 
     early : (f : Entry K₀) → Mem f (scan 1 ∷ []) → NotBefore 5 (end_of H₀ f)
     early f (here e) = rw e tt
+    early f (there m) = elim m [ ]
 
     sight : Sight H₀ (W₀ 1) (a 5 ∷ []) []
     sight =
@@ -108,6 +112,7 @@ inv =
 
 it₀ : (q : Element K₀) → Mem q (a 5 ∷ []) → q ≡ a 5
 it₀ q (here e) = e
+it₀ q (there m) = elim m [ ]
 
 taking : Taking H₀ W₀ [] L₀ 1 (a 5)
 taking =

@@ -84,6 +84,7 @@ module _ {K : Keys} (R : Entry K → Entry K → Type 0) where
   pairs_right (a ∷ A) B t = pairs_right A B t.1
 
   pub pairs_cross : (A B : Order K) (f g : Entry K) → Pairs (A ++ B) → Mem f A → Mem g B → R f g
+  pairs_cross [] B f g t m k = elim m [ ]
   pairs_cross (a ∷ A) B f g t (here h) k = rw h (t.0 g (mem-right A k))
   pairs_cross (a ∷ A) B f g t (there m) k = pairs_cross A B f g t.1 m k
 
@@ -113,6 +114,7 @@ module _ {K : Keys} (R : Entry K → Entry K → Type 0) where
       go : (f : Entry K) → Mem f L ⊎ Mem f (e ∷ []) → R a f
       go f (inl m) = t.0 f m
       go f (inr (here g)) = rw g (b a (here refl))
+      go f (inr (there m)) = elim m [ ]
 
 module _ {K : Keys} (H : Hist) where
   -- ── REAL TIME ──
@@ -166,6 +168,7 @@ module _ {K : Keys} (H : Hist) where
       → ((q : Element K) → Mem q S → q ≺ x → NotBefore n (H.end (ticket q)))
       → ((q : Element K) → Mem (enqueue q) B → q ≺ x → NotBefore n (H.end (ticket q)))
       → Busy S x B → Aged S B → (e : Entry K) → Mem e B → NotBefore n (end_of H e)
+  after_ticket S x n [] i h w a e m = elim m [ ]
   after_ticket S x n (b ∷ B) i h w a e m = go (mem-cons m) (λ k. after_ticket (step S b) x n B i' (λ q k. h q (there k)) w.1 a.1 e k)
     where
       i_step : (f : Entry K) → ((q : Element K) → enqueue q ≡ f → q ≺ x → NotBefore n (H.end (ticket q))) → (q : Element K) → Mem q (step S f) → q ≺ x
@@ -193,6 +196,7 @@ module _ {K : Keys} (H : Hist) where
   -- what is not below x and in the queue at the place is elder than an enqueue behind the place
   pub elder_behind : (S : Q K) (x : Element K) (B : Order K) (q r : Element K) → ((e : Entry K) → Mem e B → Calm e x) → ¬ (q ≺ x) → Aged S B → Mem q S
       → Mem (enqueue r) B → Elder q (enqueue r)
+  elder_behind S x [] q r c n a m k = elim k [ ]
   elder_behind S x (b ∷ B) q r c n a m k = go (mem-cons k) (λ j. elder_behind (step S b) x B q r (λ e i. c e (there i)) n a.1 m' j)
     where
       m' : Mem q (step S b)

@@ -210,6 +210,7 @@ module _ {K : Keys} (H : Hist) where
 
   pub marks_find : (W : ℕ → Walker K) (S : Q K) (L : Order K) (w : ℕ) → Marks W S L → Mem (scan w) L
       → (A : Order K) × (D : Order K) × (A ++ scan w ∷ D ≡ L) × Sight (W w) (run S A) D
+  marks_find W S [] w h m = elim m [ ]
   marks_find W S (e ∷ L) w h (here g) = ([], L, ap (◌∷ L) g, subst (λ f. At W S L f) (sym g) h.0)
   marks_find W S (e ∷ L) w h (there m) =
       let (A, D, g, s) = marks_find W (step S e) L w h.1 m in

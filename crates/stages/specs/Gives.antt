@@ -12,7 +12,7 @@ use Rattle.calendar.specs.rules.Layout.{Write, write_all, item_at}
 use Rattle.calendar.specs.rules.Outcome.{Outcome, on, answer, with_stage}
 use Rattle.calendar.specs.rules.SearchSteps.{found, settle}
 use Rattle.calendar.specs.rules.DequeueSteps.{walk, more_buckets}
-use Rattle.words.specs.Done.{Done, done, gives}
+use Rattle.words.specs.Done.{done, gives}
 use Rattle.words.specs.declared.replies.Reply.{Reply}
 
 -- the code's share of an outcome: its record and response

@@ -10,6 +10,7 @@ use arrival::{Response, Shape, Worker};
 use words::replies::Reply;
 use words::{field, get_cell, get_field, get_word, put_cell, put_word, word};
 
+#[tactic(auto, unfolding(calendar::specs::rules::DequeueSteps::step_8))]
 pub fn step_8(shape: Shape, mut w: Worker, store: &[u64]) -> Reply
     requires { Ready shape store.now w }
     ensures { gives store.now result ≡ done shape store.now (step_8 shape store.now w) }
@@ -21,6 +22,7 @@ pub fn step_8(shape: Shape, mut w: Worker, store: &[u64]) -> Reply
 }
 
 // Right has been set: at the end of the list on to the next bucket, or to 13 in the last.
+#[tactic(auto, unfolding(calendar::specs::rules::DequeueSteps::walk))]
 fn walk_right(shape: Shape, w: Worker) -> Reply
     requires { w.bucket < 65536 }
     ensures { result ≡ share (walk shape w) }
@@ -36,6 +38,7 @@ fn walk_right(shape: Shape, w: Worker) -> Reply
     }
 }
 
+#[tactic(auto, using(crate::specs::Gives::walk_gives), unfolding(calendar::specs::rules::DequeueSteps::step_9))]
 pub fn step_9(shape: Shape, mut w: Worker, store: &[u64]) -> Reply
     requires { Ready shape store.now w }
     ensures { gives store.now result ≡ done shape store.now (step_9 shape store.now w) }
@@ -45,6 +48,7 @@ pub fn step_9(shape: Shape, mut w: Worker, store: &[u64]) -> Reply
     walk_right(shape, w)
 }
 
+#[tactic(auto, using(crate::specs::Gives::walk_gives), unfolding(calendar::specs::rules::DequeueSteps::step_10))]
 pub fn step_10(shape: Shape, mut w: Worker, store: &[u64]) -> Reply
     requires ready { Ready shape store.now w }
     requires right_lt_nodes { w.right < shape.nodes }
@@ -65,6 +69,7 @@ pub fn step_10(shape: Shape, mut w: Worker, store: &[u64]) -> Reply
     }
 }
 
+#[tactic(auto, unfolding(calendar::specs::rules::DequeueSteps::step_11))]
 pub fn step_11(shape: Shape, mut w: Worker, store: &mut [u64]) -> Reply
     requires ready { Ready shape store.old w }
     requires right_lt_nodes { w.right < shape.nodes }
@@ -80,6 +85,7 @@ pub fn step_11(shape: Shape, mut w: Worker, store: &mut [u64]) -> Reply
     }
 }
 
+#[tactic(auto, unfolding(calendar::specs::rules::DequeueSteps::step_12))]
 pub fn step_12(shape: Shape, mut w: Worker, store: &mut [u64]) -> Reply
     requires { Ready shape store.old w }
     ensures { gives store.new result ≡ done shape store.old (step_12 shape store.old w) }
@@ -96,6 +102,7 @@ pub fn step_12(shape: Shape, mut w: Worker, store: &mut [u64]) -> Reply
     }
 }
 
+#[tactic(auto, unfolding(calendar::specs::rules::DequeueSteps::step_13))]
 pub fn step_13(shape: Shape, w: Worker, store: &[u64]) -> Reply
     requires { Ready shape store.now w }
     ensures { gives store.now result ≡ done shape store.now (step_13 shape store.now w) }

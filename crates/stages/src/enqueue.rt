@@ -10,6 +10,7 @@ use arrival::{Response, Shape, Worker};
 use words::replies::{Reply, refuse};
 use words::{field, get_cell, get_word, put_cell, put_field, put_word, word};
 
+#[tactic(auto, unfolding(calendar::specs::rules::EnqueueSteps::step_4))]
 pub fn step_4(shape: Shape, mut w: Worker, store: &mut [u64]) -> Reply
     requires { Ready shape store.old w }
     ensures { gives store.new result ≡ done shape store.old (step_4 shape store.old w) }
@@ -22,6 +23,7 @@ pub fn step_4(shape: Shape, mut w: Worker, store: &mut [u64]) -> Reply
     go_on(5, w)
 }
 
+#[tactic(auto, unfolding(calendar::specs::rules::EnqueueSteps::step_5))]
 pub fn step_5(shape: Shape, w: Worker, store: &mut [u64]) -> Reply
     requires { Ready shape store.old w }
     ensures { gives store.new result ≡ done shape store.old (step_5 shape store.old w) }
@@ -34,6 +36,7 @@ pub fn step_5(shape: Shape, w: Worker, store: &mut [u64]) -> Reply
     }
 }
 
+#[tactic(auto, unfolding(calendar::specs::rules::EnqueueSteps::step_6))]
 pub fn step_6(shape: Shape, mut w: Worker, store: &[u64]) -> Reply
     requires { Ready shape store.now w }
     ensures { gives store.now result ≡ done shape store.now (step_6 shape store.now w) }
@@ -48,6 +51,7 @@ pub fn step_6(shape: Shape, mut w: Worker, store: &[u64]) -> Reply
 }
 
 // The one stage with a refusal of its own: 11, where the epoch is the last and the swap would succeed.
+#[tactic(auto, unfolding(calendar::specs::rules::EnqueueSteps::step_7))]
 pub fn step_7(shape: Shape, w: Worker, store: &mut [u64]) -> Reply
     requires { Ready shape store.old w }
     ensures { gives store.new result ≡ local_step_7 shape store.old w }

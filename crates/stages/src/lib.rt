@@ -1,4 +1,6 @@
 // The by-value turn: one worker's record and the lent store, a function for each stage.
+#![tactic(auto)]
+
 ghost use Rattle.std.specs.Prelude.{◌≡◌, ◌≤◌};
 ghost use Rattle.words.specs.Done.{gives};
 ghost use Rattle.stages.specs.Gives.{goes_on, answers};

@@ -25,6 +25,7 @@ fn took(x: Item) -> Response
 }
 
 // The search's end: a put goes to 4, a take answers.
+#[tactic(auto, unfolding(calendar::specs::rules::SearchSteps::found))]
 fn end_search(shape: Shape, w: Worker, store: &[u64]) -> Reply
     requires { Holds shape store.now w.own }
     ensures { gives store.now result ≡ done shape store.now (found shape store.now [] w) }
@@ -37,6 +38,7 @@ fn end_search(shape: Shape, w: Worker, store: &[u64]) -> Reply
 }
 
 // Right has been set: at the end of the list the search ends in this turn.
+#[tactic(auto, unfolding(calendar::specs::rules::SearchSteps::settle))]
 fn settle_right(shape: Shape, w: Worker, store: &[u64]) -> Reply
     requires { Holds shape store.now w.own }
     ensures { gives store.now result ≡ done shape store.now (settle shape store.now [] w) }
@@ -47,6 +49,7 @@ fn settle_right(shape: Shape, w: Worker, store: &[u64]) -> Reply
     end_search(shape, w, store)
 }
 
+#[tactic(auto, unfolding(calendar::specs::rules::SearchSteps::step_1))]
 pub fn step_1(shape: Shape, mut w: Worker, store: &[u64]) -> Reply
     requires { Ready shape store.now w }
     ensures { gives store.now result ≡ done shape store.now (step_1 shape store.now w) }
@@ -57,6 +60,7 @@ pub fn step_1(shape: Shape, mut w: Worker, store: &[u64]) -> Reply
     settle_right(shape, w, store)
 }
 
+#[tactic(auto, using(arrival::specs::Keys::lower_keys), unfolding(calendar::specs::rules::SearchSteps::step_2))]
 pub fn step_2(shape: Shape, mut w: Worker, store: &[u64]) -> Reply
     requires ready { Ready shape store.now w }
     requires right_lt_nodes { w.right < shape.nodes }
@@ -79,6 +83,7 @@ pub fn step_2(shape: Shape, mut w: Worker, store: &[u64]) -> Reply
     }
 }
 
+#[tactic(auto, using(crate::specs::Unlinking::unlinked_step), unfolding(calendar::specs::rules::SearchSteps::step_3))]
 pub fn step_3(shape: Shape, mut w: Worker, store: &mut [u64]) -> Reply
     requires ready { Ready shape store.old w }
     requires right_lt_nodes { w.right < shape.nodes }

@@ -26,8 +26,7 @@ pub mod requests;
 pub mod table;
 
 // How many words to lend for a shape; 0 where it is outside its limits.
-#[unsafe(no_mangle)]
-pub extern "C" fn wubraken_words(shape: Shape) -> usize
+pub fn wubraken_words(shape: Shape) -> usize
     ensures { result ≡ cond (shape_in_range shape) (layout shape) 0 }
 {
     if !shape_in_range(shape) {
@@ -37,8 +36,7 @@ pub extern "C" fn wubraken_words(shape: Shape) -> usize
 }
 
 // Opens a pool.
-#[unsafe(no_mangle)]
-pub extern "C" fn wubraken_open(shape: Shape, store: &mut [u64], table: &mut [Worker]) -> Answer
+pub fn wubraken_open(shape: Shape, store: &mut [u64], table: &mut [Worker]) -> Answer
     ensures { leaves store.new table.new result ≡ told (open_pool shape (lent store.old table.old)) }
 {
     let n = table.len();
@@ -67,8 +65,7 @@ pub fn act_lent(shape: Shape, request: Request, store: &mut [u64], table: &mut [
 }
 
 // A put start of worker i.
-#[unsafe(no_mangle)]
-pub extern "C" fn wubraken_enqueue(
+pub fn wubraken_enqueue(
     shape: Shape,
     i: usize,
     arrival: Arrival,
@@ -82,8 +79,7 @@ pub extern "C" fn wubraken_enqueue(
 }
 
 // A take start of worker i.
-#[unsafe(no_mangle)]
-pub extern "C" fn wubraken_dequeue(
+pub fn wubraken_dequeue(
     shape: Shape,
     i: usize,
     store: &mut [u64],
@@ -95,8 +91,7 @@ pub extern "C" fn wubraken_dequeue(
 }
 
 // A turn of worker i.
-#[unsafe(no_mangle)]
-pub extern "C" fn wubraken_step(
+pub fn wubraken_step(
     shape: Shape,
     i: usize,
     store: &mut [u64],
@@ -108,8 +103,7 @@ pub extern "C" fn wubraken_step(
 }
 
 // The three that look only at what they need, each with at most so many turns of worker i behind it.
-#[unsafe(no_mangle)]
-pub extern "C" fn wubraken_narrow_enqueue(
+pub fn wubraken_narrow_enqueue(
     shape: Shape,
     i: usize,
     arrival: Arrival,
@@ -123,8 +117,7 @@ pub extern "C" fn wubraken_narrow_enqueue(
     answer_of(act_lent(shape, narrow_enqueue(i, arrival, turns), store, table))
 }
 
-#[unsafe(no_mangle)]
-pub extern "C" fn wubraken_narrow_dequeue(
+pub fn wubraken_narrow_dequeue(
     shape: Shape,
     i: usize,
     turns: u64,
@@ -137,8 +130,7 @@ pub extern "C" fn wubraken_narrow_dequeue(
     answer_of(act_lent(shape, narrow_dequeue(i, turns), store, table))
 }
 
-#[unsafe(no_mangle)]
-pub extern "C" fn wubraken_narrow_step(
+pub fn wubraken_narrow_step(
     shape: Shape,
     i: usize,
     turns: u64,

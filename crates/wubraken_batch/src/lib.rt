@@ -12,8 +12,7 @@ pub mod batches;
 pub mod copies;
 
 // Works through a batch of turn-file bytes and writes the lines. The lent memory is looked at once, not for every record.
-#[unsafe(no_mangle)]
-pub extern "C" fn wubraken_run_batch(
+pub fn wubraken_run_batch(
     shape: Shape,
     input: &[u8],
     out: &mut [u8],

@@ -70,9 +70,7 @@
 //! [`Echogram::t20`] and [`Echogram::decay_curve`] (`examples/decay.rs`).
 //!
 //! The library is linked from the repository's `target/staticlib`, where
-//! `rt staticlib wubraken`, `rt staticlib wubraken_batch`, `rt staticlib echogram`,
-//! `rt staticlib dealer` and `rt staticlib decay` write it, or from the directory
-//! `WUBRAKEN_LIB_DIR`.
+//! `tools/build` writes it, or from the directory `WUBRAKEN_LIB_DIR`.
 #![warn(missing_docs)]
 
 #[cfg(not(all(target_arch = "x86_64", target_pointer_width = "64")))]
