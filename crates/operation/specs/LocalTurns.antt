@@ -52,8 +52,8 @@ pub act_length : (sh : Shape) (low : ℕ) (s : List ℕ) (a : Action) (w : Worke
 unfolding local_act
 act_length sh low s a w = go (eqb (first_of (own_tests sh s (none_below sh low s) a w)) 0)
   where
-    go : (b : Bool) → length (cond b (done sh s (outcome_of sh s (first_free_below sh s low) a w)) (refused s w (first_of (own_tests sh s (none_below sh low s) a w)))
-        ).store ≡ length s
+    go : (b : Bool) → length (cond b (done sh s (outcome_of sh s (first_free_below sh s low) a w))
+        (refused s w (first_of (own_tests sh s (none_below sh low s) a w)))).store ≡ length s
     go true = length_write_all sh s (outcome_of sh s (first_free_below sh s low) a w).writes
     go false = refl
 

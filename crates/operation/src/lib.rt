@@ -1,4 +1,6 @@
 // What is done to one record, by value, after refusals 1 to 4, once or with turns behind it; and opening the store.
+#![tactic(auto)]
+
 ghost use Rattle.std.specs.Prelude.{◌≡◌, cond, ◌≤◌, eqb, length};
 ghost use Rattle.admission.specs.Gate.{open_gate};
 ghost use Rattle.calendar.specs.rules.Opening.{open_store};

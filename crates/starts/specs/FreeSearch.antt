@@ -48,7 +48,8 @@ free_none sh s low n = refl
 -- one node on, by what the code has read: the next node m, its standing x, the test's outcome
 module _ (sh : Shape) (s : List ℕ) (low k n m x : ℕ) (t : Bool) (some : 0 < k) (here : m ≡ node_after sh n) (seen : x ≡ read sh s (field 7 m))
     (test : t ≡ free_below low x) where
-  one_on : free_of_below sh s low k n ≡ cond (free_below low (standing sh s (node_after sh n))) (node_after sh n) (free_of_below sh s low (k - 1) (node_after sh n))
+  one_on : free_of_below sh s low k n ≡ cond (free_below low (standing sh s (node_after sh n))) (node_after sh n)
+      (free_of_below sh s low (k - 1) (node_after sh n))
   unfolding free_of_below
   one_on = go k some
     where

@@ -1,4 +1,6 @@
 // The by-value starts: one worker's record and the lent store, after refusals 1 to 4.
+#![tactic(auto)]
+
 ghost use Rattle.std.specs.Prelude.{◌≡◌, ◌<◌, ◌≤◌};
 ghost use Rattle.calendar.specs.rules.Layout.{write_all, started, last_node};
 ghost use Rattle.calendar.specs.rules.Refusals.{bad_arrival};
