@@ -26,11 +26,13 @@ use Rattle.arrival.specs.declared.Action.TheVariants.{Step}
 use Rattle.laws.specs.Tests.{neither}
 use Rattle.calendar.specs.rules.Layout.{layout}
 use Rattle.calendar.specs.rules.Ranges.{worker, shape_in_range, store_in_range, table_in_range}
-use Rattle.calendar.specs.facts.RangeFacts.{Limits, limits}
+use Rattle.calendar.specs.facts.RangeFacts.{Limits}
+use Rattle.calendar.proofs.facts.RangeFacts.{limits}
 use Rattle.calendar.specs.rules.Refusals.{bad_shape, short, too_short, out_of_range, length_tests, field_tests, memory_tests, memory_of, open_refusal}
 use Rattle.laws.specs.FirstOf.{first_of, None, first_append, first_parts, first_none}
-use Rattle.calendar.specs.facts.Accepted.{Lent, Usable, lent, memory_accepted}
-use Rattle.calendar.specs.facts.RefusalParts.{refusal_first}
+use Rattle.calendar.specs.facts.Accepted.{Lent, Usable}
+use Rattle.calendar.proofs.facts.Accepted.{lent, memory_accepted}
+use Rattle.calendar.proofs.facts.RefusalParts.{refusal_first}
 pub use Rattle.calendar.specs.facts.RefusalParts.{own_of}
 use Rattle.calendar.specs.rules.Operations.{Memory, actor, refusal, act}
 use Rattle.admission.specs.Watched.{Watched}

@@ -21,7 +21,8 @@ use Rattle.calendar.specs.rules.Operations.{Memory, actor}
 use Rattle.calendar.specs.rules.NarrowCalls.{records_in_range, narrow_out, narrow_refusal, narrow_act}
 use Rattle.laws.specs.FirstOf.{first_of, first_append}
 use Rattle.calendar.specs.facts.Accepted.{Lent}
-use Rattle.calendar.specs.facts.RangeFacts.{limits, WordRanges, word_ranges}
+use Rattle.calendar.specs.facts.RangeFacts.{WordRanges}
+use Rattle.calendar.proofs.facts.RangeFacts.{limits, word_ranges}
 use Rattle.words.specs.Laid.{Laid, laid}
 use Rattle.admission.specs.Gate.{own_of, gate_of, gate_with, gate_passed, gate_opens, open_gate, open_passed, lent_passes}
 

@@ -1,34 +1,19 @@
--- What is proved of the rules, and the definitions that only proofs use.
+-- The words that theorems about the rules are said in: definitions that no rule needs. The theorems stand in proofs/facts.
 pub mod Places
 pub mod Views
 pub mod RangeFacts
 pub mod Accepted
 pub mod RefusalParts
-pub mod Changes
-pub mod Inside
 pub mod FirstFree
-pub mod NodeCounts
 pub mod Untouched
 pub mod NarrowAccepted
-pub mod Narrow
-pub mod GoesOn
 pub mod NarrowTurns
 pub mod HostRun
 pub mod EveryTime
-pub mod Starred
 pub mod RecordsKept
 pub mod RangesKept
-pub mod LedgerRun
-pub mod FreshPool
-pub mod Acting
 pub mod RecordsBeyond
-pub mod LowestFirst
 pub mod AdmittedOrders
-pub mod Guards
-pub mod StoodOn
-pub mod WorkedHistory
-pub mod TailHistory
-pub mod TieHistory
 pub mod OneWord
 pub mod WordsBeyond
 pub mod AnswerRanges

@@ -28,13 +28,15 @@ use Rattle.calendar.specs.rules.Outcome.{Outcome}
 use Rattle.calendar.specs.rules.Starts.{item_of, begun, enqueue_start, dequeue_start}
 use Rattle.calendar.specs.rules.Operations.{Memory, perform, open_pool, actor, refusal, outcome, act, run}
 use Rattle.calendar.specs.rules.Ledger.{Ledger, new, begins, hears, sees, notes, reads, ledger}
-use Rattle.calendar.specs.facts.Views.{view, updates, view_write_all, AllInside}
-use Rattle.calendar.specs.facts.FirstFree.{first_free_node, first_free_free}
-use Rattle.calendar.specs.facts.FreshPool.{open_started, open_head, open_field, open_worker}
-use Rattle.calendar.specs.facts.Accepted.{EnqueueAccepted, DequeueAccepted, StepAccepted, enqueue_accepted, dequeue_accepted, step_accepted}
-use Rattle.calendar.specs.facts.Changes.{Change, step_is}
-use Rattle.calendar.specs.facts.Inside.{enqueue_inside, dequeue_inside, change_inside}
-use Rattle.calendar.specs.facts.Acting.{by_act}
+use Rattle.calendar.specs.facts.Views.{view, updates, AllInside}
+use Rattle.calendar.proofs.facts.Views.{view_write_all}
+use Rattle.calendar.proofs.facts.FirstFree.{first_free_node, first_free_free}
+use Rattle.calendar.proofs.facts.FreshPool.{open_started, open_head, open_field, open_worker}
+use Rattle.calendar.specs.facts.Accepted.{EnqueueAccepted, DequeueAccepted, StepAccepted}
+use Rattle.calendar.proofs.facts.Accepted.{enqueue_accepted, dequeue_accepted, step_accepted}
+use Rattle.calendar.proofs.facts.Changes.{Change, step_is}
+use Rattle.calendar.proofs.facts.Inside.{enqueue_inside, dequeue_inside, change_inside}
+use Rattle.calendar.proofs.facts.Acting.{by_act}
 use Rattle.order.specs.Scans.{running_ended}
 use Rattle.lists.specs.LinkInvariant.{Chains}
 use Rattle.lists.specs.Filling.{key_same, not_safe}

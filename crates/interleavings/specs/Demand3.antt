@@ -4,7 +4,7 @@ use Rattle.calendar.specs.rules.Ranges.{worker}
 use Rattle.calendar.specs.rules.Operations.{open_pool, run}
 use Rattle.calendar.specs.rules.Ledger.{new, ledger}
 use Rattle.calendar.specs.rules.Linearizability.{Demand3}
-use Rattle.calendar.specs.facts.Accepted.{open_accepted}
+use Rattle.calendar.proofs.facts.Accepted.{open_accepted}
 use Rattle.lists.specs.AllCalls.{Live}
 use Rattle.lists.specs.NodeReuse.{opened, reached_in_range, reached_not_held}
 use Rattle.lists.specs.Walks.{walk_meets}

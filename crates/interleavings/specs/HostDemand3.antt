@@ -8,7 +8,8 @@ use Rattle.calendar.specs.rules.Operations.{Memory, open_pool}
 use Rattle.calendar.specs.rules.Ledger.{Ledger, new, ledger}
 use Rattle.calendar.specs.rules.Linearizability.{Correct, Always, Demand3}
 use Rattle.calendar.specs.rules.HostHistory.{one_by_one, HostAlways, HostDemand3}
-use Rattle.calendar.specs.facts.HostRun.{StaysInRange, host_memory, host_answers_lem, host_single}
+use Rattle.calendar.specs.facts.HostRun.{StaysInRange}
+use Rattle.calendar.proofs.facts.HostRun.{host_memory, host_answers_lem, host_single}
 use Rattle.lists.specs.NodeReuse.{always_in_range}
 use Rattle.interleavings.specs.Demand3.{demand_3}
 

@@ -25,7 +25,7 @@ use Rattle.calendar.specs.rules.Ledger.{Ledger, succeeds_11}
 use Rattle.calendar.specs.rules.Snapshot.{unmarked_of, has_marked}
 use Rattle.calendar.specs.rules.Linearizability.{Finished, HeldBy, AnsweredBy, ListedOrMarked}
 use Rattle.calendar.specs.facts.Views.{View, view, item_in}
-use Rattle.calendar.specs.facts.StoodOn.{marked_stage}
+use Rattle.calendar.proofs.facts.StoodOn.{marked_stage}
 use Rattle.order.specs.Entries.{Element, Entry, enqueue, dequeue, empty, scan, ticket, run}
 use Rattle.order.specs.RealTime.{ended, ticket_of_lem}
 use Rattle.order.specs.Calls.{Call}

@@ -24,10 +24,10 @@ use Rattle.calendar.specs.rules.EnqueueSteps.{own_epoch, prepare, link_own, rene
 use Rattle.calendar.specs.rules.DequeueSteps.{node_is_marked, link_holds, mark_node, next_current, this_current}
 use Rattle.calendar.specs.rules.Refusals.{no_epoch}
 use Rattle.calendar.specs.facts.Views.{View, view, update, updates, item_in}
-use Rattle.calendar.specs.facts.Inside.{found_writes, settled_writes, walked_writes}
-use Rattle.calendar.specs.facts.Changes.{Found, put_found, take_ends, Settled, at_end, still_on, Walked, out, out_last, meets, Change, head_read, mark_seen}
-use Rattle.calendar.specs.facts.Changes.{passed, stopped, unlinked, again_3, prepared, linked, again_5, stored_6, on_7, stored_7, back_6, current_read}
-use Rattle.calendar.specs.facts.Changes.{first_read, mark_passed, newer, on_11, marked, back_10, advanced, back_12, emptied, back_13}
+use Rattle.calendar.proofs.facts.Inside.{found_writes, settled_writes, walked_writes}
+use Rattle.calendar.proofs.facts.Changes.{Found, put_found, take_ends, Settled, at_end, still_on, Walked, out, out_last, meets, Change, head_read, mark_seen}
+use Rattle.calendar.proofs.facts.Changes.{passed, stopped, unlinked, again_3, prepared, linked, again_5, stored_6, on_7, stored_7, back_6, current_read}
+use Rattle.calendar.proofs.facts.Changes.{first_read, mark_passed, newer, on_11, marked, back_10, advanced, back_12, emptied, back_13}
 use Rattle.order.specs.Entries.{Keys, Element, Entry, enqueue, dequeue, empty, scan, run}
 use Rattle.order.specs.RealTime.{ended}
 use Rattle.order.specs.Scans.{alike_sym, alike_unscan, unscan}

@@ -4,10 +4,10 @@ use Rattle.std.specs.Prelude.{◌≡◌, refl, [], ◌∷◌}
 use Rattle.calendar.specs.rules.Refusals.{open_refusal}
 use Rattle.calendar.specs.rules.Operations.{open_pool, run}
 use Rattle.calendar.specs.rules.Linearizability.{Correct, Demand3}
-use Rattle.calendar.specs.facts.Starred.{lent, two_workers}
-use Rattle.calendar.specs.facts.WorkedHistory.{one_bucket, history, start, seen, order_forced}
-use Rattle.calendar.specs.facts.TailHistory as tail
-use Rattle.calendar.specs.facts.TieHistory as ties
+use Rattle.calendar.proofs.facts.Starred.{lent, two_workers}
+use Rattle.calendar.proofs.facts.WorkedHistory.{one_bucket, history, start, seen, order_forced}
+use Rattle.calendar.proofs.facts.TailHistory as tail
+use Rattle.calendar.proofs.facts.TieHistory as ties
 use Rattle.interleavings.specs.Demand3.{demand_3}
 
 pub correct : Correct one_bucket (run one_bucket start history) seen

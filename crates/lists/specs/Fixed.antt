@@ -27,15 +27,16 @@ use Rattle.calendar.specs.rules.EnqueueSteps.{own_epoch}
 use Rattle.calendar.specs.rules.Snapshot.{holds}
 use Rattle.calendar.specs.rules.Ledger.{new}
 use Rattle.calendar.specs.rules.Operations.{Memory, open_pool, refusal, outcome, act, run}
-use Rattle.calendar.specs.facts.Views.{View, view, updates, item_in, view_write_all}
-use Rattle.calendar.specs.facts.FirstFree.{first_free_node, first_free_free}
-use Rattle.calendar.specs.facts.Accepted.{enqueue_accepted, step_accepted}
-use Rattle.calendar.specs.facts.Changes.{Change, head_read, mark_seen, passed, stopped, unlinked, again_3, prepared, linked, again_5, stored_6, on_7, stored_7}
-use Rattle.calendar.specs.facts.Changes.{back_6, current_read, first_read, mark_passed, newer, on_11, marked, back_10, advanced, back_12, emptied, back_13}
-use Rattle.calendar.specs.facts.Changes.{step_is}
-use Rattle.calendar.specs.facts.Inside.{found_writes, settled_writes, walked_writes}
-use Rattle.calendar.specs.facts.Untouched.{outcome_inside}
-use Rattle.calendar.specs.facts.Acting.{by_act}
+use Rattle.calendar.specs.facts.Views.{View, view, updates, item_in}
+use Rattle.calendar.proofs.facts.Views.{view_write_all}
+use Rattle.calendar.proofs.facts.FirstFree.{first_free_node, first_free_free}
+use Rattle.calendar.proofs.facts.Accepted.{enqueue_accepted, step_accepted}
+use Rattle.calendar.proofs.facts.Changes.{Change, head_read, mark_seen, passed, stopped, unlinked, again_3, prepared, linked, again_5, stored_6, on_7, stored_7}
+use Rattle.calendar.proofs.facts.Changes.{back_6, current_read, first_read, mark_passed, newer, on_11, marked, back_10, advanced, back_12, emptied, back_13}
+use Rattle.calendar.proofs.facts.Changes.{step_is}
+use Rattle.calendar.proofs.facts.Inside.{found_writes, settled_writes, walked_writes}
+use Rattle.calendar.proofs.facts.Untouched.{outcome_inside}
+use Rattle.calendar.proofs.facts.Acting.{by_act}
 use Rattle.lists.specs.LinkInvariant.{Chains, Safe, home}
 use Rattle.lists.specs.Knowledge.{Private}
 use Rattle.lists.specs.Filling.{key_same}

@@ -27,14 +27,16 @@ use Rattle.calendar.specs.rules.Outcome.{Outcome}
 use Rattle.calendar.specs.rules.Starts.{item_of, begun, enqueue_start, dequeue_start}
 use Rattle.calendar.specs.rules.SearchSteps.{left_holds}
 use Rattle.calendar.specs.rules.Operations.{Memory, perform, outcome}
-use Rattle.calendar.specs.facts.Views.{view, updates, view_write_all, AllInside}
+use Rattle.calendar.specs.facts.Views.{view, updates, AllInside}
+use Rattle.calendar.proofs.facts.Views.{view_write_all}
 use Rattle.calendar.specs.facts.RangeFacts.{StoreRanges, RecordRanges}
-use Rattle.calendar.specs.facts.FirstFree.{first_free_node, first_free_free}
-use Rattle.calendar.specs.facts.FreshPool.{open_head, open_field, open_worker, open_store_ranged, open_table_ranged}
+use Rattle.calendar.proofs.facts.FirstFree.{first_free_node, first_free_free}
+use Rattle.calendar.proofs.facts.FreshPool.{open_head, open_field, open_worker, open_store_ranged, open_table_ranged}
 use Rattle.calendar.specs.facts.Accepted.{Lent, EnqueueAccepted, DequeueAccepted, StepAccepted}
-use Rattle.calendar.specs.facts.Changes.{Change}
-use Rattle.calendar.specs.facts.Inside.{enqueue_inside, dequeue_inside, change_inside, length_write_all}
-use Rattle.calendar.specs.facts.RangesKept.{leaks, enqueue_ranged, dequeue_ranged, step_ranged}
+use Rattle.calendar.proofs.facts.Changes.{Change}
+use Rattle.calendar.proofs.facts.Inside.{enqueue_inside, dequeue_inside, change_inside, length_write_all}
+use Rattle.calendar.specs.facts.RangesKept.{leaks}
+use Rattle.calendar.proofs.facts.RangesKept.{enqueue_ranged, dequeue_ranged, step_ranged}
 use Rattle.lists.specs.Chain.{edge_in}
 use Rattle.lists.specs.LinkInvariant.{Chains, edge}
 use Rattle.lists.specs.Filling.{Free}

@@ -8,7 +8,8 @@ use Rattle.arrival.specs.declared.Request.{Request}
 use Rattle.arrival.specs.declared.Response.TheVariants.{Opened}
 use Rattle.calendar.specs.rules.Operations.{Memory, open_pool}
 use Rattle.calendar.specs.rules.HostHistory.{host_answers}
-use Rattle.calendar.specs.facts.AnswerRanges.{AllInRange, host_values}
+use Rattle.calendar.specs.facts.AnswerRanges.{AllInRange}
+use Rattle.calendar.proofs.facts.AnswerRanges.{host_values}
 use Rattle.lists.specs.NodeReuse.{always_in_range}
 
 pub always_values : (sh : Shape) (m : Memory) → (open_pool sh m).response ≡ Opened → (qs : List Request)

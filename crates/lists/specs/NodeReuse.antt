@@ -27,14 +27,16 @@ use Rattle.calendar.specs.rules.Snapshot.{holds}
 use Rattle.calendar.specs.rules.Ledger.{new}
 use Rattle.calendar.specs.rules.Operations.{Memory, Result, perform, open_pool, actor, refusal, outcome, act, run}
 use Rattle.calendar.specs.facts.Views.{View, view, item_in}
-use Rattle.calendar.specs.facts.RangeFacts.{store_tests, table_tests}
-use Rattle.calendar.specs.facts.FirstFree.{first_free_node, first_free_free}
-use Rattle.calendar.specs.facts.Accepted.{Lent, open_accepted, enqueue_accepted, dequeue_accepted, step_accepted}
+use Rattle.calendar.proofs.facts.RangeFacts.{store_tests, table_tests}
+use Rattle.calendar.proofs.facts.FirstFree.{first_free_node, first_free_free}
+use Rattle.calendar.specs.facts.Accepted.{Lent}
+use Rattle.calendar.proofs.facts.Accepted.{open_accepted, enqueue_accepted, dequeue_accepted, step_accepted}
 use Rattle.laws.specs.FirstOf.{by_numbers, first_above}
-use Rattle.calendar.specs.facts.RefusalParts.{tests_of, refusal_first, tests_rise}
-use Rattle.calendar.specs.facts.Changes.{step_is}
-use Rattle.calendar.specs.facts.Untouched.{open_same_size, outcome_said}
-use Rattle.calendar.specs.facts.Acting.{by_act}
+use Rattle.calendar.specs.facts.RefusalParts.{tests_of}
+use Rattle.calendar.proofs.facts.RefusalParts.{refusal_first, tests_rise}
+use Rattle.calendar.proofs.facts.Changes.{step_is}
+use Rattle.calendar.proofs.facts.Untouched.{open_same_size, outcome_said}
+use Rattle.calendar.proofs.facts.Acting.{by_act}
 use Rattle.lists.specs.LinkInvariant.{Chains}
 use Rattle.lists.specs.Filling.{Free, not_used, not_safe}
 use Rattle.lists.specs.AllCalls.{Live, Inv}

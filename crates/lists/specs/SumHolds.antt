@@ -28,13 +28,14 @@ use Rattle.calendar.specs.rules.Starts.{enqueue_start, dequeue_start}
 use Rattle.calendar.specs.rules.Operations.{Memory, perform, open_pool, actor, refusal, outcome, act, run}
 use Rattle.calendar.specs.rules.Ledger.{Ledger, new, marks, hears, sees, succeeds_11, notes, reads, ledger}
 use Rattle.calendar.specs.rules.Snapshot.{bucket_list, unmarked_in, unmarked_to, has_linked, has_marked, workers_with}
-use Rattle.calendar.specs.facts.Views.{View, view, updates, view_write_all, AllInside}
-use Rattle.calendar.specs.facts.FirstFree.{first_free_node}
-use Rattle.calendar.specs.facts.FreshPool.{open_worker}
-use Rattle.calendar.specs.facts.Accepted.{enqueue_accepted, dequeue_accepted, step_accepted}
-use Rattle.calendar.specs.facts.Changes.{Change, step_is}
-use Rattle.calendar.specs.facts.Inside.{enqueue_inside, dequeue_inside, change_inside}
-use Rattle.calendar.specs.facts.Acting.{by_act}
+use Rattle.calendar.specs.facts.Views.{View, view, updates, AllInside}
+use Rattle.calendar.proofs.facts.Views.{view_write_all}
+use Rattle.calendar.proofs.facts.FirstFree.{first_free_node}
+use Rattle.calendar.proofs.facts.FreshPool.{open_worker}
+use Rattle.calendar.proofs.facts.Accepted.{enqueue_accepted, dequeue_accepted, step_accepted}
+use Rattle.calendar.proofs.facts.Changes.{Change, step_is}
+use Rattle.calendar.proofs.facts.Inside.{enqueue_inside, dequeue_inside, change_inside}
+use Rattle.calendar.proofs.facts.Acting.{by_act}
 use Rattle.lists.specs.LinkInvariant.{Chains}
 use Rattle.lists.specs.AllCalls.{with_record}
 use Rattle.lists.specs.TurnsKeepLists.{chains_after}

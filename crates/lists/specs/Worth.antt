@@ -22,10 +22,10 @@ use Rattle.calendar.specs.rules.DequeueSteps.{link_holds, mark_node, next_curren
 use Rattle.calendar.specs.rules.Snapshot.{has_linked, has_marked}
 use Rattle.calendar.specs.facts.Views.{View, view, updates}
 use Rattle.calendar.specs.facts.RangeFacts.{RecordRanges}
-use Rattle.calendar.specs.facts.Inside.{found_writes, settled_writes, walked_writes}
-use Rattle.calendar.specs.facts.Changes.{Found, put_found, take_ends, Settled, at_end, still_on, Walked, out, out_last, meets, Change, head_read, mark_seen}
-use Rattle.calendar.specs.facts.Changes.{passed, stopped, unlinked, again_3, prepared, linked, again_5, stored_6, on_7, stored_7, back_6, current_read}
-use Rattle.calendar.specs.facts.Changes.{first_read, mark_passed, newer, on_11, marked, back_10, advanced, back_12, emptied, back_13}
+use Rattle.calendar.proofs.facts.Inside.{found_writes, settled_writes, walked_writes}
+use Rattle.calendar.proofs.facts.Changes.{Found, put_found, take_ends, Settled, at_end, still_on, Walked, out, out_last, meets, Change, head_read, mark_seen}
+use Rattle.calendar.proofs.facts.Changes.{passed, stopped, unlinked, again_3, prepared, linked, again_5, stored_6, on_7, stored_7, back_6, current_read}
+use Rattle.calendar.proofs.facts.Changes.{first_read, mark_passed, newer, on_11, marked, back_10, advanced, back_12, emptied, back_13}
 use Rattle.lists.specs.Chain.{In, insert_at, remove_at}
 use Rattle.lists.specs.LinkInvariant.{Chains, home, chain_distinct, edge}
 use Rattle.lists.specs.AllCalls.{Live, Inv}

@@ -14,7 +14,8 @@ use Rattle.arrival.specs.declared.Action.TheVariants.{Enqueue, Dequeue, Step}
 use Rattle.arrival.specs.declared.Response.TheVariants as response
 use Rattle.calendar.specs.rules.Ranges.{worker}
 use Rattle.calendar.specs.facts.RangesKept.{leaks}
-use Rattle.calendar.specs.facts.Accepted.{Usable, enqueue_accepted, dequeue_accepted, step_accepted}
+use Rattle.calendar.specs.facts.Accepted.{Usable}
+use Rattle.calendar.proofs.facts.Accepted.{enqueue_accepted, dequeue_accepted, step_accepted}
 use Rattle.calendar.specs.rules.Operations.{Memory, actor, refusal, perform, outcome, act}
 use Rattle.admission.specs.Watched.{in_range, Watched, enqueue_sound, dequeue_sound, step_sound}
 use Rattle.admission.specs.Gate.{gate_of, gate_passed, usable, turn_at_3}

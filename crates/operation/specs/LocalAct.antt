@@ -20,7 +20,8 @@ use Rattle.calendar.specs.rules.Refusals.{own_tests}
 use Rattle.laws.specs.FirstOf.{first_of}
 use Rattle.calendar.specs.rules.Operations.{Memory, Result, unless, perform, actor, outcome_of, outcome, act}
 use Rattle.calendar.specs.rules.NarrowCalls.{records_in_range, narrow_act}
-use Rattle.calendar.specs.facts.RangeFacts.{Limits, WordRanges, RecordRanges, table_ranges}
+use Rattle.calendar.specs.facts.RangeFacts.{Limits, WordRanges, RecordRanges}
+use Rattle.calendar.proofs.facts.RangeFacts.{table_ranges}
 use Rattle.calendar.specs.facts.Accepted.{Usable}
 use Rattle.words.specs.Laid.{Laid, laid}
 use Rattle.words.specs.Done.{Done, done, refused, unless_refused}

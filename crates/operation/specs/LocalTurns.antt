@@ -27,11 +27,13 @@ use Rattle.calendar.specs.rules.Refusals.{own_tests, enqueue_own, dequeue_own, s
 use Rattle.calendar.specs.rules.Operations.{Memory, outcome_of}
 use Rattle.calendar.specs.rules.NarrowCalls.{records_in_range, narrow_act, goes_on, turns_after}
 use Rattle.laws.specs.FirstOf.{first_of, first_none}
-use Rattle.calendar.specs.facts.RangeFacts.{Limits, WordRanges, word_tests, RecordRanges, record_ranges, record_tests_lem}
+use Rattle.calendar.specs.facts.RangeFacts.{Limits, WordRanges, RecordRanges}
+use Rattle.calendar.proofs.facts.RangeFacts.{word_tests, record_ranges, record_tests_lem}
 use Rattle.calendar.specs.facts.Accepted.{Lent}
-use Rattle.calendar.specs.facts.Inside.{length_write_all}
-use Rattle.calendar.specs.facts.Changes.{step_is}
-use Rattle.calendar.specs.facts.RecordsKept.{enqueue_record, dequeue_record, links_in_range, turn_tests, enqueue_words, dequeue_words, turn_words}
+use Rattle.calendar.proofs.facts.Inside.{length_write_all}
+use Rattle.calendar.proofs.facts.Changes.{step_is}
+use Rattle.calendar.specs.facts.RecordsKept.{links_in_range}
+use Rattle.calendar.proofs.facts.RecordsKept.{enqueue_record, dequeue_record, turn_tests, enqueue_words, dequeue_words, turn_words}
 use Rattle.words.specs.Done.{Done, done, refused}
 use Rattle.starts.specs.FreeSearch.{first_free_below, first_below_node}
 use Rattle.starts.specs.LocalStart.{none_below}

@@ -11,7 +11,7 @@ use Rattle.calendar.specs.rules.EnqueueSteps.{current_holds, step_7}
 use Rattle.calendar.specs.rules.Steps.{rules, no_step, step}
 use Rattle.calendar.specs.rules.Refusals.{step_own}
 use Rattle.laws.specs.FirstOf.{first_of}
-use Rattle.calendar.specs.facts.Changes.{step_at}
+use Rattle.calendar.proofs.facts.Changes.{step_at}
 use Rattle.words.specs.Done.{Done, done, refused, unless_refused}
 
 -- a stage that there is none comes before a turn's own refusals

@@ -4,7 +4,8 @@ use Rattle.std.proofs.Common.{◌∙◌, lit<}
 use Rattle.arrival.specs.declared.Shape.{Shape}
 use Rattle.arrival.specs.declared.Worker.{Worker}
 use Rattle.calendar.specs.rules.Layout.{Place, cell, field, read, write, write_all, address, item_at, successor, unmarked, unlinked_at, started}
-use Rattle.calendar.specs.facts.Places.{valid, same, read_write}
+use Rattle.calendar.specs.facts.Places.{valid, same}
+use Rattle.calendar.proofs.facts.Places.{read_write}
 use Rattle.calendar.specs.facts.RangeFacts.{RecordRanges}
 use Rattle.calendar.specs.rules.SearchSteps.{unlink}
 use Rattle.words.specs.Laid.{Laid, laid_write, cell_in, field_in}

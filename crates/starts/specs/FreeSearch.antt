@@ -9,7 +9,7 @@ use Rattle.arrival.specs.declared.Shape.{Shape}
 use Rattle.arrival.specs.declared.Worker.{Worker}
 use Rattle.calendar.specs.rules.Layout.{field, read, last_node, standing}
 use Rattle.calendar.specs.rules.Ranges.{worker}
-use Rattle.calendar.specs.facts.FirstFree.{after_below}
+use Rattle.calendar.proofs.facts.FirstFree.{after_below}
 use Rattle.calendar.specs.rules.Reclaim.{node_after, first_free_of, first_free}
 use Rattle.starts.specs.LeastTicket.{least_ticket, free_below, free_is}
 

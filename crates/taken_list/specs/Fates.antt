@@ -21,7 +21,7 @@ use Rattle.calendar.specs.rules.Snapshot.{unmarked_of}
 use Rattle.calendar.specs.rules.Linearizability.{Finished, pool_reply, InProgress, HeldBy, AnsweredBy, ListedOrMarked, Correct}
 use Rattle.taken_list.specs.Promises.{Answers, InLists, Fate, OnceEach}
 use Rattle.taken_list.specs.LedgerLaws.{Lawful}
-use Rattle.calendar.specs.facts.StoodOn.{marked_stage}
+use Rattle.calendar.proofs.facts.StoodOn.{marked_stage}
 use Rattle.lists.specs.Walks.{unmarked_there, there_unmarked}
 use Rattle.taken_list.specs.OneTake.{marked_is, Met, met}
 

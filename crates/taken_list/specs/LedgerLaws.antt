@@ -23,8 +23,8 @@ use Rattle.calendar.specs.rules.Starts.{item_of}
 use Rattle.calendar.specs.rules.Operations.{Memory, refusal, outcome, act, run}
 use Rattle.calendar.specs.rules.Ledger.{Ledger, new, begins, ends, marks, hears, succeeds_11, sees, notes, reads, ledger}
 use Rattle.calendar.specs.rules.Linearizability.{InProgress}
-use Rattle.calendar.specs.facts.Accepted.{enqueue_accepted, step_accepted}
-use Rattle.calendar.specs.facts.Acting.{by_act}
+use Rattle.calendar.proofs.facts.Accepted.{enqueue_accepted, step_accepted}
+use Rattle.calendar.proofs.facts.Acting.{by_act}
 
 -- what is heard ends the worker's call, or leaves the ledger
 by_hears : (P : Ledger → Type 0) (i : ℕ) (r : Response) (L : Ledger) → P L → ((more-stored more-taken : ℕ) → P (ends i r more-stored more-taken L))

@@ -34,8 +34,8 @@ use Rattle.calendar.specs.rules.Operations.{open_pool, act, run}
 use Rattle.calendar.specs.rules.Ledger.{Ledger, new, at, ledger}
 use Rattle.calendar.specs.rules.Snapshot.{nodes_from, bucket_list}
 use Rattle.calendar.specs.rules.Linearizability.{Finished, EndedBefore, Agree, Correct, Demand3}
-use Rattle.calendar.specs.facts.Starred.{arrival, turns, put, take, lent}
-use Rattle.calendar.specs.facts.WorkedHistory.{one_bucket, start}
+use Rattle.calendar.proofs.facts.Starred.{arrival, turns, put, take, lent}
+use Rattle.calendar.proofs.facts.WorkedHistory.{one_bucket, start}
 use Rattle.interleavings.specs.Demand3.{demand_3}
 use Rattle.taken_list.specs.Promises.{Answers, GoneToAnother, InLists, starts, Fate}
 

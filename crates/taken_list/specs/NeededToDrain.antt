@@ -31,8 +31,8 @@ use Rattle.calendar.specs.rules.Operations.{open_pool, act, run}
 use Rattle.calendar.specs.rules.Ledger.{Ledger, ledger}
 use Rattle.calendar.specs.rules.Snapshot.{nodes_from, bucket_list}
 use Rattle.calendar.specs.rules.Linearizability.{Finished, EndedBefore, pool_reply}
-use Rattle.calendar.specs.facts.Starred.{arrival, turns, put, take, lent}
-use Rattle.calendar.specs.facts.WorkedHistory.{one_bucket, start}
+use Rattle.calendar.proofs.facts.Starred.{arrival, turns, put, take, lent}
+use Rattle.calendar.proofs.facts.WorkedHistory.{one_bucket, start}
 use Rattle.taken_list.specs.Promises.{InLists, Quiet, TakesInTurn, Ascending, nth, Drained}
 use Rattle.taken_list.specs.Needed.{seen, item, nowhere, beginning}
 

@@ -23,7 +23,7 @@ use Rattle.calendar.specs.rules.Linearizability.{Correct, Always, Demand3}
 use Rattle.calendar.specs.rules.HostHistory.{one_by_one, HostAlways}
 use Rattle.taken_list.specs.Promises.{OneAtATime, NothingPassedOver, EmptyMeansEmpty, TwoTakes, Swapped, OnceEach, DrainedIf, Drains, HostDrains}
 use Rattle.taken_list.specs.LedgerLaws.{Lawful, lawful, lawful_new, Kept, kept_refl, kept_trans, kept_act, FromHistory, history_on}
-use Rattle.calendar.specs.facts.HostRun.{host_memory}
+use Rattle.calendar.proofs.facts.HostRun.{host_memory}
 use Rattle.lists.specs.NodeReuse.{always_in_range}
 use Rattle.interleavings.specs.Demand3.{demand_3}
 use Rattle.interleavings.specs.HostDemand3.{host_always}

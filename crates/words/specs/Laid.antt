@@ -3,7 +3,7 @@ use Rattle.std.specs.Prelude.{List, ℕ, ◌+◌, ◌<◌, ◌≤◌, length}
 use Rattle.std.proofs.Common.{arith}
 use Rattle.arrival.specs.declared.Shape.{Shape}
 use Rattle.calendar.specs.rules.Layout.{Place, cell, field, address, layout, write}
-use Rattle.calendar.specs.facts.Places.{length_write, cell_inside, field_inside}
+use Rattle.calendar.proofs.facts.Places.{length_write, cell_inside, field_inside}
 use Rattle.calendar.specs.facts.RangeFacts.{Limits}
 
 -- the shape's limits that bound addresses, and a store long enough

@@ -6,7 +6,7 @@ use Rattle.arrival.specs.declared.Shape.{Shape}
 use Rattle.arrival.specs.declared.Item.{Item}
 use Rattle.arrival.specs.Keys.{lower}
 use Rattle.calendar.specs.rules.Layout.{Place, word, cell, field, Write, ◌≔◌, address, layout, read, write, write_all}
-use Rattle.calendar.specs.facts.Places.{same, valid, read_write, length_write}
+use Rattle.calendar.specs.facts.Places.{same, valid}
 
 pub record View : Type 0 where
   pub current : ℕ
@@ -59,28 +59,6 @@ updates ((p ≔ v) ∷ ws) m = updates ws (update p v m)
 abbrev pub AllInside : Shape → List Write → Type 0
 AllInside sh [] = Unit {0}
 AllInside sh ((p ≔ v) ∷ ws) = (valid p ≡ true) × (address sh p < layout sh) × AllInside sh ws
-
--- THE LAW: the view of what was written is the view updated
-pub view_write : (sh : Shape) (s : List ℕ) (p : Place) (v : ℕ) → valid p ≡ true → address sh p < length s
-    → view sh (write sh s p v) ≡ update p v (view sh s)
-view_write sh s p v ok h = λ i. record {
-  current = read_write sh s p (word 0) v ok refl h i;
-  started = read_write sh s p (word 1) v ok refl h i;
-  last = read_write sh s p (word 2) v ok refl h i;
-  cells = λ q. read_write sh s p (cell q) v ok refl h i;
-  time = λ n. read_write sh s p (field 1 n) v ok refl h i;
-  ticket = λ n. read_write sh s p (field 2 n) v ok refl h i;
-  path = λ n. read_write sh s p (field 3 n) v ok refl h i;
-  order = λ n. read_write sh s p (field 4 n) v ok refl h i;
-  distance = λ n. read_write sh s p (field 5 n) v ok refl h i;
-  epoch = λ n. read_write sh s p (field 6 n) v ok refl h i;
-  standing = λ n. read_write sh s p (field 7 n) v ok refl h i;
-}
-
-pub view_write_all : (sh : Shape) (s : List ℕ) (ws : List Write) → layout sh ≤ length s → AllInside sh ws → view sh (write_all sh s ws) ≡ updates ws (view sh s)
-view_write_all sh s [] h a = refl
-view_write_all sh s ((p ≔ v) ∷ ws) h a =
-    view_write_all sh (write sh s p v) ws (rw length_write h) a.2 ∙ ap (updates ws) (view_write sh s p v a.0 (omega (arith, a.1)))
 
 -- the item in a node, and the order of keys on nodes
 abbrev pub item_in : View → ℕ → Item

@@ -18,13 +18,13 @@ use Rattle.laws.specs.FirstOf.{first_of}
 use Rattle.calendar.specs.rules.Operations.{Memory, actor, outcome}
 use Rattle.calendar.specs.rules.NarrowCalls.{narrow_refusal, narrow_act, goes_on}
 use Rattle.calendar.specs.facts.RangeFacts.{RecordRanges}
-use Rattle.calendar.specs.facts.Changes.{Found, put_found, take_ends, Settled, at_end, still_on, Walked, out, out_last, meets, Change, head_read}
-use Rattle.calendar.specs.facts.Changes.{mark_seen, passed, stopped, unlinked, again_3, prepared, linked, again_5, stored_6, on_7, stored_7, back_6}
-use Rattle.calendar.specs.facts.Changes.{current_read, first_read, mark_passed, newer, on_11, marked, back_10, advanced, back_12, emptied, back_13}
-use Rattle.calendar.specs.facts.Changes.{step_is}
-use Rattle.calendar.specs.facts.Accepted.{step_passed}
+use Rattle.calendar.proofs.facts.Changes.{Found, put_found, take_ends, Settled, at_end, still_on, Walked, out, out_last, meets, Change, head_read}
+use Rattle.calendar.proofs.facts.Changes.{mark_seen, passed, stopped, unlinked, again_3, prepared, linked, again_5, stored_6, on_7, stored_7, back_6}
+use Rattle.calendar.proofs.facts.Changes.{current_read, first_read, mark_passed, newer, on_11, marked, back_10, advanced, back_12, emptied, back_13}
+use Rattle.calendar.proofs.facts.Changes.{step_is}
+use Rattle.calendar.proofs.facts.Accepted.{step_passed}
 use Rattle.calendar.specs.facts.RefusalParts.{own_of}
-use Rattle.calendar.specs.facts.NarrowAccepted.{narrow_accepted, narrow_passes}
+use Rattle.calendar.proofs.facts.NarrowAccepted.{narrow_accepted, narrow_passes}
 
 module _ (sh : Shape) (s : List ℕ) where
   found_goes : {ws : List Write} {v : Worker} {o : Outcome} → Found sh s ws v o → goes_on o.response ≡ in_progress o.worker

@@ -22,7 +22,7 @@ use Rattle.calendar.specs.rules.Refusals.{open_refusal, enqueue_refusal, dequeue
 use Rattle.calendar.specs.rules.Operations.{Memory, open_pool, act, run}
 use Rattle.calendar.specs.rules.Ledger.{Ledger, new, ledger}
 use Rattle.calendar.specs.rules.Snapshot.{nodes_from, bucket_list, unmarked_in, unmarked_of, has_linked, has_marked, workers_with}
-use Rattle.calendar.specs.facts.Starred.{two_workers, arrival, turns, put, take, lent}
+use Rattle.calendar.proofs.facts.Starred.{two_workers, arrival, turns, put, take, lent}
 
 pub start : Memory
 start = (open_pool two_workers lent).memory

@@ -24,10 +24,10 @@ use Rattle.calendar.specs.rules.Refusals.{open_refusal, enqueue_refusal, dequeue
 use Rattle.calendar.specs.rules.Operations.{open_pool, act, run}
 use Rattle.calendar.specs.rules.Ledger.{Ledger, new, ledger}
 use Rattle.calendar.specs.rules.Linearizability.{Linearization}
-use Rattle.calendar.specs.facts.Starred.{turns, put, take, lent}
+use Rattle.calendar.proofs.facts.Starred.{turns, put, take, lent}
 use Rattle.calendar.specs.facts.AdmittedOrders.{orders_of}
-use Rattle.calendar.specs.facts.Guards.{forced}
-use Rattle.calendar.specs.facts.WorkedHistory.{one_bucket, start}
+use Rattle.calendar.proofs.facts.Guards.{forced}
+use Rattle.calendar.proofs.facts.WorkedHistory.{one_bucket, start}
 
 unfoldable pub reflection : ℕ → ℕ → ℕ → Arrival
 reflection time order path = record { time = time; path = path; order = order; distance = 3 }

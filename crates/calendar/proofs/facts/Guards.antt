@@ -12,7 +12,8 @@ use Rattle.arrival.specs.Queue.{enqueue, dequeue, taken}
 use Rattle.laws.specs.Lists.{below}
 use Rattle.calendar.specs.rules.Ledger.{Ledger, new, begins, ends, marks}
 use Rattle.calendar.specs.rules.Linearizability.{Linearization}
-use Rattle.calendar.specs.facts.AdmittedOrders.{orders_of, admitted, linearization_admitted}
+use Rattle.calendar.specs.facts.AdmittedOrders.{orders_of, admitted}
+use Rattle.calendar.proofs.facts.AdmittedOrders.{linearization_admitted}
 
 -- ── from the list of orders to linearizations ──
 pub none_there : (L : Ledger) → admitted L ≡ [] → Linearization L → ⊥

@@ -12,7 +12,7 @@ use Rattle.laws.specs.Lists.{words_from, words_at, length_words}
 use Rattle.calendar.specs.rules.Layout.{Place, word, cell, field, address, layout, read}
 use Rattle.calendar.specs.rules.Ranges.{blank, worker}
 use Rattle.calendar.specs.rules.Opening.{open_word, open_store, open_table}
-use Rattle.calendar.specs.facts.Places.{word_inside, cell_inside, field_inside}
+use Rattle.calendar.proofs.facts.Places.{word_inside, cell_inside, field_inside}
 use Rattle.calendar.specs.facts.Views.{view}
 use Rattle.calendar.specs.facts.RangeFacts.{StoreRanges, RecordRanges, Limits}
 

@@ -24,9 +24,11 @@ use Rattle.calendar.specs.rules.Refusals.{bad_shape, too_short, out_of_range, no
 use Rattle.laws.specs.FirstOf.{first_of}
 use Rattle.calendar.specs.rules.Operations.{Memory, unless, perform, actor, refusal, outcome, act}
 use Rattle.calendar.specs.rules.NarrowCalls.{own_in_range, records_in_range, narrow_out, narrow_refusal, narrow_act}
-use Rattle.calendar.specs.facts.RefusalParts.{own_of, refusal_first}
-use Rattle.calendar.specs.facts.Untouched.{refused, rule_said, SameSize, SameBeyond, by_refusal, perform_size, perform_beyond, rule_inside}
-use Rattle.calendar.specs.facts.NarrowAccepted.{narrow_parts, narrow_accepted, narrow_passes}
+use Rattle.calendar.specs.facts.RefusalParts.{own_of}
+use Rattle.calendar.proofs.facts.RefusalParts.{refusal_first}
+use Rattle.calendar.specs.facts.Untouched.{SameSize, SameBeyond}
+use Rattle.calendar.proofs.facts.Untouched.{refused, rule_said, by_refusal, perform_size, perform_beyond, rule_inside}
+use Rattle.calendar.proofs.facts.NarrowAccepted.{narrow_parts, narrow_accepted, narrow_passes}
 
 -- ── in range ──
 -- of what the operation looks at, this is a part

@@ -14,12 +14,12 @@ use Rattle.arrival.specs.Responses.{said}
 use Rattle.calendar.specs.rules.Layout.{field, Write, ◌≔◌, write_all, write, address, layout}
 use Rattle.calendar.specs.rules.Outcome.{Outcome}
 use Rattle.calendar.specs.rules.Starts.{enqueue_start, dequeue_start}
-use Rattle.calendar.specs.facts.Places.{length_write, word_inside, cell_inside, field_inside}
+use Rattle.calendar.proofs.facts.Places.{length_write, word_inside, cell_inside, field_inside}
 use Rattle.calendar.specs.facts.Views.{AllInside}
 use Rattle.calendar.specs.facts.RangeFacts.{RecordRanges}
-use Rattle.calendar.specs.facts.Changes.{Found, put_found, take_ends, Settled, at_end, still_on, Walked, out, out_last, meets, Change, head_read}
-use Rattle.calendar.specs.facts.Changes.{mark_seen, passed, stopped, unlinked, again_3, prepared, linked, again_5, stored_6, on_7, stored_7, back_6}
-use Rattle.calendar.specs.facts.Changes.{current_read, first_read, mark_passed, newer, on_11, marked, back_10, advanced, back_12, emptied, back_13}
+use Rattle.calendar.proofs.facts.Changes.{Found, put_found, take_ends, Settled, at_end, still_on, Walked, out, out_last, meets, Change, head_read}
+use Rattle.calendar.proofs.facts.Changes.{mark_seen, passed, stopped, unlinked, again_3, prepared, linked, again_5, stored_6, on_7, stored_7, back_6}
+use Rattle.calendar.proofs.facts.Changes.{current_read, first_read, mark_passed, newer, on_11, marked, back_10, advanced, back_12, emptied, back_13}
 
 -- ── the starts ──
 pub enqueue_inside : (sh : Shape) (s : List ℕ) (n : ℕ) (a : Arrival) (w : Worker) → n < sh.nodes → AllInside sh (enqueue_start sh s n a w).writes

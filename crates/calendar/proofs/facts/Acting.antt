@@ -7,7 +7,7 @@ use Rattle.arrival.specs.declared.Response.TheVariants.{Refused}
 use Rattle.arrival.specs.Responses.{said}
 use Rattle.calendar.specs.rules.Operations.{Memory, perform, actor, refusal, outcome, act}
 use Rattle.calendar.specs.rules.Ledger.{Ledger, notes, reads}
-use Rattle.calendar.specs.facts.Untouched.{outcome_said}
+use Rattle.calendar.proofs.facts.Untouched.{outcome_said}
 
 -- an action is refused and changes neither memory nor ledger, or is noted
 pub by_act : (sh : Shape) (P : Memory → Ledger → Type 0) (m : Memory) (L : Ledger) (a : Action) → P m L

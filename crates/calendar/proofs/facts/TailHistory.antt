@@ -22,9 +22,9 @@ use Rattle.calendar.specs.rules.Refusals.{open_refusal, enqueue_refusal, dequeue
 use Rattle.calendar.specs.rules.Operations.{Memory, open_pool, act, run}
 use Rattle.calendar.specs.rules.Ledger.{Ledger, new, ledger}
 use Rattle.calendar.specs.rules.Linearizability.{Linearization}
-use Rattle.calendar.specs.facts.Starred.{two_workers, arrival, turns, put, take, lent}
+use Rattle.calendar.proofs.facts.Starred.{two_workers, arrival, turns, put, take, lent}
 use Rattle.calendar.specs.facts.AdmittedOrders.{orders_of}
-use Rattle.calendar.specs.facts.Guards.{forced}
+use Rattle.calendar.proofs.facts.Guards.{forced}
 
 unfoldable pub history : List Action
 history =

@@ -1,0 +1,2 @@
+-- Theorems. What is said in them stands in specs.
+pub mod facts
