@@ -20,7 +20,8 @@ use Rattle.arrival.specs.declared.Shape.{Shape}
 use Rattle.arrival.specs.declared.Item.{Item}
 use Rattle.arrival.specs.declared.Key.{Key}
 use Rattle.laws.specs.Tests.{is_true}
-use Rattle.laws.specs.Lexicographic.{lower_by, lower_by_irr, lower_by_trans, lower_by_weak, lower_by_alike, lower_by_first}
+use Rattle.laws.specs.Lexicographic.{lower_by}
+use Rattle.laws.proofs.Lexicographic.{lower_by_irr, lower_by_trans, lower_by_weak, lower_by_alike, lower_by_first}
 
 -- time, then reflection order, then ticket
 abbrev pub components : List (Key → ℕ)

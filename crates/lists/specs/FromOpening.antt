@@ -18,7 +18,8 @@ use Rattle.arrival.specs.declared.Worker.{Worker}
 use Rattle.arrival.specs.declared.Action.TheVariants.{Enqueue, Dequeue, Step}
 use Rattle.arrival.specs.Keys.{bucket_of, item_bucket_lem, bucket_below}
 use Rattle.laws.specs.Tests.{never, parts, upd_cases}
-use Rattle.laws.specs.Counting.{every, every_at}
+use Rattle.laws.specs.Counting.{every}
+use Rattle.laws.proofs.Counting.{every_at}
 use Rattle.calendar.specs.rules.Layout.{started, standing, write_all}
 use Rattle.calendar.specs.rules.Ranges.{blank, worker}
 use Rattle.calendar.specs.rules.Reclaim.{started_by, is_free, is_free_node, first_free}

@@ -18,7 +18,8 @@ use Rattle.arrival.specs.declared.Action.{Action}
 use Rattle.arrival.specs.declared.Action.TheVariants.{Enqueue, Dequeue, Step}
 use Rattle.arrival.specs.declared.Response.{Response}
 use Rattle.arrival.specs.declared.Response.TheVariants.{Opened, Begun, On, Stored, Took, Empty, Refused}
-use Rattle.laws.specs.Counting.{count, tally, tally_none, tally_with}
+use Rattle.laws.specs.Counting.{count, tally}
+use Rattle.laws.proofs.Counting.{tally_none, tally_with}
 use Rattle.calendar.specs.rules.Layout.{link, is_marked, item_at, write_all}
 use Rattle.calendar.specs.rules.Ranges.{blank, worker}
 use Rattle.calendar.specs.rules.Reclaim.{first_free}

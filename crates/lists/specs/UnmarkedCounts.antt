@@ -11,7 +11,8 @@ use Rattle.std.proofs.Common.{sym, ◌∙◌, subst, arith}
 use mathlib.Core.List.Memᴰ
 use Rattle.std.proofs.Math.Decide.{ℕ_discrete}
 use Rattle.arrival.specs.declared.Shape.{Shape}
-use Rattle.laws.specs.Counting.{tally, tally_with}
+use Rattle.laws.specs.Counting.{tally}
+use Rattle.laws.proofs.Counting.{tally_with}
 use Rattle.laws.specs.Lists.{Once}
 use Rattle.lists.specs.Chain.{In, Spot, Edge, insert_at, remove_at}
 use Rattle.lists.specs.LinkInvariant.{Chains, set_chain}

@@ -11,7 +11,8 @@ use Rattle.arrival.specs.declared.Shape.{Shape}
 use Rattle.arrival.specs.declared.Worker.{Worker}
 use Rattle.arrival.specs.declared.Response.TheVariants.{Stored, Empty}
 use Rattle.laws.specs.Tests.{by_test}
-use Rattle.laws.specs.Counting.{Each, each_of}
+use Rattle.laws.specs.Counting.{Each}
+use Rattle.laws.proofs.Counting.{each_of}
 use Rattle.calendar.specs.rules.Layout.{Write, ◌≔◌, word, head, link, link_cell, current, successor, bucket_in}
 use Rattle.calendar.specs.rules.Outcome.{Outcome, on, answer, with_own, with_bucket, with_left, with_right, with_seen, with_current}
 use Rattle.calendar.specs.rules.SearchSteps.{answered, found, settle, right_is_marked, right_is_lower, left_holds, unlink, step_1, step_2, step_3}

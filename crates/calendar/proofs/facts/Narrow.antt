@@ -17,7 +17,7 @@ use Rattle.arrival.specs.declared.Action.{Action}
 use Rattle.arrival.specs.declared.Action.TheVariants.{Enqueue, Dequeue, Step}
 use Rattle.arrival.specs.declared.Response.TheVariants.{Refused}
 use Rattle.arrival.specs.Responses.{said}
-use Rattle.laws.specs.Counting.{every_at}
+use Rattle.laws.proofs.Counting.{every_at}
 use Rattle.laws.specs.Tests.{parts, left_true}
 use Rattle.calendar.specs.rules.Ranges.{blank, words_in_range, record_in_range, store_in_range, table_in_range, worker}
 use Rattle.calendar.specs.rules.Refusals.{bad_shape, too_short, out_of_range, no_worker, memory_tests}

@@ -17,7 +17,7 @@ use Rattle.arrival.specs.declared.Arrival.{Arrival}
 use Rattle.arrival.specs.declared.Worker.{Worker}
 use Rattle.arrival.specs.declared.Action.{Action}
 use Rattle.arrival.specs.declared.Action.TheVariants.{Enqueue, Dequeue, Step}
-use Rattle.laws.specs.Counting.{every_at, every_fails, every_same}
+use Rattle.laws.proofs.Counting.{every_at, every_fails, every_same}
 use Rattle.laws.specs.Tests.{parts}
 use Rattle.calendar.specs.rules.Layout.{current, started, last_node}
 use Rattle.calendar.specs.rules.Ranges.{words_in_range, record_in_range, table_in_range, worker}

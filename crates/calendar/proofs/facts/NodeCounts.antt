@@ -4,7 +4,8 @@ use Rattle.std.proofs.Common.{arith, eqb-true, leb-true, leb-false}
 use Rattle.std.proofs.lemmas.Bool.{eqb-false}
 use Rattle.arrival.specs.declared.Shape.{Shape}
 use Rattle.arrival.specs.declared.Worker.{Worker}
-use Rattle.laws.specs.Counting.{every, count, count_three}
+use Rattle.laws.specs.Counting.{every, count}
+use Rattle.laws.proofs.Counting.{count_three}
 use Rattle.calendar.specs.rules.Layout.{standing}
 use Rattle.calendar.specs.rules.Ranges.{worker}
 use Rattle.calendar.specs.rules.Reclaim.{started_by, is_free, is_retired, is_in_use}

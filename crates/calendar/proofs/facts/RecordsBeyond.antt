@@ -16,7 +16,7 @@ use Rattle.arrival.specs.declared.Shape.{Shape}
 use Rattle.arrival.specs.declared.Worker.{Worker}
 use Rattle.arrival.specs.declared.Action.{Action}
 use Rattle.arrival.specs.declared.Response.TheVariants.{Opened, Refused}
-use Rattle.laws.specs.Counting.{every_same}
+use Rattle.laws.proofs.Counting.{every_same}
 use Rattle.calendar.specs.rules.Ranges.{shape_in_range, blank, worker, record_in_range, table_in_range}
 use Rattle.calendar.specs.rules.Reclaim.{started_by, is_free, node_after, first_free_of, first_free}
 use Rattle.calendar.specs.rules.Layout.{standing}

@@ -9,7 +9,7 @@ use Rattle.std.proofs.Common.{inl, inr, eqb-true, leb-true, ltb-true, le-leb, lt
 use Rattle.arrival.specs.declared.Shape.{Shape}
 use Rattle.arrival.specs.declared.Worker.{Worker}
 use Rattle.laws.specs.Tests.{parts, never, both, either, or_left, or_right, inside, within, isnt, is_not}
-use Rattle.laws.specs.Counting.{every_at, every_all}
+use Rattle.laws.proofs.Counting.{every_at, every_all}
 use Rattle.calendar.specs.rules.Layout.{current, started, last_node, head, link, time_at, ticket_at, path_at, order_at, distance_at, epoch_at, standing}
 use Rattle.calendar.specs.rules.Layout.{bucket_in}
 use Rattle.calendar.specs.rules.Ranges.{shape_in_range, head_in_range, node_in_range, store_in_range, table_in_range, worker, implies, between}

@@ -18,7 +18,7 @@ use Rattle.arrival.specs.declared.Action.{Action}
 use Rattle.arrival.specs.declared.Action.TheVariants.{Enqueue, Dequeue, Step}
 use Rattle.arrival.specs.declared.Response.{Response}
 use Rattle.arrival.specs.declared.Response.TheVariants.{Opened, Refused}
-use Rattle.laws.specs.Counting.{every_same, each_of}
+use Rattle.laws.proofs.Counting.{every_same, each_of}
 use Rattle.laws.specs.Lists.{words_from}
 use Rattle.calendar.specs.rules.Layout.{Place, word, cell, field, Write, ◌≔◌, address, layout, read, write, write_all, link_cell, item_at, standing}
 use Rattle.calendar.specs.rules.Ranges.{worker, small, current_in_range, link_in_range, path_in_range, order_in_range, head_in_range, node_in_range, store_in_range}

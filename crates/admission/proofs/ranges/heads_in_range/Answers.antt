@@ -1,6 +1,6 @@
 -- `ranges::heads_in_range` tests every head: so far all are in range, or not. Assumes nothing.
 use Rattle.std.proofs.Common.{refl, sym, arith}
-use Rattle.laws.specs.Counting.{every_none, every_step}
+use Rattle.laws.proofs.Counting.{every_none, every_step}
 use Rattle.admission.proofs.ranges.heads_in_range.Goals as goal
 
 pub loop-b-init : goal.loop-b-init

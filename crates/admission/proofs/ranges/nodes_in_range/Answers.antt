@@ -1,6 +1,6 @@
 -- `ranges::nodes_in_range` tests every node: so far all are in range, or not. Assumes nothing.
 use Rattle.std.proofs.Common.{refl, sym, arith}
-use Rattle.laws.specs.Counting.{every_none, every_step}
+use Rattle.laws.proofs.Counting.{every_none, every_step}
 use Rattle.admission.proofs.ranges.nodes_in_range.Goals as goal
 
 pub loop-n-init : goal.loop-n-init
