@@ -15,8 +15,6 @@ use Rattle.laws.specs.Tests.{parts, by_size}
 use Rattle.laws.specs.Lists.{words_from, words_at}
 use Rattle.laws.specs.Searching.{last_holds, last_last}
 use Rattle.decay.specs.Decay.{log_of, none, level_of}
--- the runs come first: a wrong definition is refused by them
-use Rattle.decay.specs.DecayRun.{logs}
 
 -- v is the largest whole number with 10^v ≤ r^100
 abbrev pub Largest : ℕ → ℕ → Type 0

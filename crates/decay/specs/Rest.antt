@@ -15,8 +15,6 @@ use Rattle.laws.specs.Counting.{every_at, every_all, sum_front, tally_none}
 use Rattle.echogram.specs.Row.{sum_of}
 use Rattle.echogram.specs.AtSlot.{slot_in_sum}
 use Rattle.decay.specs.Decay.{rest, silent}
--- the runs come first: a wrong definition is refused by them
-use Rattle.decay.specs.DecayRun.{logs}
 
 pub sum_first : (x : ℕ) (row : List ℕ) → sum_of (x ∷ row) ≡ x + sum_of row
 unfolding sum_of

@@ -4,7 +4,7 @@ ghost use Rattle.decay.specs.Decay.{first};
 ghost use Rattle.decay.specs.CrossingSearch.{square_at_most, point_at, Before};
 
 // A slot, or the row's end, and what is left from there on.
-#[derive(Drop)]
+#[derive(Clone, Copy)]
 pub struct Point {
     pub slot: usize,
     pub rest: u64,

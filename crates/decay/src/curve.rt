@@ -8,7 +8,7 @@ ghost use Rattle.decay.specs.Curves.{flat_at};
 use super::logs::{level_by, log_table};
 
 // A flat part of the curve: its level, and the least 1,024-fold rest that has a higher ratio.
-#[derive(Drop)]
+#[derive(Clone, Copy)]
 pub struct Flat {
     pub next: u64,
     pub level: u16,

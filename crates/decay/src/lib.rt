@@ -1,4 +1,6 @@
 // How an echogram decays: early decay, T20 and levels of a row that is only read, for C and Rust to call.
+#![tactic(auto)]
+
 ghost use Rattle.std.specs.Prelude.{◌≡◌};
 ghost use Rattle.decay.specs.Decay.{early_decay, t20, level, decay_refusal, measured, curve_refusal, curve};
 
@@ -14,7 +16,7 @@ mod total;
 
 // The number of the refusal, or 0; and what was measured, or 0.
 #[repr(C)]
-#[derive(Drop)]
+#[derive(Clone, Copy)]
 pub struct Measured {
     pub number: u64,
     pub value: u64,

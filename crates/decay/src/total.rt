@@ -5,7 +5,7 @@ ghost use Rattle.decay.specs.Totals.{sum_refusal, total_of, cut_at};
 use echogram::row::{slots_outside, sum_of};
 
 // Of a row whose number of slots is outside its limits sum and rest are 0.
-#[derive(Drop)]
+#[derive(Clone, Copy)]
 pub struct Total {
     pub number: u64,
     pub sum: u64,
