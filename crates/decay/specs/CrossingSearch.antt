@@ -17,7 +17,7 @@ use Rattle.std.proofs.Common.{sym, ◌∙◌, le-div_iff_mul-le, div-mul-le_self
 use Rattle.std.proofs.Math.Path.{ap, subst⁻¹}
 use Rattle.std.proofs.lemmas.Bool.{lt-leb}
 use Rattle.laws.specs.Tests.{by_size}
-use Rattle.laws.specs.Searching.{first_most, first_not_before, first_is, first_same, first_wider}
+use Rattle.laws.proofs.Searching.{first_most, first_not_before, first_is, first_same, first_wider}
 use Rattle.echogram.specs.Row.{sum_of, most}
 use Rattle.decay.specs.Decay.{rest, first, early_fallen, early_decay, square_fallen, t20}
 use Rattle.decay.specs.Rest.{rest_all, rest_next, rest_in_sum}

@@ -6,7 +6,7 @@
 use Rattle.std.specs.Prelude.{◌≡◌, List, Bool, true, false, ℕ, ◌+◌, ◌*◌, ◌≤◌, ◌<◌, length}
 use Rattle.std.proofs.Common.{ap, ◌∙◌, mul-zero, arith, leb-true, le-leb}
 use Rattle.laws.specs.Tests.{by_size}
-use Rattle.laws.specs.Searching.{first_holds, first_not_before, first_wider}
+use Rattle.laws.proofs.Searching.{first_holds, first_not_before, first_wider}
 use Rattle.decay.specs.Decay.{rest, first, early_fallen, square_fallen, t20}
 use Rattle.decay.specs.Rest.{rest_past}
 

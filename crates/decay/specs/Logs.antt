@@ -13,7 +13,7 @@ use Rattle.std.proofs.Common.{sym, ap, ◌∙◌, le_trans, lt_of_le_of_lt, le_o
 use Rattle.std.proofs.Math.Nat.{pow-le-pow_left, pow-le-pow_right, one-le-pow, pow-zero}
 use Rattle.laws.specs.Tests.{parts, by_size}
 use Rattle.laws.specs.Lists.{words_from, words_at}
-use Rattle.laws.specs.Searching.{last_holds, last_last}
+use Rattle.laws.proofs.Searching.{last_holds, last_last}
 use Rattle.decay.specs.Decay.{log_of, none, level_of}
 
 -- v is the largest whole number with 10^v ≤ r^100

@@ -11,7 +11,7 @@ use Rattle.std.proofs.Math.Path.{refl, ap}
 use Rattle.std.proofs.Common.{◌∙◌, arith, drop_of_length-le, drop-cons, eqb-true, eq-eqb}
 use Rattle.std.proofs.lemmas.Bool.{eqb-false}
 use Rattle.laws.specs.Tests.{is_false}
-use Rattle.laws.specs.Counting.{every_at, every_all, sum_front, tally_none}
+use Rattle.laws.proofs.Counting.{every_at, every_all, sum_front, tally_none}
 use Rattle.echogram.specs.Row.{sum_of}
 use Rattle.echogram.specs.AtSlot.{slot_in_sum}
 use Rattle.decay.specs.Decay.{rest, silent}

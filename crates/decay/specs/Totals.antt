@@ -16,7 +16,7 @@ use Rattle.std.specs.Prelude.{◌≡◌, refl, List, [], ◌∷◌, true, false,
 use Rattle.std.proofs.Common.{sym, ap, ◌∙◌, arith, length-drop, take_all, ltb-true, ltb-false, ne_eqb}
 use Rattle.std.proofs.lemmas.Bool.{eqb-false}
 use Rattle.laws.specs.Tests.{by_test, by_size}
-use Rattle.laws.specs.Counting.{sum_most}
+use Rattle.laws.proofs.Counting.{sum_most}
 use Rattle.laws.specs.FirstOf.{first_of, first_none}
 use Rattle.echogram.specs.Row.{slots_outside, sum_of, most}
 use Rattle.echogram.specs.Recorded.{slots_within}

@@ -12,7 +12,8 @@ use Rattle.std.proofs.Common.{sym, ◌∙◌, arith, length-set}
 use Rattle.std.proofs.Math.Path.{ap}
 use Rattle.std.proofs.Math.ListN.{get_or}
 use borrow.Author.Tests.{ltb-true, lt-ltb, le-ltb, le-leb, lt-leb}
-use Rattle.laws.specs.Counting.{sum, sum_at, sum_set}
+use Rattle.laws.specs.Counting.{sum}
+use Rattle.laws.proofs.Counting.{sum_at, sum_set}
 use Rattle.laws.specs.FirstOf.{first_of}
 use Rattle.echogram.specs.Row.{added, sum_of, most, too_large, slot_tests}
 

@@ -21,7 +21,7 @@ use Rattle.std.proofs.Common.{ap, ◌∙◌, arith, length-set, get_or-set_same,
 use Rattle.std.proofs.Math.Decide.{ℕ_discrete}
 use Rattle.std.proofs.lemmas.List.{length-replicate, get_or-replicate}
 use Rattle.laws.specs.Tests.{neither, by_test}
-use Rattle.laws.specs.Counting.{tally_none}
+use Rattle.laws.proofs.Counting.{tally_none}
 use Rattle.laws.specs.FirstOf.{first_of, Lowest, lowest_of, first_none, first_has}
 use Rattle.echogram.specs.Row.{Recording, slot_of, slots_outside, outside, added, sum_of, most, record_tests, record_answer, recorded, clear_answer, cleared}
 use Rattle.echogram.specs.AtSlot.{headroom_of, add_answer, added_to, slot_in_sum, add_past, add_large, sum_added}
