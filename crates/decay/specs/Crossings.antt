@@ -1,41 +1,8 @@
 -- The first slots at which so little is left: that there are such slots.
---     Crosses, crosses                       a test holds of a slot and of none before it; so of the first, if it holds where nothing is left
---     early_crosses, square_crosses          so of the slots of early decay and of T20
---     t20_rises, t20_exact                   the slot at which less is left comes no earlier, so that the difference of T20 is never negative
+--     Crosses                                a test holds of a slot and of none before it; so of the first, if it holds where nothing is left
 -- Assumes nothing.
-use Rattle.std.specs.Prelude.{◌≡◌, List, Bool, true, false, ℕ, ◌+◌, ◌*◌, ◌≤◌, ◌<◌, length}
-use Rattle.std.proofs.Common.{ap, ◌∙◌, mul-zero, arith, leb-true, le-leb}
-use Rattle.laws.specs.Tests.{by_size}
-use Rattle.laws.proofs.Searching.{first_holds, first_not_before, first_wider}
-use Rattle.decay.specs.Decay.{rest, first, early_fallen, square_fallen, t20}
-use Rattle.decay.specs.Rest.{rest_past}
+use Rattle.std.specs.Prelude.{◌≡◌, Bool, true, false, ℕ, ◌<◌}
 
 -- k is the first number with a test
 abbrev pub Crosses : (ℕ → Bool) → ℕ → Type 0
 Crosses test k = (test k ≡ true) × ((j : ℕ) → j < k → test j ≡ false)
-
-pub crosses : (row : List ℕ) (test : ℕ → Bool) → ((k : ℕ) → rest row k ≡ 0 → test k ≡ true) → Crosses test (first row test)
-crosses row test silence = (
-  by_size (first row test) (length row) (first_holds (length row) test) (λ past. silence (first row test) (rest_past row (first row test) past)),
-  first_not_before (length row) test,
-)
-
-pub early_crosses : (row : List ℕ) → Crosses (early_fallen row) (first row (early_fallen row))
-early_crosses row = crosses row (early_fallen row) (λ k z. le-leb (10 * rest row k) (rest row 0) (omega arith))
-
-pub square_crosses : (c : ℕ) (row : List ℕ) → Crosses (square_fallen c row) (first row (square_fallen c row))
-square_crosses c row =
-    crosses row (square_fallen c row)
-    (λ k z. le-leb (c * (rest row k * rest row k)) (rest row 0 * rest row 0)
-    (let none : c * (rest row k * rest row k) ≡ 0 = ap (λ x. c * (x * x)) z ∙ mul-zero c in omega arith))
-
-pub t20_rises : (row : List ℕ) → first row (square_fallen 10 row) ≤ first row (square_fallen 100000 row)
-t20_rises row =
-    first_wider (length row) (square_fallen 10 row) (square_fallen 100000 row)
-    (λ k e. le-leb (10 * (rest row k * rest row k)) (rest row 0 * rest row 0)
-    (omega (arith, leb-true (100000 * (rest row k * rest row k)) (rest row 0 * rest row 0) e)))
-
--- so no more is taken off than there is
-pub t20_exact : (row : List ℕ) → 3 * first row (square_fallen 100000 row) ≡ t20 row + 3 * first row (square_fallen 10 row)
-unfolding t20
-t20_exact row = omega (arith, t20_rises row)

@@ -1,7 +1,4 @@
 pub mod Decay
-pub mod DecayRun
-pub mod Rest
-pub mod DecayRefusals
 pub mod Crossings
 pub mod CrossingSearch
 pub mod Logs

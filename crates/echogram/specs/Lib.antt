@@ -1,9 +1,6 @@
 pub mod Row
 pub mod Series
-pub mod EchogramRun
 pub mod AtSlot
 pub mod Recorded
-pub mod Conserved
 pub mod Grid
 pub mod SeriesLoop
-pub mod WholeSeries

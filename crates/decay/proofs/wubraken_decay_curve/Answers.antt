@@ -1,7 +1,7 @@
 -- `decay::wubraken_decay_curve` writes the levels, or leaves the buffer as it was. Assumes nothing.
 use Rattle.std.proofs.Common.{◌∙◌, sym, arith}
-use Rattle.decay.specs.DecayRefusals.{curve_first, curve_19, curve_0, curve_refused, curve_is}
-use Rattle.decay.specs.Totals.{number_is, sum_is, is_sound}
+use Rattle.decay.proofs.DecayRefusals.{curve_first, curve_19, curve_0, curve_refused, curve_is}
+use Rattle.decay.proofs.Totals.{number_is, sum_is, is_sound}
 use Rattle.decay.proofs.wubraken_decay_curve.Goals as goal
 
 pub returns-then-total-ne0 : goal.returns-then-total-ne0

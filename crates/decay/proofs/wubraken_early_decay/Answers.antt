@@ -1,8 +1,8 @@
 -- `decay::wubraken_early_decay` finds one slot, by squares. Assumes nothing.
 use Rattle.std.proofs.Common.{◌∙◌, ap, ◌*◌, arith}
 use Rattle.decay.specs.Decay.{early_decay}
-use Rattle.decay.specs.CrossingSearch.{early_is, square_fits, slot_is, from_start}
-use Rattle.decay.specs.Totals.{when_measured, sum_is, is_sound}
+use Rattle.decay.proofs.CrossingSearch.{early_is, square_fits, slot_is, from_start}
+use Rattle.decay.proofs.Totals.{when_measured, sum_is, is_sound}
 use Rattle.decay.proofs.wubraken_early_decay.Goals as goal
 
 pub overflow_mul-total : goal.overflow_mul-total

@@ -1,9 +1,9 @@
 -- `decay::wubraken_level` divides once, and looks the ratio up. Assumes nothing.
 use Rattle.std.proofs.Common.{◌∙◌, ap, ◌*◌, arith}
 use Rattle.decay.specs.Decay.{level}
-use Rattle.decay.specs.Rest.{rest_in_sum}
-use Rattle.decay.specs.Curves.{ratio_most, level_at}
-use Rattle.decay.specs.Totals.{when_measured, sum_is, rest_is, is_sound}
+use Rattle.decay.proofs.Rest.{rest_in_sum}
+use Rattle.decay.proofs.Curves.{ratio_most, level_at}
+use Rattle.decay.proofs.Totals.{when_measured, sum_is, rest_is, is_sound}
 use Rattle.decay.proofs.wubraken_level.Goals as goal
 
 pub overflow_mul-ratio : goal.overflow_mul-ratio

@@ -1,8 +1,8 @@
 -- `decay::wubraken_t20` finds two slots; the second search goes on from the first. Assumes nothing.
 use Rattle.std.proofs.Common.{◌∙◌, ◌*◌, ◌-◌, arith, lit≤}
 use Rattle.decay.specs.Decay.{t20}
-use Rattle.decay.specs.CrossingSearch.{t20_is, square_fits, slot_is, lower_limit, slots_rise, from_start, from_higher}
-use Rattle.decay.specs.Totals.{when_measured, sum_is, is_sound}
+use Rattle.decay.proofs.CrossingSearch.{t20_is, square_fits, slot_is, lower_limit, slots_rise, from_start, from_higher}
+use Rattle.decay.proofs.Totals.{when_measured, sum_is, is_sound}
 use Rattle.decay.proofs.wubraken_t20.Goals as goal
 
 pub overflow_mul-square : goal.overflow_mul-square

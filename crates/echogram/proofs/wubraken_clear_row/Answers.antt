@@ -2,7 +2,7 @@
 use Rattle.std.proofs.Common.{◌≡◌, ◌∙◌, sym, ap, List, ◌++◌, append-nil, length, ℕ, set, drop, replicate, length-set, arith}
 use Rattle.std.proofs.Math.Seq.{drop-length}
 use Rattle.std.proofs.lemmas.List.Edits.{fill_more}
-use Rattle.echogram.specs.Recorded.{clear_13, when_cleared}
+use Rattle.echogram.proofs.Recorded.{clear_13, when_cleared}
 use Rattle.echogram.proofs.wubraken_clear_row.Goals as goal
 
 pub returns-then-is_outside : goal.returns-then-is_outside

@@ -1,7 +1,7 @@
 -- `echogram::wubraken_record` is one recording. Assumes nothing.
 use Rattle.std.proofs.Common.{◌∙◌, sym}
 use Rattle.echogram.specs.Series.{recording}
-use Rattle.echogram.specs.Recorded.{refused_13, refused_14, by_its_slot, slot_left}
+use Rattle.echogram.proofs.Recorded.{refused_13, refused_14, by_its_slot, slot_left}
 use Rattle.echogram.proofs.wubraken_record.Goals as goal
 
 pub returns-then-is_outside : goal.returns-then-is_outside

@@ -1,6 +1,6 @@
 -- `decay::crossings::fall_to` goes on slot by slot, with what is left. Assumes nothing.
 use Rattle.std.proofs.Common.{arith, mul-le-mul}
-use Rattle.decay.specs.CrossingSearch.{left_most, one_more, slot_in_left, fallen}
+use Rattle.decay.proofs.CrossingSearch.{left_most, one_more, slot_in_left, fallen}
 use Rattle.decay.proofs.crossings.fall_to.Goals as goal
 
 pub overflow_mul-rest : goal.overflow_mul-rest

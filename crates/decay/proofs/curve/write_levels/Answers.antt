@@ -1,6 +1,7 @@
 -- `decay::curve::write_levels` goes from the last slot to the first. Assumes nothing.
 use Rattle.std.proofs.Common.{◌≡◌, ◌∙◌, refl, ◌+◌, ◌*◌, ◌-◌, get_or, arith}
-use Rattle.decay.specs.Curves.{flat_at, along_none, along_more, more_fits, next_flat}
+use Rattle.decay.specs.Curves.{flat_at}
+use Rattle.decay.proofs.Curves.{along_none, along_more, more_fits, next_flat}
 use Rattle.decay.proofs.curve.write_levels.Goals as goal
 use Rattle.decay.proofs.curve.write_levels.Goals.{then-flat-scaled, else-flat-scaled}
 

@@ -1,8 +1,8 @@
 -- `decay::total::total_of` adds up a row in two parts. Assumes nothing.
 use Rattle.std.proofs.Common.{◌≡◌, ◌∙◌, sym, ◌+◌, length, arith}
 use Rattle.echogram.specs.Row.{sum_of}
-use Rattle.echogram.specs.Recorded.{slots_within}
-use Rattle.decay.specs.Totals.{parts_add, parts_fit, part_left, total_outside, total_is}
+use Rattle.echogram.proofs.Recorded.{slots_within}
+use Rattle.decay.proofs.Totals.{parts_add, parts_fit, part_left, total_outside, total_is}
 use Rattle.decay.proofs.total.total_of.Goals as goal
 
 pub returns-then-slots_outside : goal.returns-then-slots_outside

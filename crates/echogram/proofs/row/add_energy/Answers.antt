@@ -1,6 +1,6 @@
 -- `echogram::row::add_energy` adds to one slot, or answers 15. Assumes nothing.
 use Rattle.std.proofs.Common.{sym, arith}
-use Rattle.echogram.specs.AtSlot.{add_large, add_fits, slot_fits}
+use Rattle.echogram.proofs.AtSlot.{add_large, add_fits, slot_fits}
 use Rattle.echogram.proofs.row.add_energy.Goals as goal
 
 pub returns-then-headroom-energy : goal.returns-then-headroom-energy

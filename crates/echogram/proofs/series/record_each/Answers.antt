@@ -3,8 +3,8 @@ use Rattle.std.proofs.Common.{◌≡◌, ◌∙◌, sym, inl, inr, arith}
 use Rattle.echogram.specs.AtSlot.{headroom_of}
 use Rattle.echogram.specs.Row.{recorded}
 use Rattle.echogram.specs.Series.{in_series}
-use Rattle.echogram.specs.Recorded.{answer_small}
-use Rattle.echogram.specs.SeriesLoop.{along_none, next_headroom, within_headroom, along_more}
+use Rattle.echogram.proofs.Recorded.{answer_small}
+use Rattle.echogram.proofs.SeriesLoop.{along_none, next_headroom, within_headroom, along_more}
 use Rattle.echogram.proofs.series.record_each.Goals as goal
 use Rattle.echogram.proofs.series.record_each.Goals.{then-answer-eq0, else-answer-eq0}
 

@@ -9,7 +9,7 @@ use Rattle.std.proofs.Common.{◌∙◌, arith, ne_eqb}
 use Rattle.std.proofs.Math.Decide.{ℕ_discrete}
 use Rattle.laws.specs.Counting.{sum}
 use Rattle.echogram.specs.Row.{Recording, sum_of, most, record_answer, recorded, clear_answer, cleared, row_after, answer_at, energy_at}
-use Rattle.echogram.specs.Recorded.{record_accepted, recorded_length, sum_gains, sum_kept, sum_cleared}
+use Rattle.echogram.proofs.Recorded.{record_accepted, recorded_length, sum_gains, sum_kept, sum_cleared}
 
 -- one recording more
 one_more : (row : List ℕ) (r : Recording) → sum_of (recorded row r) ≡ sum_of row + cond (eqb (record_answer row r) 0) r.energy 0

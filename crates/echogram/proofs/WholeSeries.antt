@@ -17,7 +17,7 @@ use Rattle.laws.specs.Counting.{sum}
 use Rattle.laws.specs.FirstOf.{Lowest, lowest_of}
 use Rattle.echogram.specs.Row.{outside, sum_of, row_after, answer_at, energy_at}
 use Rattle.echogram.specs.Series.{in_series, uneven, series_tests, series_refusal, SeriesEnd, series}
-use Rattle.echogram.specs.Conserved.{conserved}
+use Rattle.echogram.proofs.Conserved.{conserved}
 
 pub one_length : (times energies answers : List ℕ) → uneven times energies answers ≡ false
     → (length energies ≡ length times) × (length answers ≡ length times)

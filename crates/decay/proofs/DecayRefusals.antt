@@ -17,7 +17,7 @@ use Rattle.laws.specs.Lists.{words_from, words_at, length_words}
 use Rattle.laws.specs.FirstOf.{first_of, Lowest, lowest_of, first_none, first_front, first_append}
 use Rattle.echogram.specs.Row.{sum_of, most}
 use Rattle.decay.specs.Decay.{level, too_large_sum, silent, decay_tests, decay_refusal, measured, curve_tests, curve_refusal, curve}
-use Rattle.decay.specs.Rest.{silent_sum}
+use Rattle.decay.proofs.Rest.{silent_sum}
 
 pub decay_lowest : (row : List ℕ) → Lowest (decay_refusal row) (decay_tests row)
 unfolding decay_refusal

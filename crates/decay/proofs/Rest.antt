@@ -13,7 +13,7 @@ use Rattle.std.proofs.lemmas.Bool.{eqb-false}
 use Rattle.laws.specs.Tests.{is_false}
 use Rattle.laws.proofs.Counting.{every_at, every_all, sum_front, tally_none}
 use Rattle.echogram.specs.Row.{sum_of}
-use Rattle.echogram.specs.AtSlot.{slot_in_sum}
+use Rattle.echogram.proofs.AtSlot.{slot_in_sum}
 use Rattle.decay.specs.Decay.{rest, silent}
 
 pub sum_first : (x : ℕ) (row : List ℕ) → sum_of (x ∷ row) ≡ x + sum_of row

@@ -1,0 +1,8 @@
+pub mod DecayRun
+pub mod Rest
+pub mod DecayRefusals
+pub mod CrossingSearch
+pub mod Totals
+pub mod Curves
+pub mod FirstCrossings
+pub mod Logarithms

@@ -1,0 +1,7 @@
+pub mod EchogramRun
+pub mod AtSlot
+pub mod Recorded
+pub mod Conserved
+pub mod SeriesLoop
+pub mod WholeSeries
+pub mod Grids
