@@ -1,7 +1,5 @@
 pub mod Keys
-pub mod BucketRun
 pub mod Energy
 pub mod Responses
 pub mod Queue
 pub mod QueueLaws
-pub mod QueueRun

@@ -18,7 +18,8 @@ use Rattle.arrival.specs.declared.Worker.{Worker}
 use Rattle.arrival.specs.declared.Action.{Action}
 use Rattle.arrival.specs.declared.Action.TheVariants.{Enqueue, Dequeue, Step}
 use Rattle.arrival.specs.declared.Response.TheVariants.{Opened}
-use Rattle.arrival.specs.Keys.{bucket_of, item_bucket_lem, bucket_below}
+use Rattle.arrival.specs.Keys.{bucket_of}
+use Rattle.arrival.proofs.Keys.{item_bucket_lem, bucket_below}
 use Rattle.arrival.specs.Queue as queue
 use Rattle.calendar.specs.rules.Layout.{write_all, started}
 use Rattle.calendar.specs.rules.Ranges.{blank, worker}

@@ -10,7 +10,8 @@ use mathlib.Core.List.Memᴰ.{tail as there}
 use mathlib.Core.List.{List, [], ◌∷◌, map, Memᴰ as Mem}
 use Rattle.std.proofs.Math.Decide.{ℕ_discrete}
 use Rattle.arrival.specs.declared.Shape.{Shape}
-use Rattle.arrival.specs.Keys.{lower, lower_total}
+use Rattle.arrival.specs.Keys.{lower}
+use Rattle.arrival.proofs.Keys.{lower_total}
 use Rattle.arrival.specs.Queue as queue
 use Rattle.laws.specs.Lists.{Once}
 use Rattle.calendar.specs.rules.Ranges.{worker}

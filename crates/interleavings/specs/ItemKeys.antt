@@ -6,7 +6,8 @@ use Rattle.std.proofs.Math.Decide.{ℕ_discrete}
 use Rattle.arrival.specs.declared.Shape.{Shape}
 use Rattle.arrival.specs.declared.Worker.{Worker}
 use Rattle.arrival.specs.declared.Item.{Item}
-use Rattle.arrival.specs.Keys.{lower, item_bucket, lower_trans, lower_irr, lower_weak, bucket_mono}
+use Rattle.arrival.specs.Keys.{lower, item_bucket}
+use Rattle.arrival.proofs.Keys.{lower_trans, lower_irr, lower_weak, bucket_mono}
 use Rattle.calendar.specs.facts.Views.{View, item_in}
 use Rattle.order.specs.Entries.{Keys, Element}
 use Rattle.order.specs.Scans.{Walker as Walk}

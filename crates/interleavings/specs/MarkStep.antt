@@ -11,7 +11,8 @@ use Rattle.std.proofs.Math.Decide.{ℕ_discrete}
 use Rattle.arrival.specs.declared.Shape.{Shape}
 use Rattle.arrival.specs.declared.Worker.{Worker}
 use Rattle.arrival.specs.declared.Item.{Item}
-use Rattle.arrival.specs.Keys.{lower, item_bucket, lower_trans, lower_irr, lower_total}
+use Rattle.arrival.specs.Keys.{lower, item_bucket}
+use Rattle.arrival.proofs.Keys.{lower_trans, lower_irr, lower_total}
 use Rattle.laws.specs.Tests.{upd_same, upd_other}
 use Rattle.calendar.specs.rules.Layout.{cell}
 use Rattle.calendar.specs.rules.Outcome.{with_stage, with_own}

@@ -4,7 +4,7 @@ use Rattle.std.proofs.Common.{sym, subst, inl, inr, arith}
 use Rattle.std.proofs.Math.Decide.{ℕ_discrete}
 use Rattle.arrival.specs.declared.Shape.{Shape}
 use Rattle.arrival.specs.declared.Worker.{Worker}
-use Rattle.arrival.specs.Keys.{lower_trans}
+use Rattle.arrival.proofs.Keys.{lower_trans}
 use Rattle.calendar.specs.facts.Views.{View, item_in, Lt}
 use Rattle.lists.specs.LinkInvariant.{Chains, Safe, Follows, Lists, safe_next}
 use Rattle.lists.specs.AllCalls.{Inv}

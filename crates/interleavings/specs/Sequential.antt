@@ -15,7 +15,7 @@ use Rattle.arrival.specs.declared.Response.TheVariants.{Stored, Empty}
 use Rattle.arrival.specs.Keys.{lower}
 use Rattle.arrival.specs.Queue as queue
 use Rattle.arrival.specs.Queue.{Call, Reply, lowest, remove, taken, replies}
-use Rattle.arrival.specs.QueueLaws.{lowest_none, lowest_in, lowest_least}
+use Rattle.arrival.proofs.QueueLaws.{lowest_none, lowest_in, lowest_least}
 use Rattle.laws.specs.Tests.{never}
 use Rattle.order.specs.Entries.{Element, enqueue, dequeue, empty, scan, Q, Order, ◌≺◌, ticket, same?, keep, without, without_mem}
 use Rattle.order.specs.Entries.{Below, Legal}

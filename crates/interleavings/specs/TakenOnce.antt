@@ -15,7 +15,8 @@ use mathlib.Core.List.{[], Memᴰ as Mem}
 use Rattle.arrival.specs.declared.Shape.{Shape}
 use Rattle.arrival.specs.declared.Item.{Item}
 use Rattle.arrival.specs.declared.Worker.{Worker}
-use Rattle.arrival.specs.Keys.{bucket_of, item_bucket, item_bucket_lem}
+use Rattle.arrival.specs.Keys.{bucket_of, item_bucket}
+use Rattle.arrival.proofs.Keys.{item_bucket_lem}
 use Rattle.arrival.specs.Queue as queue
 use Rattle.laws.specs.Tests.{parts}
 use Rattle.calendar.specs.rules.Layout.{link, item_at, is_marked}

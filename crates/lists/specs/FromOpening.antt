@@ -16,7 +16,8 @@ use Rattle.arrival.specs.declared.Shape.{Shape}
 use Rattle.arrival.specs.declared.Arrival.{Arrival}
 use Rattle.arrival.specs.declared.Worker.{Worker}
 use Rattle.arrival.specs.declared.Action.TheVariants.{Enqueue, Dequeue, Step}
-use Rattle.arrival.specs.Keys.{bucket_of, item_bucket_lem, bucket_below}
+use Rattle.arrival.specs.Keys.{bucket_of}
+use Rattle.arrival.proofs.Keys.{item_bucket_lem, bucket_below}
 use Rattle.laws.specs.Tests.{never, parts, upd_cases}
 use Rattle.laws.specs.Counting.{every}
 use Rattle.laws.proofs.Counting.{every_at}

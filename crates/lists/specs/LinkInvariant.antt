@@ -14,7 +14,8 @@ use Rattle.std.proofs.Common.{sym, ap, ◌∙◌, inl, inr, arith, eqb-true}
 use mathlib.Core.List.Memᴰ
 use Rattle.std.proofs.lemmas.Bool.{eqb-false}
 use Rattle.arrival.specs.declared.Shape.{Shape}
-use Rattle.arrival.specs.Keys.{item_bucket, lower_trans, lower_irr}
+use Rattle.arrival.specs.Keys.{item_bucket}
+use Rattle.arrival.proofs.Keys.{lower_trans, lower_irr}
 use Rattle.laws.specs.Tests.{upd_same, upd_other, upd_cases}
 use Rattle.laws.specs.Lists.{Once}
 use Rattle.calendar.specs.rules.Layout.{cell, field}

@@ -11,7 +11,7 @@ use mathlib.Core.List.Memᴰ
 use Rattle.std.proofs.lemmas.Bool.{eqb-false}
 use Rattle.arrival.specs.declared.Shape.{Shape}
 use Rattle.arrival.specs.declared.Worker.{Worker}
-use Rattle.arrival.specs.Keys.{lower_total}
+use Rattle.arrival.proofs.Keys.{lower_total}
 use Rattle.laws.specs.Tests.{never, upd_same}
 use Rattle.calendar.specs.rules.Layout.{Write, field, word, link_cell, link, current, item_at, is_marked}
 use Rattle.calendar.specs.rules.Outcome.{Outcome, with_stage, with_own, with_bucket, with_right, with_seen, with_current}

@@ -2,7 +2,7 @@
 use Rattle.std.specs.Prelude.{◌≡◌, refl, ◌⊎◌, ℕ, ◌+◌, ◌*◌, ◌/◌, ◌%◌, ◌<◌}
 use Rattle.std.proofs.Common.{sym, ap, inl, inr, arith}
 use Rattle.arrival.specs.declared.Shape.{Shape}
-use Rattle.arrival.specs.Keys.{lower_trans, lower_irr}
+use Rattle.arrival.proofs.Keys.{lower_trans, lower_irr}
 use Rattle.laws.specs.Tests.{upd_same, upd_other}
 use Rattle.calendar.specs.rules.Layout.{cell}
 use Rattle.calendar.specs.facts.Views.{View, update, item_in, Lt}

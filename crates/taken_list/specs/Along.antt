@@ -17,7 +17,7 @@ use mathlib.Core.List.{List, [], ◌∷◌, ◌++◌, map, Memᴰ as Mem}
 use Rattle.std.proofs.lemmas.Bool.{eqb-false}
 use Rattle.arrival.specs.declared.Item.{Item}
 use Rattle.arrival.specs.Queue.{Call, enqueue, dequeue, Reply, Items, lowest, dequeued, left_over, reply, after, replies}
-use Rattle.arrival.specs.QueueLaws.{lowest_in, remove_in, in_remove}
+use Rattle.arrival.proofs.QueueLaws.{lowest_in, remove_in, in_remove}
 use Rattle.laws.specs.Lists.{Once}
 use Rattle.calendar.specs.rules.Ledger.{Ledger}
 use Rattle.calendar.specs.rules.Linearizability.{Finished, mark_ticket, pool_reply, Agree, MarkedAhead}

@@ -11,7 +11,8 @@ use Rattle.arrival.specs.declared.Shape.{Shape}
 use Rattle.arrival.specs.declared.Item.{Item}
 use Rattle.arrival.specs.Keys.{bucket_of}
 use Rattle.arrival.specs.Queue.{enqueue, dequeue, Items, dequeued}
-use Rattle.arrival.specs.QueueLaws.{drained, drained_in, Told, in_drained}
+use Rattle.arrival.specs.QueueLaws.{drained, Told}
+use Rattle.arrival.proofs.QueueLaws.{drained_in, in_drained}
 use Rattle.laws.specs.Tests.{never}
 use Rattle.laws.specs.Lists.{words_in, Once, once_front, once_behind}
 use Rattle.calendar.specs.rules.Operations.{Memory}

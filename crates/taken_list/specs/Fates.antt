@@ -12,7 +12,7 @@ use Rattle.arrival.specs.declared.Item.{Item}
 use Rattle.arrival.specs.declared.Response.TheVariants.{Stored, Empty}
 use Rattle.arrival.specs.Keys.{bucket_of}
 use Rattle.arrival.specs.Queue.{enqueue, dequeue, Reply, lowest, dequeued, reply}
-use Rattle.arrival.specs.QueueLaws.{lowest_in}
+use Rattle.arrival.proofs.QueueLaws.{lowest_in}
 use Rattle.laws.specs.Tests.{is_not}
 use Rattle.calendar.specs.rules.Ranges.{worker}
 use Rattle.calendar.specs.rules.Operations.{Memory}

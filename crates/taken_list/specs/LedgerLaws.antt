@@ -14,7 +14,8 @@ use Rattle.arrival.specs.declared.Action.{Action}
 use Rattle.arrival.specs.declared.Action.TheVariants.{Enqueue, Dequeue, Step}
 use Rattle.arrival.specs.declared.Response.{Response}
 use Rattle.arrival.specs.declared.Response.TheVariants.{Opened, Begun, On, Stored, Took, Empty, Refused}
-use Rattle.arrival.specs.Keys.{bucket_of, bucket_below}
+use Rattle.arrival.specs.Keys.{bucket_of}
+use Rattle.arrival.proofs.Keys.{bucket_below}
 use Rattle.arrival.specs.Queue as queue
 use Rattle.laws.specs.Tests.{is_not, by_test, upd_other, upd_cases}
 use Rattle.calendar.specs.rules.Layout.{item_at}

@@ -16,7 +16,7 @@ use Rattle.arrival.specs.declared.Shape.{Shape}
 use Rattle.arrival.specs.declared.Item.{Item}
 use Rattle.arrival.specs.declared.Response.TheVariants.{Stored, Empty}
 use Rattle.arrival.specs.Queue.{Call, enqueue, dequeue, Reply, Items, lowest, dequeued, reply}
-use Rattle.arrival.specs.QueueLaws.{lowest_in}
+use Rattle.arrival.proofs.QueueLaws.{lowest_in}
 use Rattle.laws.specs.Lists.{Once, once_apart, mem_split}
 use Rattle.calendar.specs.rules.Operations.{Memory}
 use Rattle.calendar.specs.rules.Ledger.{Ledger}

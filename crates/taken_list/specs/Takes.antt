@@ -6,8 +6,9 @@ use Rattle.std.proofs.Common.{sym, ◌∙◌, subst, inl, inr, arith}
 use mathlib.Core.List.{Memᴰ as Mem}
 use Rattle.arrival.specs.declared.Shape.{Shape}
 use Rattle.arrival.specs.declared.Item.{Item}
-use Rattle.arrival.specs.Keys.{lower, lower_irr, lower_trans, lower_total}
-use Rattle.arrival.specs.QueueLaws.{lowest_none, lowest_least}
+use Rattle.arrival.specs.Keys.{lower}
+use Rattle.arrival.proofs.Keys.{lower_irr, lower_trans, lower_total}
+use Rattle.arrival.proofs.QueueLaws.{lowest_none, lowest_least}
 use Rattle.laws.specs.Tests.{never, by_size}
 use Rattle.calendar.specs.rules.Operations.{Memory}
 use Rattle.calendar.specs.rules.Ledger.{Ledger}

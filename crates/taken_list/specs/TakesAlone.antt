@@ -15,7 +15,8 @@ use Prim.Native.Nat.{ℕ, zero, suc, ◌+◌, ◌≤◌, ◌<◌}
 use native.Mathlib.Omega.{arith}
 use Rattle.arrival.specs.declared.Item.{Item}
 use Rattle.arrival.specs.Queue.{dequeue, Items, lowest, remove, dequeued, left_over, reply, after}
-use Rattle.arrival.specs.QueueLaws.{lowest_in, remove_less, drained, drained_zero, drained_none, drained_some, drained_lower}
+use Rattle.arrival.specs.QueueLaws.{drained}
+use Rattle.arrival.proofs.QueueLaws.{lowest_in, remove_less, drained_zero, drained_none, drained_some, drained_lower}
 use Rattle.laws.specs.Tests.{by_size}
 use Rattle.laws.specs.Lists.{words_from}
 use Rattle.calendar.specs.rules.Ledger.{Ledger}

@@ -15,7 +15,8 @@ use Rattle.arrival.specs.declared.Shape.{Shape}
 use Rattle.arrival.specs.declared.Item.{Item}
 use Rattle.arrival.specs.declared.Worker.{Worker}
 use Rattle.arrival.specs.declared.Response.TheVariants.{Stored, Empty}
-use Rattle.arrival.specs.Keys.{key_of, lower_by_key}
+use Rattle.arrival.specs.Keys.{key_of}
+use Rattle.arrival.proofs.Keys.{lower_by_key}
 use Rattle.arrival.specs.Queue.{taken}
 use Rattle.calendar.specs.rules.Layout.{Place, word, cell, field, Write, ◌≔◌, read, started, link_cell, item_at, epoch_at, successor, is_marked, unmarked}
 use Rattle.calendar.specs.rules.Layout.{unlinked_at, bucket_in, epoch_in}

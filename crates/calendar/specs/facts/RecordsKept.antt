@@ -7,7 +7,7 @@ use Rattle.std.proofs.Common.{sym, ◌∙◌, subst, arith, ltb-true, leb-true, 
 use Rattle.arrival.specs.declared.Shape.{Shape}
 use Rattle.arrival.specs.declared.Arrival.{Arrival}
 use Rattle.arrival.specs.declared.Worker.{Worker}
-use Rattle.arrival.specs.Keys.{bucket_below}
+use Rattle.arrival.proofs.Keys.{bucket_below}
 use Rattle.laws.specs.Tests.{never, parts, both}
 use Rattle.calendar.specs.rules.Layout.{Write, write_all, layout, link, started, current}
 use Rattle.calendar.specs.rules.Ranges.{link_in_range, record_in_range}

@@ -1,7 +1,7 @@
 use Rattle.std.specs.Prelude.{◌*◌, ◌<◌, ◌≤◌}
 use Rattle.std.proofs.Common.{arith, div-mul-le_self}
 use Rattle.std.proofs.Math.Nat.{mul-le-mul, lt-div-mul-add}
-use Rattle.arrival.specs.Energy.{energy_at_0, energy_only}
+use Rattle.arrival.proofs.Energy.{energy_at_0, energy_only}
 use Rattle.arrival.proofs.spreading.energy.Goals as goal
 
 pub returns-then-distance-eq0 : goal.returns-then-distance-eq0

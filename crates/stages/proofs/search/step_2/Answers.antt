@@ -1,7 +1,7 @@
 -- Stage 2 where the node on the right is lower: the code compares the keys that the rule compares.
 use Rattle.std.proofs.Common.{◌∙◌}
 use borrow.Author.Tests.{ne_eqb}
-use Rattle.arrival.specs.Keys.{lower_keys}
+use Rattle.arrival.proofs.Keys.{lower_keys}
 use Rattle.calendar.specs.rules.Layout.{item_at}
 use Rattle.calendar.specs.rules.SearchSteps.{step_2}
 use Rattle.stages.proofs.search.step_2.Goals as goal
