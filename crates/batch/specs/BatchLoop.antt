@@ -5,22 +5,15 @@
 --     at_work                        the loop's values as a progress
 --     room_from                      the test for room, as the code has it
 -- Assumes nothing.
-use Rattle.std.specs.Prelude.{◌≡◌, List, Bool, true, false, not, ◌≢◌, eqb, leb}
+use Rattle.std.specs.Prelude.{◌≡◌, List, Bool, true, false, leb}
 use Rattle.std.proofs.Math.Path.{refl, ap}
-use Rattle.std.proofs.Common.{sym, ◌∙◌, arith, eqb-true, leb-true, leb-false, le-leb}
+use Rattle.std.proofs.Common.{sym, ◌∙◌, arith, leb-true, leb-false, le-leb}
 use Rattle.std.proofs.Math.Bool.{cond}
 use Prim.Native.Nat.{ℕ, zero, suc, ◌+◌, ◌-◌, ◌≤◌, ◌<◌}
 use Rattle.std.proofs.Math.ListN.{length}
-use Rattle.std.proofs.lemmas.Bool.{eqb-false, lt-leb}
+use Rattle.std.proofs.lemmas.Bool.{lt-leb}
 use Rattle.arrival.specs.declared.Shape.{Shape}
 use Rattle.arrival.specs.declared.Worker.{Worker}
-use Rattle.arrival.specs.declared.Action.{Action}
-use Rattle.arrival.specs.declared.Action.TheVariants.{Enqueue, Dequeue, Step}
-use Rattle.arrival.specs.declared.Response.TheVariants as response
-use Rattle.calendar.specs.rules.Ranges.{worker}
-use Rattle.calendar.specs.facts.RangesKept.{leaks}
-use Rattle.calendar.specs.facts.Accepted.{Usable, enqueue_accepted, dequeue_accepted, step_accepted}
-use Rattle.calendar.specs.rules.Operations.{Memory, actor, refusal, perform, outcome, act}
 use Rattle.turn_file.specs.declared.Read.{Read}
 use Rattle.turn_file.specs.declared.Read.TheVariants.{Open, Act, End, Refused}
 use Rattle.turn_file.specs.Records.{Record, opens, acts}
@@ -30,8 +23,7 @@ use Rattle.batch.specs.declared.Stop.TheVariants.{Drained, Full, Halted}
 use Rattle.batch.specs.Held.{held_after, held, held_all}
 use Rattle.batch.specs.Held.{onward as held_Onward}
 use Rattle.batch.specs.Batch.{Progress, Stopped, has_room, wrote, onward, worked, worked_all}
-use Rattle.admission.specs.Watched.{in_range, Watched, enqueue_sound, dequeue_sound, step_sound}
-use Rattle.admission.specs.Gate.{gate_of, gate_passed, usable, turn_at_3}
+use Rattle.admission.specs.Watched.{Watched}
 
 -- ── rounds ──
 -- there are more rounds than bytes left: it does not matter how many

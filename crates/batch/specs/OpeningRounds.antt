@@ -1,12 +1,10 @@
 -- An opening in a batch, refused or not, as the code has it, is a round of the definition. Assumes nothing.
 --     opening_round    past both ways of the code it is one record more
-use Rattle.std.specs.Prelude.{◌≡◌, refl, List, ◌++◌, Bool, true, cond, ◌≢◌, ◌⊎◌, ℕ, ◌+◌, eqb, leb, length, drop, replicate}
+use Rattle.std.specs.Prelude.{◌≡◌, List, ◌++◌, Bool, true, cond, ◌≢◌, ◌⊎◌, ℕ, ◌+◌, eqb, leb, length, drop, replicate}
 use Rattle.std.proofs.Common.{sym, ap, ◌∙◌, inl, inr, eq-eqb, ne_eqb}
 use Rattle.std.proofs.Math.Path.{subst⁻¹}
 use Rattle.arrival.specs.declared.Shape.{Shape}
 use Rattle.arrival.specs.declared.Worker.{Worker}
-use Rattle.arrival.specs.declared.Response.{Response}
-use Rattle.arrival.specs.declared.Response.TheVariants.{Opened, Refused}
 use Rattle.calendar.specs.rules.Ranges.{blank}
 use Rattle.calendar.specs.rules.Opening.{open_store}
 use Rattle.turn_file.specs.declared.Read.TheVariants.{Open}

@@ -7,7 +7,8 @@
 -- Assumes nothing.
 use Rattle.std.specs.Prelude.{◌≡◌, Bool, false, cond, List, [], ◌++◌, ◌⊎◌, take, drop}
 use Rattle.std.proofs.Math.Path.{refl, ap}
-use Rattle.std.proofs.Common.{sym, ◌∙◌, append_assoc, append-nil, inl, inr, arith, length-append, length-drop, drop-drop, take_at, length-take-le, leb-true, leb-false}
+use Rattle.std.proofs.Common.{sym, ◌∙◌, append_assoc, append-nil, inl, inr, arith, length-append, length-drop, drop-drop, take_at, length-take-le}
+use Rattle.std.proofs.Common.{leb-true, leb-false}
 use Rattle.std.proofs.Math.Bool.{true}
 use Prim.Native.Nat.{ℕ, zero, suc, ◌+◌, ◌-◌, ◌≤◌, ◌<◌}
 use Rattle.std.proofs.Math.ListN.{length}

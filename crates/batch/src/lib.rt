@@ -1,4 +1,6 @@
 // A batch of a turn file against a pool: whole records in, lines out.
+#![tactic(auto)]
+
 ghost use Rattle.std.specs.Prelude.{◌≡◌, ◌+◌, ◌<◌, leb};
 ghost use Rattle.words.specs.Done.{gives};
 ghost use Rattle.stages.specs.Ready.{Ready};
