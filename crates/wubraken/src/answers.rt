@@ -6,7 +6,7 @@ use arrival::Response;
 
 // kind: 0 open, 1 begun, 2 on, 3 stored, 4 took, 5 empty, 6 refused. `number` is the refusal's. What a response does not carry is 0.
 #[repr(C)]
-#[derive(Drop)]
+#[derive(Clone, Copy)]
 pub struct Answer {
     pub kind: u64,
     pub number: u64,

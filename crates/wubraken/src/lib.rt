@@ -1,5 +1,7 @@
 // The library for hosts, single calls: entry points over lent memory, whatever it holds, for C and Rust to call. A start or turn copies one record out,
 // calls a function by value, and stores the record back.
+#![tactic(auto)]
+
 ghost use Rattle.std.specs.Prelude.{◌≡◌, cond};
 ghost use Rattle.arrival.specs.declared.Action.TheVariants.{Enqueue, Dequeue, Step};
 ghost use Rattle.calendar.specs.rules.Layout.{layout};
@@ -79,24 +81,14 @@ pub fn wubraken_enqueue(
 }
 
 // A take start of worker i.
-pub fn wubraken_dequeue(
-    shape: Shape,
-    i: usize,
-    store: &mut [u64],
-    table: &mut [Worker],
-) -> Answer
+pub fn wubraken_dequeue(shape: Shape, i: usize, store: &mut [u64], table: &mut [Worker]) -> Answer
     ensures { leaves store.new table.new result ≡ told (act shape (lent store.old table.old) (Dequeue i)) }
 {
     answer_of(act_lent(shape, whole_dequeue(i), store, table))
 }
 
 // A turn of worker i.
-pub fn wubraken_step(
-    shape: Shape,
-    i: usize,
-    store: &mut [u64],
-    table: &mut [Worker],
-) -> Answer
+pub fn wubraken_step(shape: Shape, i: usize, store: &mut [u64], table: &mut [Worker]) -> Answer
     ensures { leaves store.new table.new result ≡ told (act shape (lent store.old table.old) (Step i)) }
 {
     answer_of(act_lent(shape, whole_step(i), store, table))

@@ -10,13 +10,14 @@ use starts::free::lower_ticket;
 use words::word;
 
 // What a look over records finds: whether all are in range, and if so the least ticket in progress.
-#[derive(Drop)]
+#[derive(Clone, Copy)]
 pub struct Survey {
     pub ok: bool,
     pub low: u64,
 }
 
 // One record more.
+#[tactic(auto, unfolding(crate::specs::Survey::seen))]
 pub fn look(shape: Shape, found: Survey, w: Worker) -> Survey
     requires { shape_in_range shape ≡ true }
     ensures { result ≡ seen shape found w }
