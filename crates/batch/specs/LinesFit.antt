@@ -7,7 +7,8 @@ use Rattle.std.proofs.Common.{arith}
 use Rattle.arrival.specs.declared.Response.{Response}
 use Rattle.arrival.specs.declared.Response.TheVariants.{Opened, Begun, On, Stored, Took, Empty, Refused}
 use Rattle.calendar.specs.rules.Operations.{open_pool, act}
-use Rattle.calendar.specs.facts.AnswerRanges.{ValuesInRange, act_values, open_values}
+use Rattle.calendar.specs.facts.AnswerRanges.{ValuesInRange}
+use Rattle.calendar.proofs.facts.AnswerRanges.{act_values, open_values}
 use Rattle.turn_file.specs.Lines.{Words, line_most}
 use Rattle.turn_file.specs.Records.{Record, opens, acts}
 use Rattle.batch.specs.Batch.{Pool, line_for}

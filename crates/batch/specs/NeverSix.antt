@@ -2,7 +2,7 @@
 use Rattle.std.specs.Prelude.{◌≢◌}
 use Rattle.arrival.specs.declared.Request.TheVariants.{Whole}
 use Rattle.arrival.specs.declared.Response.TheVariants.{Refused}
-use Rattle.calendar.specs.facts.EveryTime.{open_never_6, never_6}
+use Rattle.calendar.proofs.facts.EveryTime.{open_never_6, never_6}
 use Rattle.turn_file.specs.Records.{Record, opens, acts}
 use Rattle.batch.specs.Batch.{Pool, result_of}
 

@@ -21,14 +21,15 @@ use Rattle.arrival.specs.declared.Worker.{Worker}
 use Rattle.arrival.specs.declared.Action.{Action}
 use Rattle.arrival.specs.declared.Response.TheVariants as response
 use Rattle.calendar.specs.rules.Ranges.{shape_in_range, blank}
-use Rattle.calendar.specs.facts.RangeFacts.{limits}
+use Rattle.calendar.proofs.facts.RangeFacts.{limits}
 use Rattle.calendar.specs.rules.Refusals.{open_refusal}
-use Rattle.calendar.specs.facts.Accepted.{open_accepted}
-use Rattle.calendar.specs.facts.RefusalParts.{refused_first}
+use Rattle.calendar.proofs.facts.Accepted.{open_accepted}
+use Rattle.calendar.proofs.facts.RefusalParts.{refused_first}
 use Rattle.calendar.specs.rules.Opening.{open_store, open_table}
 use Rattle.calendar.specs.rules.Operations.{Result, act, open_pool}
-use Rattle.calendar.specs.facts.Untouched.{act_same_size, open_same_size}
-use Rattle.calendar.specs.facts.RecordsBeyond.{keeping, act_same}
+use Rattle.calendar.proofs.facts.Untouched.{act_same_size, open_same_size}
+use Rattle.calendar.specs.facts.RecordsBeyond.{keeping}
+use Rattle.calendar.proofs.facts.RecordsBeyond.{act_same}
 use Rattle.admission.specs.Gate.{shape_tests}
 use Rattle.turn_file.specs.declared.Read.{Read}
 use Rattle.turn_file.specs.declared.Read.TheVariants.{Open, Act, End, Refused}

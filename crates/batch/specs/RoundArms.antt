@@ -25,9 +25,10 @@ use Rattle.arrival.specs.declared.Response.TheVariants.{Opened, Refused}
 use Rattle.calendar.specs.rules.Ranges.{blank, worker}
 use Rattle.calendar.specs.rules.Refusals.{open_refusal}
 use Rattle.calendar.specs.rules.Opening.{open_store, open_table}
-use Rattle.calendar.specs.facts.Accepted.{Lent, Usable, open_accepted}
+use Rattle.calendar.specs.facts.Accepted.{Lent, Usable}
+use Rattle.calendar.proofs.facts.Accepted.{open_accepted}
 use Rattle.calendar.specs.rules.Operations.{Memory, Result, actor, act, open_pool}
-use Rattle.calendar.specs.facts.Untouched.{act_same_size, open_same_size}
+use Rattle.calendar.proofs.facts.Untouched.{act_same_size, open_same_size}
 use Rattle.words.specs.Done.{Done}
 use Rattle.operation.specs.LocalAct.{Admitted, admitted, local_act, LowFor, back, act_is}
 use Rattle.turn_file.specs.declared.Read.{Read}

@@ -19,7 +19,7 @@ use Rattle.laws.specs.Tests.{never}
 use Rattle.calendar.specs.rules.Operations.{Memory, open_pool, act, run, responses}
 use Rattle.calendar.specs.rules.HostHistory.{requested, host_run, host_answers, action_of, HostDemand3}
 use Rattle.calendar.specs.facts.Untouched.{SameSize, SameBeyond}
-use Rattle.calendar.specs.facts.HostRun.{host_same_size, host_same_beyond}
+use Rattle.calendar.proofs.facts.HostRun.{host_same_size, host_same_beyond}
 use Rattle.interleavings.specs.HostDemand3.{host_demand_3}
 use Rattle.dealer.specs.Dealing.{Deal, deal_refusal, turn_of, turned_away, dealt}
 use Rattle.dealer.specs.DealtHistory.{Move, asks, deals, memory_after, answers_to, requests_in, refused_in, filled, all_whole}

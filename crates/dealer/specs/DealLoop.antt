@@ -22,7 +22,7 @@ use Rattle.calendar.specs.rules.Ranges.{words_in_range, table_in_range}
 use Rattle.calendar.specs.rules.Refusals.{bad_shape, short, too_short, no_worker}
 use Rattle.calendar.specs.rules.Operations.{Memory, Result}
 use Rattle.calendar.specs.rules.NarrowCalls.{goes_on}
-use Rattle.calendar.specs.facts.RangeFacts.{word_ranges}
+use Rattle.calendar.proofs.facts.RangeFacts.{word_ranges}
 use Rattle.calendar.specs.facts.Accepted.{Lent}
 use Rattle.calendar.specs.facts.Accepted.{lent as lent_of}
 use Rattle.admission.specs.Watched.{Watched}

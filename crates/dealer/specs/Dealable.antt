@@ -20,10 +20,11 @@ use Rattle.calendar.specs.rules.Ranges.{worker, record_in_range, words_in_range}
 use Rattle.calendar.specs.rules.Operations.{Memory, Result, act}
 use Rattle.calendar.specs.rules.NarrowCalls.{records_in_range, goes_on, turns_after, narrow_call, narrow_act}
 use Rattle.calendar.specs.rules.HostHistory.{requested}
-use Rattle.calendar.specs.facts.RangeFacts.{WordRanges, word_tests, record_ranges}
+use Rattle.calendar.specs.facts.RangeFacts.{WordRanges}
+use Rattle.calendar.proofs.facts.RangeFacts.{word_tests, record_ranges}
 use Rattle.calendar.specs.facts.RangesKept.{leaks}
 use Rattle.calendar.specs.facts.Accepted.{Lent, Usable}
-use Rattle.calendar.specs.facts.Untouched.{act_same_size}
+use Rattle.calendar.proofs.facts.Untouched.{act_same_size}
 use Rattle.words.specs.Done.{Done}
 use Rattle.words.specs.Laid.{laid}
 use Rattle.admission.specs.Watched.{in_range, Watched}

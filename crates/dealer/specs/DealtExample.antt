@@ -33,7 +33,7 @@ use Rattle.calendar.specs.rules.Steps.{step}
 use Rattle.calendar.specs.rules.Refusals.{out_of_range, open_refusal, enqueue_refusal, dequeue_refusal, step_refusal}
 use Rattle.calendar.specs.rules.Operations.{Memory, open_pool, act}
 use Rattle.calendar.specs.rules.NarrowCalls.{narrow_refusal, narrow_act, turns_after, narrow_call}
-use Rattle.calendar.specs.facts.Starred.{arrival, lent}
+use Rattle.calendar.proofs.facts.Starred.{arrival, lent}
 use Rattle.dealer.specs.Dealing.{new_dealer, first_busy_of, next_served, deal_refusal, dealt, dealt_on, dealt_run}
 use Rattle.dealer.specs.DealtHistory.{Move, asks, deals, memory_after, dealer_after, answers_to, served_in, requests_in, refused_in}
 

@@ -15,15 +15,16 @@ use Rattle.arrival.specs.declared.Response.{Response}
 use Rattle.arrival.specs.declared.Response.TheVariants.{Refused}
 use Rattle.arrival.specs.Responses.{said}
 use Rattle.laws.specs.Tests.{by_test}
-use Rattle.laws.specs.Counting.{every_at}
+use Rattle.laws.proofs.Counting.{every_at}
 use Rattle.laws.specs.FirstOf.{lacks, first_lacks}
 use Rattle.calendar.specs.rules.Ranges.{worker, record_in_range, store_in_range, table_in_range}
 use Rattle.calendar.specs.rules.Refusals.{bad_shape, too_short, out_of_range, no_worker}
 use Rattle.calendar.specs.rules.Operations.{Memory, actor, refusal, act, run}
 use Rattle.calendar.specs.rules.NarrowCalls.{turns_after, narrow_call}
 use Rattle.calendar.specs.rules.HostHistory.{requested}
-use Rattle.calendar.specs.facts.RefusalParts.{own_of, refusal_first}
-use Rattle.calendar.specs.facts.Narrow.{words_of_store, narrow_same}
+use Rattle.calendar.specs.facts.RefusalParts.{own_of}
+use Rattle.calendar.proofs.facts.RefusalParts.{refusal_first}
+use Rattle.calendar.proofs.facts.Narrow.{words_of_store, narrow_same}
 use Rattle.calendar.specs.facts.HostRun.{StaysInRange}
 use Rattle.lists.specs.NodeReuse.{refused_by}
 use Rattle.dealer.specs.Dealing.{Deal, next_served, all_idle, served_in_range, deal_out, deal_refusal, turn_of, dealt}

@@ -29,10 +29,11 @@ use Rattle.calendar.specs.rules.Refusals.{bad_shape, too_short, no_worker, no_ep
 use Rattle.calendar.specs.rules.Operations.{Memory, Result, unless, perform, actor, refusal, outcome, act}
 use Rattle.calendar.specs.rules.NarrowCalls.{narrow_refusal, narrow_act, turns_after, narrow_call}
 use Rattle.calendar.specs.rules.HostHistory.{requested}
-use Rattle.calendar.specs.facts.RangeFacts.{limits}
-use Rattle.calendar.specs.facts.Untouched.{SameSize, SameBeyond, outcome_said, act_refused_untouched, act_same_beyond}
-use Rattle.calendar.specs.facts.Narrow.{narrow_same, narrow_said, narrow_refused_untouched}
-use Rattle.calendar.specs.facts.NarrowTurns.{narrow_call_same_beyond}
+use Rattle.calendar.proofs.facts.RangeFacts.{limits}
+use Rattle.calendar.specs.facts.Untouched.{SameSize, SameBeyond}
+use Rattle.calendar.proofs.facts.Untouched.{outcome_said, act_refused_untouched, act_same_beyond}
+use Rattle.calendar.proofs.facts.Narrow.{narrow_same, narrow_said, narrow_refused_untouched}
+use Rattle.calendar.proofs.facts.NarrowTurns.{narrow_call_same_beyond}
 use Rattle.dealer.specs.Dealing.{Deal, new_dealer, next_served, all_idle, served_in_range, deal_out, deal_tests, deal_refusal, turn_of, dealt}
 use Rattle.dealer.specs.Served.{served_busy}
 use Rattle.dealer.specs.Requests.{request_same_size, request_others}

@@ -18,12 +18,15 @@ use Rattle.calendar.specs.rules.Ranges.{worker}
 use Rattle.calendar.specs.rules.Reclaim.{in_progress}
 use Rattle.calendar.specs.rules.Operations.{Memory, Result, actor, refusal, act}
 use Rattle.calendar.specs.rules.HostHistory.{requested, made_by, action_of}
-use Rattle.calendar.specs.facts.Accepted.{enqueue_passed, dequeue_passed}
-use Rattle.calendar.specs.facts.RefusalParts.{own_of, act_passes}
-use Rattle.calendar.specs.facts.Untouched.{SameSize, act_same_size, others_untouched}
-use Rattle.calendar.specs.facts.NarrowAccepted.{narrow_passes}
-use Rattle.calendar.specs.facts.NarrowTurns.{narrow_call_same_size, narrow_call_others_untouched, narrow_call_refused}
-use Rattle.calendar.specs.facts.HostRun.{StaysInRange, stays_after, replied}
+use Rattle.calendar.proofs.facts.Accepted.{enqueue_passed, dequeue_passed}
+use Rattle.calendar.specs.facts.RefusalParts.{own_of}
+use Rattle.calendar.proofs.facts.RefusalParts.{act_passes}
+use Rattle.calendar.specs.facts.Untouched.{SameSize}
+use Rattle.calendar.proofs.facts.Untouched.{act_same_size, others_untouched}
+use Rattle.calendar.proofs.facts.NarrowAccepted.{narrow_passes}
+use Rattle.calendar.proofs.facts.NarrowTurns.{narrow_call_same_size, narrow_call_others_untouched, narrow_call_refused}
+use Rattle.calendar.specs.facts.HostRun.{StaysInRange}
+use Rattle.calendar.proofs.facts.HostRun.{stays_after, replied}
 use Rattle.dealer.specs.DealtHistory.{is_turn_of}
 
 pub request_same_size : (sh : Shape) (m : Memory) (q : Request) → SameSize m (requested sh m q).memory

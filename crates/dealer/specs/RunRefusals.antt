@@ -21,8 +21,8 @@ use Rattle.calendar.specs.rules.Reclaim.{in_progress}
 use Rattle.calendar.specs.rules.Operations.{Memory, Result, open_pool, run}
 use Rattle.calendar.specs.rules.NarrowCalls.{narrow_refusal, narrow_act, turns_after, narrow_call, goes_on}
 use Rattle.calendar.specs.rules.HostHistory.{requested}
-use Rattle.calendar.specs.facts.GoesOn.{narrow_goes}
-use Rattle.calendar.specs.facts.Narrow.{narrow_same}
+use Rattle.calendar.proofs.facts.GoesOn.{narrow_goes}
+use Rattle.calendar.proofs.facts.Narrow.{narrow_same}
 use Rattle.calendar.specs.facts.HostRun.{StaysInRange}
 use Rattle.lists.specs.NodeReuse.{always_in_range}
 use Rattle.dealer.specs.Dealing.{Deal, next_served, all_idle, deal_out, deal_tests, deal_refusal, turn_of, dealt, dealt_on, dealt_run}

@@ -16,7 +16,7 @@ use Rattle.calendar.specs.rules.Ranges.{worker}
 use Rattle.calendar.specs.rules.Reclaim.{in_progress}
 use Rattle.calendar.specs.rules.Refusals.{open_tests, open_refusal}
 use Rattle.calendar.specs.rules.Operations.{Memory, open_pool}
-use Rattle.calendar.specs.facts.Untouched.{open_same_size}
+use Rattle.calendar.proofs.facts.Untouched.{open_same_size}
 use Rattle.lists.specs.NodeReuse.{opened, always_in_range}
 use Rattle.calendar.specs.rules.HostHistory.{requested, action_of}
 use Rattle.dealer.specs.Dealing.{Deal, next_served, turn_of, dealt}

@@ -31,7 +31,7 @@ use Rattle.calendar.specs.rules.Steps.{step}
 use Rattle.calendar.specs.rules.Refusals.{too_short, out_of_range, memory_tests, open_refusal, dequeue_refusal, step_refusal}
 use Rattle.calendar.specs.rules.Operations.{Memory, open_pool, act}
 use Rattle.calendar.specs.rules.NarrowCalls.{narrow_refusal, narrow_act, turns_after, narrow_call}
-use Rattle.calendar.specs.facts.Starred.{lent}
+use Rattle.calendar.proofs.facts.Starred.{lent}
 use Rattle.lists.specs.NodeReuse.{always_in_range}
 use Rattle.dealer.specs.Dealing.{new_dealer, first_busy_of, deal_refusal, dealt}
 use Rattle.dealer.specs.DealtHistory.{Move, asks, memory_after, dealer_after, answers_to, served_in, among, deals_in, no_turn_of}

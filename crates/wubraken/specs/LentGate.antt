@@ -4,8 +4,9 @@ use Rattle.std.proofs.Common.{ap, ◌∙◌, eq-eqb}
 use Rattle.arrival.specs.declared.Shape.{Shape}
 use Rattle.laws.specs.Tests.{parts}
 use Rattle.calendar.specs.rules.Ranges.{words_in_range, store_in_range}
-use Rattle.calendar.specs.facts.RangeFacts.{Limits, WordRanges, word_ranges}
-use Rattle.calendar.specs.facts.Narrow.{words_of_store}
+use Rattle.calendar.specs.facts.RangeFacts.{Limits, WordRanges}
+use Rattle.calendar.proofs.facts.RangeFacts.{word_ranges}
+use Rattle.calendar.proofs.facts.Narrow.{words_of_store}
 use Rattle.words.specs.Laid.{Laid, laid}
 use Rattle.admission.specs.Gate.{gate_of, gate_passed, gate_opens, open_gate, open_passed, sound_of, sound_opens}
 use Rattle.admission.specs.NarrowGate.{near_of, near_opens}

@@ -32,7 +32,7 @@ use Rattle.calendar.specs.rules.Operations.{Memory, Result, actor, act, open_poo
 use Rattle.calendar.specs.rules.NarrowCalls.{records_in_range, narrow_act, turns_after, narrow_call}
 use Rattle.calendar.specs.rules.HostHistory.{requested, action_of}
 use Rattle.calendar.specs.facts.Accepted.{Lent}
-use Rattle.calendar.specs.facts.RangeFacts.{record_ranges}
+use Rattle.calendar.proofs.facts.RangeFacts.{record_ranges}
 use Rattle.words.specs.Done.{Done, gives, refused, unless_refused}
 use Rattle.words.specs.declared.replies.Reply.{Reply}
 use Rattle.operation.specs.LocalAct.{local_act, Admitted, LowFor, back, act_is, narrow_is}

@@ -9,7 +9,8 @@ use Rattle.arrival.specs.declared.Shape.{Shape}
 use Rattle.arrival.specs.declared.Worker.{Worker}
 use Rattle.arrival.specs.declared.Request.{Request}
 use Rattle.laws.specs.Tests.{never, left_true}
-use Rattle.laws.specs.Counting.{every, every_at}
+use Rattle.laws.specs.Counting.{every}
+use Rattle.laws.proofs.Counting.{every_at}
 use Rattle.calendar.specs.rules.Ranges.{shape_in_range, record_in_range, table_in_range, worker}
 use Rattle.starts.specs.LeastTicket.{lower, lower_at_most, least_ticket}
 use Rattle.wubraken.specs.declared.table.Survey.{Survey}

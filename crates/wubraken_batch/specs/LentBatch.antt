@@ -13,9 +13,10 @@ use Rattle.std.proofs.Math.Path.{ap, subst⁻¹}
 use Rattle.std.proofs.lemmas.List.{length-replicate}
 use Rattle.arrival.specs.declared.Shape.{Shape}
 use Rattle.arrival.specs.declared.Worker.{Worker}
-use Rattle.laws.specs.Counting.{every, every_same}
+use Rattle.laws.specs.Counting.{every}
+use Rattle.laws.proofs.Counting.{every_same}
 use Rattle.calendar.specs.rules.Ranges.{shape_in_range, blank, record_in_range, table_in_range, worker}
-use Rattle.calendar.specs.facts.RangeFacts.{limits}
+use Rattle.calendar.proofs.facts.RangeFacts.{limits}
 use Rattle.calendar.specs.rules.Operations.{Memory}
 use Rattle.admission.specs.Watched.{Watched}
 use Rattle.admission.specs.Gate.{sound_of, sound_watched, shape_tests}

@@ -1,6 +1,6 @@
 -- A narrow turn looks at its record, a whole one has looked. Assumes nothing.
 use native.Mathlib.Omega.{arith}
-use Rattle.calendar.specs.facts.RangeFacts.{limits}
+use Rattle.calendar.proofs.facts.RangeFacts.{limits}
 use Rattle.dealer.proofs.visits.may_turn.Statement.{statement}
 use Rattle.dealer.proofs.visits.may_turn.Tie as tie
 

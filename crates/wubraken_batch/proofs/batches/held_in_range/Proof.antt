@@ -4,9 +4,10 @@ use mathlib.Core.Bool.{true}
 use Prim.Native.Nat.{ℕ, ◌≤◌, ◌-◌}
 use native.Mathlib.Omega.{arith}
 use borrow.Author.Tests.{not-true, not-false}
-use Rattle.laws.specs.Counting.{every, every_none, every_more, every_fails}
+use Rattle.laws.specs.Counting.{every}
+use Rattle.laws.proofs.Counting.{every_none, every_more, every_fails}
 use Rattle.calendar.specs.rules.Ranges.{blank, worker, record_in_range}
-use Rattle.calendar.specs.facts.RangeFacts.{limits}
+use Rattle.calendar.proofs.facts.RangeFacts.{limits}
 use Rattle.wubraken_batch.specs.LentBatch.{held_in_range}
 use Rattle.wubraken_batch.proofs.batches.held_in_range.Statement.{statement}
 use Rattle.wubraken_batch.proofs.batches.held_in_range.Tie as tie
