@@ -1,4 +1,3 @@
 pub mod Watched
 pub mod Gate
-pub mod KindByStage
 pub mod NarrowGate

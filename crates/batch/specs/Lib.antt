@@ -4,15 +4,8 @@ pub mod RecordsCounted
 pub mod WithinBuffers
 pub mod RecordsNotHeld
 pub mod Tickets
-pub mod LentPart
 pub mod BatchLoop
 pub mod RoundArms
 pub mod CodeView
-pub mod OpeningRounds
 pub mod ActHeld
-pub mod Stopping
 pub mod TurnFile
-pub mod NeverSix
-pub mod LinesFit
-pub mod PartOfFile
-pub mod WorkedExample

@@ -9,7 +9,8 @@ use Rattle.std.proofs.Common.{ap, ◌∙◌}
 use Rattle.arrival.specs.declared.Response.{Response}
 use Rattle.calendar.specs.rules.Operations.{Memory, Result}
 use Rattle.wubraken.specs.declared.answers.Answer.{Answer}
-use Rattle.wubraken.specs.Answers.{answer_of, answer_said}
+use Rattle.wubraken.specs.Answers.{answer_of}
+use Rattle.wubraken.proofs.AnswerLaws.{answer_said}
 use Rattle.wubraken.specs.Results.{lent, Told, leaves, told}
 use Rattle.arrival.specs.declared.Worker.{Worker}
 use Rattle.dealer.specs.declared.answers.Dealt.{Dealt}

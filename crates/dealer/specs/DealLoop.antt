@@ -26,10 +26,13 @@ use Rattle.calendar.proofs.facts.RangeFacts.{word_ranges}
 use Rattle.calendar.specs.facts.Accepted.{Lent}
 use Rattle.calendar.specs.facts.Accepted.{lent as lent_of}
 use Rattle.admission.specs.Watched.{Watched}
-use Rattle.admission.specs.Gate.{gate_of, gate_passed, gate_opens, open_gate, open_passed, Tight, shape_tests, lent_passes, sound_of, sound_opens, sound_watched}
-use Rattle.admission.specs.NarrowGate.{near_of, near_opens}
+use Rattle.admission.specs.Gate.{gate_of, open_gate, Tight, sound_of}
+use Rattle.admission.proofs.GateLaws.{gate_passed, gate_opens, open_passed, shape_tests, lent_passes, sound_opens, sound_watched}
+use Rattle.admission.specs.NarrowGate.{near_of}
+use Rattle.admission.proofs.NarrowGate.{near_opens}
 use Rattle.wubraken.specs.Results.{lent}
-use Rattle.wubraken.specs.Survey.{survey, survey_ok_is}
+use Rattle.wubraken.specs.Survey.{survey}
+use Rattle.wubraken.proofs.Survey.{survey_ok_is}
 use Rattle.dealer.specs.Runs.{flag_of}
 use Rattle.dealer.specs.Dealing.{
   all_idle,

@@ -23,9 +23,12 @@ use Rattle.words.specs.Done.{Done, gives}
 use Rattle.words.specs.declared.replies.Reply.{Reply}
 use Rattle.stages.specs.Ready.{Ready}
 use Rattle.stages.specs.LocalStep.{local_step}
-use Rattle.operation.specs.LocalAct.{local_act, local_step_lem, ready, back}
-use Rattle.operation.specs.LocalTurns.{act_length, Going, going}
-use Rattle.wubraken.specs.Results.{lent, gave, put_back}
+use Rattle.operation.specs.LocalAct.{local_act, back}
+use Rattle.operation.proofs.LocalAct.{local_step_lem, ready}
+use Rattle.operation.specs.LocalTurns.{Going}
+use Rattle.operation.proofs.LocalTurns.{act_length, going}
+use Rattle.wubraken.specs.Results.{lent, gave}
+use Rattle.wubraken.proofs.Results.{put_back}
 use Rattle.dealer.specs.Dealing.{next_served, Deal, serving, turned_away, dealt, dealt_on, dealt_run}
 use Rattle.dealer.specs.Served.{served_busy}
 use Rattle.dealer.specs.Dealable.{Dealable, MayTurn, leaks_of, none_served, record_out, admits, served_is, keeps_on, leaked}

@@ -28,11 +28,13 @@ use Rattle.calendar.proofs.facts.Untouched.{act_same_size}
 use Rattle.words.specs.Done.{Done}
 use Rattle.words.specs.Laid.{laid}
 use Rattle.admission.specs.Watched.{in_range, Watched}
-use Rattle.admission.specs.Gate.{gate_of, open_gate, shape_tests, lent_passes, passes, usable}
+use Rattle.admission.specs.Gate.{gate_of, open_gate}
+use Rattle.admission.proofs.GateLaws.{shape_tests, lent_passes, passes, usable}
 use Rattle.admission.specs.NarrowGate.{near_of}
-use Rattle.operation.specs.LocalAct.{local_act, Admitted, admitted, back, act_is, narrow_is}
-use Rattle.operation.specs.LocalTurns.{act_length, going}
-use Rattle.operation.specs.Leaks.{act_watched}
+use Rattle.operation.specs.LocalAct.{local_act, Admitted, back}
+use Rattle.operation.proofs.LocalAct.{admitted, act_is, narrow_is}
+use Rattle.operation.proofs.LocalTurns.{act_length, going}
+use Rattle.operation.proofs.LeakLaws.{act_watched}
 use Rattle.dealer.specs.Dealing.{next_served, all_idle, deal_out, deal_refusal, Deal, turn_of, serving, turned_away, dealt}
 -- the runs come first: a wrong definition is refused by them
 use Rattle.dealer.specs.DealtExample.{by_hand}

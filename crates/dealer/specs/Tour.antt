@@ -26,7 +26,8 @@ use Rattle.words.specs.Done.{Done, gives}
 use Rattle.words.specs.declared.replies.Reply.{Reply}
 use Rattle.stages.specs.Ready.{Ready}
 use Rattle.stages.specs.LocalStep.{local_step}
-use Rattle.admission.specs.Gate.{shape_tests, gate_of, gate_passed}
+use Rattle.admission.specs.Gate.{gate_of}
+use Rattle.admission.proofs.GateLaws.{shape_tests, gate_passed}
 use Rattle.wubraken.specs.Results.{lent}
 use Rattle.dealer.specs.declared.runs.Run.{Run}
 use Rattle.dealer.specs.Dealing.{worker_after, first_busy_of, next_served, Deal, dealt_on, dealt_run}

@@ -4,5 +4,5 @@ pub mod DecayRefusals
 pub mod CrossingSearch
 pub mod Totals
 pub mod Curves
-pub mod FirstCrossings
-pub mod Logarithms
+pub mod CrossingLaws
+pub mod LogLaws

@@ -4,4 +4,4 @@ pub mod Recorded
 pub mod Conserved
 pub mod SeriesLoop
 pub mod WholeSeries
-pub mod Grids
+pub mod GridLaws

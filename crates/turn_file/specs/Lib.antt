@@ -2,7 +2,6 @@ pub mod Fields
 pub mod Records
 pub mod Reading
 pub mod Encoding
-pub mod FrontFields
 pub mod FrontRecords
 pub mod FoundRecord
 pub mod MoreBytes
@@ -10,4 +9,3 @@ pub mod OneReading
 pub mod Decimal
 pub mod Lines
 pub mod Buffer
-pub mod FileExample

@@ -47,7 +47,7 @@ fn record_size(mark: u64) -> usize
 }
 
 // The record of a known mark, of which every byte is there.
-#[tactic(auto, using(crate::specs::Records::size_least), unfolding(crate::specs::Records::size_of, crate::specs::Reading::fields_at))]
+#[tactic(auto, using(crate::proofs::Records::size_least), unfolding(crate::specs::Records::size_of, crate::specs::Reading::fields_at))]
 fn record_of(bytes: &[u8], at: usize, mark: u64, next: usize) -> Read
     requires { (0 < size_of mark) × (at + size_of mark ≤ length bytes.now) }
     ensures { result ≡ whole (fields_at bytes.now at mark) next }
@@ -64,7 +64,7 @@ fn record_of(bytes: &[u8], at: usize, mark: u64, next: usize) -> Read
 }
 
 // The record at a position, wherever that is.
-#[tactic(auto, using(crate::specs::Records::size_most), unfolding(crate::specs::Reading::record_at, crate::specs::Reading::marked_at))]
+#[tactic(auto, using(crate::proofs::Records::size_most), unfolding(crate::specs::Reading::record_at, crate::specs::Reading::marked_at))]
 pub fn read_record(bytes: &[u8], at: usize) -> Read
     ensures { result ≡ record_at bytes.now at }
 {
@@ -87,7 +87,7 @@ pub fn read_record(bytes: &[u8], at: usize) -> Read
 
 // Writes a response's line at a position of a lent buffer: the position after it. Where it does not fit, nothing is
 // written and the position is the same.
-#[tactic(auto, using(crate::specs::Lines::line_most), unfolding(crate::specs::Lines::line_of))]
+#[tactic(auto, using(crate::proofs::LineLaws::line_most), unfolding(crate::specs::Lines::line_of))]
 pub fn write_line(response: Response, out: &mut [u8], at: usize) -> usize
     ensures { (result ≡ after out.old at (line_of response))
         × (out.new ≡ written out.old at (line_of response))
@@ -119,7 +119,7 @@ pub fn write_refusal(number: u64, out: &mut [u8], at: usize) -> usize
     lines::number_line(b"no ", number, out, at)
 }
 
-#[tactic(auto, using(crate::specs::Lines::line_most), unfolding(crate::specs::Lines::line_of))]
+#[tactic(auto, using(crate::proofs::LineLaws::line_most), unfolding(crate::specs::Lines::line_of))]
 pub fn write_opened(out: &mut [u8], at: usize) -> usize
     ensures { (result ≡ after out.old at (line_of Opened))
         × (out.new ≡ written out.old at (line_of Opened))

@@ -3,10 +3,7 @@
 --     all_rounds                              as many as a run may take
 --     Followed                               what has been done, and what is to come
 --     Whole, After, Interrupted, Outcome     what a run left, by why it ended
---     at_start, spent                        nothing has been done; the rounds are spent
---     working, reading                       the loop goes on; reads on
---     closed, Ends, finished                 it is closed; the file has ended
---     first_held, after_read                 before the first round; after a read
+--     Ends                                   it is closed; the file has ended
 -- Assumes nothing.
 use Rattle.std.specs.Prelude.{◌≡◌, List, [], ◌∷◌, ◌++◌, false, ℕ, suc, ◌+◌, ◌-◌, ◌≤◌, ◌<◌, eqb, length, take, drop}
 use Rattle.std.proofs.Math.Path.{refl, sym, ap, subst⁻¹}
@@ -16,15 +13,15 @@ use Rattle.laws.specs.Storing.{moved}
 use Rattle.batch.specs.declared.HeldPool.{HeldPool}
 use Rattle.batch.specs.Batch.{Pool}
 use Rattle.batch.specs.TurnFile.{Ran, behind, zeros, turn_file}
-use Rattle.batch.specs.PartOfFile.{behind_behind}
+use Rattle.batch.proofs.PartOfFile.{behind_behind}
 use Rattle.turns.specs.declared.Ended.{Ended}
 use Rattle.turns.specs.declared.Ended.TheVariants.{Finished, Closed, Spent}
 use Rattle.turns.specs.declared.Next.{Next}
 use Rattle.turns.specs.declared.Next.TheVariants.{More, Read, End, Last}
 use Rattle.turns.specs.declared.Round.{Round}
 use Rattle.turns.specs.TurnsRun.{lent, Held, Rounded, round_of, Reads, worked_on, read_on, next_round, rounds, at_first, input_of}
-use Rattle.turns.specs.InPieces.{load, in_pieces}
-use Rattle.turns.specs.BetweenRounds.{in_hand, holding, leaves, read_behind, nothing_read}
+use Rattle.turns.specs.InPieces.{load}
+use Rattle.turns.specs.BetweenRounds.{in_hand, holding, leaves}
 
 -- as many rounds as a run may take
 abbrev pub all_rounds : ℕ
@@ -60,120 +57,9 @@ Outcome start store Finished = Whole store
 Outcome start store Closed = Interrupted start store
 Outcome start store Spent = After all_rounds start store
 
-pub at_start : (start : Held) → Followed start start all_rounds
-at_start start =
-    record { count = 0; reads = []; lines = []; all = refl; same = λ n future. let e : 0 + n ≡ n = omega arith in ap (λ (k : ℕ). rounds k future start) e }
-
-module _ (start h : Held) (left : ℕ) (F : Followed start h left) where
-  one_more : (n : ℕ) (future : Reads) → rounds (F.count + 1 + n) (F.reads ++ future) start ≡ behind F.lines (rounds (suc n) future h)
-  one_more n future =
-      let e : F.count + 1 + n ≡ F.count + suc n = omega arith in ap (λ (k : ℕ). rounds k (F.reads ++ future) start) e ∙ F.same (suc n) future
-
-  -- all rounds are used up
-  pub spent : left ≡ 0 → (store : List ℕ) → store ≡ h.pool.memory.store → After all_rounds start store
-  unfolding rounds
-  spent none store e =
-      let all : F.count + 0 ≡ all_rounds = omega (arith, F.all, none) in
-      record {
-        reads = F.reads ++ [];
-        same = e ∙ sym (ap (λ (q : Ran). q.pool.memory.store) (F.same 0 [])) ∙ ap (λ (k : ℕ). (rounds k (F.reads ++ []) start).pool.memory.store) all;
-      }
-
-  module _ (r : Rounded) (is : r ≡ round_of h) where
-    -- what the rounds do by what follows this one
-    by_next : (m : Next) → r.next ≡ m → (n : ℕ) (future : Reads)
-        → rounds (F.count + 1 + n) (F.reads ++ future) start ≡ behind F.lines (behind (take r.to r.out) (next_round (rounds n) future h.ended r m))
-    unfolding rounds
-    by_next m e n future =
-        one_more n future
-        ∙ ap (λ (q : Rounded). behind F.lines (behind (take q.to q.out) (next_round (rounds n) future h.ended q q.next))) (sym is)
-        ∙ ap (λ (m : Next). behind F.lines (behind (take r.to r.out) (next_round (rounds n) future h.ended r m))) e
-
-    pub working : (less : ℕ) → less + 1 ≡ left → r.next ≡ More → Followed start (worked_on h.ended r) less
-    working less one e = record {
-      count = F.count + 1;
-      reads = F.reads;
-      lines = F.lines ++ take r.to r.out;
-      all = omega (arith, F.all, one);
-      same = λ n future. by_next More e n future ∙ sym (behind_behind F.lines (take r.to r.out) _);
-    }
-
-    pub reading : (less : ℕ) → less + 1 ≡ left → r.next ≡ Read → (piece : List ℕ) → Followed start (read_on piece r) less
-    reading less one e piece = record {
-      count = F.count + 1;
-      reads = F.reads ++ (piece ∷ []);
-      lines = F.lines ++ take r.to r.out;
-      all = omega (arith, F.all, one);
-      same = λ n future. ap (λ (l : Reads). rounds (F.count + 1 + n) l start) (append_snoc F.reads piece future)
-          ∙ by_next Read e n (piece ∷ future)
-          ∙ sym (behind_behind F.lines (take r.to r.out) _);
-    }
-
-    stops : (m : Next) → (next_round (rounds 0) [] h.ended r m).pool ≡ r.pool
-    unfolding rounds
-    stops More = refl
-    stops Read = refl
-    stops End = refl
-    stops (Last k) = refl
-
-    -- left behind this round, whatever would follow
-    pub closed : (store : List ℕ) → store ≡ r.pool.memory.store → Interrupted start store
-    closed store e = record {
-      count = F.count + 1 + 0;
-      some = omega arith;
-      after = record {
-        reads = F.reads ++ [];
-        same = e ∙ sym (ap (λ (q : Ran). q.pool.memory.store) (by_next r.next refl 0 []) ∙ ap (λ (x : Pool). x.memory.store) (stops r.next));
-      };
-    }
-
 -- no round follows
 abbrev pub Ends : Next → Type 0
 Ends More = ⊥
 Ends Read = ⊥
 Ends End = Unit {0}
 Ends (Last k) = Unit {0}
-
-module _ (out : List ℕ) (big : 89 ≤ length out) (h : Held) (left : ℕ) (F : Followed (at_first lent out) h left) where
-  nothing_more : (r : Rounded) (m : Next) → Ends m → (n : ℕ) (future : Reads) → (next_round (rounds n) future h.ended r m).pool ≡ r.pool
-  nothing_more r More e n future = absurd e
-  nothing_more r Read e n future = absurd e
-  nothing_more r End e n future = refl
-  nothing_more r (Last k) e n future = refl
-
-  -- With any number of rounds to come the pool stays, and with enough of them it is the file's.
-  pub finished : (r : Rounded) → r ≡ round_of h → Ends r.next → (store : List ℕ) → store ≡ r.pool.memory.store → Whole store
-  finished r is ends store e =
-      let reads : Reads = F.reads ++ [] in
-      let n : ℕ = suc (suc (load reads)) in
-      record {
-        reads = reads;
-        same =
-            e ∙ ap (λ (x : Pool). x.memory.store) (sym (ap (λ (q : Ran). q.pool) (by_next (at_first lent out) h left F r is r.next refl n [])
-            ∙ nothing_more r r.next ends n []))
-            ∙ ap (λ (q : Ran). q.pool.memory.store) (in_pieces reads lent out big (F.count + 1 + n) (omega arith));
-      }
-
--- ── as the code holds it ──
--- before the first round
-pub first_held : (d : HeldPool) (s input out : List ℕ) → d.shape ≡ zeros → d.records ≡ 64 → d.table ≡ lent.table → s ≡ lent.store
-    → at_first lent out ≡ holding d s false (in_hand 0 0 input) out
-unfolding lent
-first_held d s input out shape records table store = cc (shape, ap (λ (n : ℕ). take n d.table) records ∙ ap (take 64) table, store)
-
--- behind the kept rest stands what was read
-pub after_read : (start : Held) (r : Round) (have kept more : ℕ) (input front read out s : List ℕ) → r.at ≤ have → have ≤ length input → kept ≡ have - r.at
-    → front ≡ moved r.at (have - r.at) input
-    → take kept read ≡ take kept front → kept ≤ more → more ≤ length read → (left : ℕ)
-    → ((piece : List ℕ) → Followed start (read_on piece (leaves r have input out s)) left)
-    → Followed start (holding r.pool s (eqb more kept) (in_hand 0 more read) out) left
-after_read start r have kept more input front read out s h k is e f l m left F =
-    subst (λ (g : Held). Followed start g left) (sym same) (F (take (more - kept) (drop kept read)))
-  where
-    bytes : in_hand 0 more read ≡ in_hand r.at have input ++ take (more - kept) (drop kept read)
-    bytes =
-        subst⁻¹ (λ (n : ℕ). take n read ≡ take n front → n ≤ more → in_hand 0 more read ≡ in_hand r.at have input ++ take (more - n) (drop n read)) is
-        (λ f l. read_behind r.at have more input front read h k e f l m) f l
-
-    same : holding r.pool s (eqb more kept) (in_hand 0 more read) out ≡ read_on (take (more - kept) (drop kept read)) (leaves r have input out s)
-    same = cc (bytes, nothing_read kept more read l m)

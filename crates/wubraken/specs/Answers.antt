@@ -25,27 +25,9 @@ response_of a =
     get_or (Opened ∷ Begun a.ticket ∷ On ∷ Stored a.ticket ∷ Took a.time a.path a.order a.distance a.energy ∷ Empty ∷ []) a.kind
     (Refused a.number)
 
-pub answer_tells : (r : Response) → response_of (answer_of r) ≡ r
-answer_tells Opened = refl
-answer_tells (Begun ticket) = refl
-answer_tells On = refl
-answer_tells (Stored ticket) = refl
-answer_tells (Took time path order distance energy) = refl
-answer_tells Empty = refl
-answer_tells (Refused number) = refl
-
 -- the number and the values
 abbrev pub said_by : Answer → Said
 said_by a = record {
   number = a.number;
   values = get_or ([] ∷ (a.ticket ∷ []) ∷ [] ∷ (a.ticket ∷ []) ∷ (a.time ∷ a.path ∷ a.order ∷ a.distance ∷ a.energy ∷ []) ∷ []) a.kind [];
 }
-
-pub answer_said : (r : Response) → said_by (answer_of r) ≡ said r
-answer_said Opened = refl
-answer_said (Begun ticket) = refl
-answer_said On = refl
-answer_said (Stored ticket) = refl
-answer_said (Took time path order distance energy) = refl
-answer_said Empty = refl
-answer_said (Refused number) = refl

@@ -1,14 +1,10 @@
 -- What the by-value functions leave, and that it is what the operations of the pool are defined to give.
 --     Told, leaves, told             memory and answer after a call: of what the code left, and of an operation's result
---     gave, put_back                 memory and response; what is done on one record, put back in the table
---     ActsAs, AnswersAs, answered    the claims of a function that does what is requested, and of one that answers it
+--     gave                           memory and response; what is done on one record, put back in the table
+--     ActsAs, AnswersAs              the claims of a function that does what is requested, and of one that answers it
 --     near_by                         whether the records that a request looks at are in range
---     act_on, refused_on, done_on     refused by 1 to 4, or done; by what the gate said
---     admits                         what the gate lets pass may be worked on
---     acted                          what is done on one record and put back is what was requested
---     away_is                        so is the refusal of a worker past the workers' records
+--     act_on                          refused by 1 to 4, or done; by what the gate said
 --     records_opened                  how many records an opening clears, by the number that refuses it
---     opened_bound, open_is          no more than there are; with the store opened and the records cleared it is the opening
 -- Assumes nothing.
 use Rattle.std.specs.Prelude.{◌≡◌, List, ◌++◌, ◌≢◌, ℕ, zero, suc, ◌<◌, ◌≤◌, eqb, ltb, length, set, drop, replicate}
 use Rattle.std.proofs.Math.Path.{refl}
@@ -35,18 +31,22 @@ use Rattle.calendar.specs.facts.Accepted.{Lent}
 use Rattle.calendar.proofs.facts.RangeFacts.{record_ranges}
 use Rattle.words.specs.Done.{Done, gives, refused, unless_refused}
 use Rattle.words.specs.declared.replies.Reply.{Reply}
-use Rattle.operation.specs.LocalAct.{local_act, Admitted, LowFor, back, act_is, narrow_is}
-use Rattle.operation.specs.LocalTurns.{local_turns, act_length, turns_back}
+use Rattle.operation.specs.LocalAct.{local_act, Admitted, LowFor, back}
+use Rattle.operation.proofs.LocalAct.{act_is, narrow_is}
+use Rattle.operation.specs.LocalTurns.{local_turns}
+use Rattle.operation.proofs.LocalTurns.{act_length, turns_back}
 use Rattle.starts.specs.LeastTicket.{least_ticket}
 use Rattle.admission.specs.Watched.{Watched}
-use Rattle.admission.specs.Gate.{gate_of, sound_of, sound_watched, shape_tests, refused_is, open_gate, open_response, open_passed}
-use Rattle.admission.specs.NarrowGate.{RecordsSeen, narrow_away}
+use Rattle.admission.specs.Gate.{gate_of, sound_of, open_gate, open_response}
+use Rattle.admission.proofs.GateLaws.{sound_watched, shape_tests, refused_is, open_passed}
+use Rattle.admission.specs.NarrowGate.{RecordsSeen}
+use Rattle.admission.proofs.NarrowGate.{narrow_away}
 use Rattle.wubraken.specs.declared.table.Survey.{Survey}
 use Rattle.wubraken.specs.declared.answers.Answer.{Answer}
-use Rattle.wubraken.specs.Answers.{answer_of, said_by, answer_said}
-use Rattle.wubraken.specs.Survey.{Surveyed, surveyed, surveyed_worker, survey, survey_none, survey_ok_is, survey_low_is}
+use Rattle.wubraken.specs.Answers.{answer_of, said_by}
+use Rattle.wubraken.specs.Survey.{Surveyed, surveyed, survey}
 use Rattle.wubraken.specs.Requests.{turns_of, is_whole, looks_at_all}
-use Rattle.wubraken.specs.LentGate.{flag_of, gate_on, passed}
+use Rattle.wubraken.specs.LentGate.{flag_of, gate_on}
 
 -- ── what a call leaves ──
 abbrev pub lent : List ℕ → List Worker → Memory
@@ -68,10 +68,6 @@ told r = record { memory = r.memory; answer = answer_of r.response; said = said 
 abbrev pub gave : List ℕ → List Worker → Response → Result
 gave s t r = record { memory = lent s t; response = r }
 
--- what is done on one record, put back
-pub put_back : (t : List Worker) (i : ℕ) (s : List ℕ) (r : Reply) (d : Done) → gives s r ≡ d → gave s (set t i r.worker) r.response ≡ back t i d
-put_back t i s r d given = ap (λ (e : Done). back t i e) given
-
 -- ── a request on a record ──
 -- what a function that does what is requested claims of its response and of the last store and table; and one that answers it
 abbrev pub ActsAs : Shape → Request → List ℕ → List Worker → Response → List ℕ → List Worker → Type 0
@@ -79,11 +75,6 @@ ActsAs sh q s t r s' t' = gave s' t' r ≡ requested sh (lent s t) q
 
 abbrev pub AnswersAs : Shape → Request → List ℕ → List Worker → Answer → List ℕ → List Worker → Type 0
 AnswersAs sh q s t a s' t' = leaves s' t' a ≡ told (requested sh (lent s t) q)
-
-pub answered : (sh : Shape) (q : Request) (s : List ℕ) (t : List Worker) (r : Response) (a : Answer) (s' : List ℕ) (t' : List Worker)
-    → ActsAs sh q s t r s' t' → a ≡ answer_of r → AnswersAs sh q s t a s' t'
-answered sh q s t r a s' t' acts answers =
-    (λ k. leaves s' t' (answers k)) ∙ (λ k. record { memory = lent s' t'; answer = answer_of r; said = answer_said r k }) ∙ ap told acts
 
 -- the records that the request looks at are in range; w is its worker's
 abbrev pub near_by : Shape → Request → Survey → Worker → Bool
@@ -95,200 +86,7 @@ act_on sh q n seen s w =
     unless_refused (gate_on (is_whole q) sh s (actor (action_of q)) n (near_by sh q seen w)) s w
     (local_turns sh (turns_of q) (local_act sh seen.low s (action_of q) w))
 
--- by what the gate said
-module _ (sh : Shape) (q : Request) (n : ℕ) (seen : Survey) (s : List ℕ) (w : Worker) (k : ℕ)
-    (is : k ≡ gate_on (is_whole q) sh s (actor (action_of q)) n (near_by sh q seen w)) where
-  pub refused_on : k ≢ 0 → refused s w k ≡ act_on sh q n seen s w
-  unfolding act_on
-  refused_on h = rw (← is, ne_eqb k 0 h)
-
-  pub done_on : k ≡ 0 → local_turns sh (turns_of q) (local_act sh seen.low s (action_of q) w) ≡ act_on sh q n seen s w
-  unfolding act_on
-  done_on z = rw (← is, eq-eqb k 0 z)
-
--- what no refusal of the gate's leaves: the record may be worked on
-pub admits : (sh : Shape) (q : Request) (n : ℕ) (seen : Survey) (s : List ℕ) (w : Worker) → Surveyed sh q seen w
-    → gate_on (is_whole q) sh s (actor (action_of q)) n (near_by sh q seen w) ≡ 0 → Admitted sh s w
-admits sh q n seen s w S z =
-    let p = passed (is_whole q) sh s (actor (action_of q)) n (near_by sh q seen w) z in
-    record { limits = p.limits; laid = p.laid; words = p.words; worker = record_ranges sh w (go (looks_at_all q) refl p.records) }
-  where
-    go : (b : Bool) → looks_at_all q ≡ b → cond b seen.ok (record_in_range sh w) ≡ true → record_in_range sh w ≡ true
-    go true e ok = S.ranged e ok
-    go false e ok = ok
-
--- the first start or turn of a request
-abbrev first : Shape → Memory → Request → Result
-first sh m q = cond (is_whole q) (act sh m (action_of q)) (narrow_act sh m (action_of q))
-
-request_is : (sh : Shape) (m : Memory) (q : Request) → turns_after sh (actor (action_of q)) (turns_of q) (first sh m q) ≡ requested sh m q
-unfolding turns_after narrow_call
-request_is sh m (Whole a) = refl
-request_is sh m (Narrow a n) = refl
-
--- what is refused has no turns behind it
-nothing_after : (sh : Shape) (i n k : ℕ) (m : Memory) → turns_after sh i n (record { memory = m; response = Refused k }) ≡ record
-    { memory = m; response = Refused k }
-unfolding turns_after
-nothing_after sh i zero k m = refl
-nothing_after sh i (suc n) k m = refl
-
-module _ (sh : Shape) (s : List ℕ) (t : List Worker) (q : Request) where
-  abbrev m : Memory
-  m = record { store = s; table = t }
-
-  abbrev a : Action
-  a = action_of q
-
-  abbrev i : ℕ
-  i = actor (action_of q)
-
-  abbrev gate : Bool → ℕ
-  gate ok = gate_on (is_whole q) sh s (actor (action_of q)) (length t) ok
-
-  -- a flag for the records that says what the request asks
-  abbrev Tells : Bool → Type 0
-  Tells ok = Lent sh s t → ok ≡ cond (is_whole q) (table_in_range sh t) (records_in_range sh t (action_of q))
-
-  module _ (ok : Bool) (tells : Tells ok) where
-    W : is_whole q ≡ true → Watched sh m (sound_of sh s (length t) ok)
-    W e = sound_watched sh m ok (λ l. tells l ∙ rw e)
-
-    N : is_whole q ≡ false → RecordsSeen sh m a ok
-    N e = λ l. tells l ∙ rw e
-
-    -- what the gate refuses does nothing
-    first_refused : gate ok ≢ 0 → record { memory = m; response = Refused (gate ok) } ≡ first sh m q
-    unfolding gate_on
-    first_refused = go (is_whole q) refl
-      where
-        go : (b : Bool) → is_whole q ≡ b → gate_of sh (length s) (length t) i (flag_of b sh s (length t) ok) ≢ 0
-            → record { memory = m; response = Refused (gate_of sh (length s) (length t) i (flag_of b sh s (length t) ok)) } ≡ cond b (act sh m a)
-            (narrow_act sh m a)
-        go true e n = refused_is sh m (sound_of sh s (length t) ok) (W e) a n
-        go false e n = narrow_away sh m a ok (N e) n
-
-    gate_refuses : gate ok ≢ 0 → record { memory = m; response = Refused (gate ok) } ≡ requested sh m q
-    gate_refuses n =
-        sym (nothing_after sh i (turns_of q) (gate ok) m) ∙ ap (turns_after sh i (turns_of q)) (first_refused n) ∙ request_is sh m q
-
-    -- what it lets pass is done
-    first_done : gate ok ≡ 0 → (low : ℕ) → LowFor sh t a low → back t i (local_act sh low s a (worker t i)) ≡ first sh m q
-    unfolding gate_on
-    first_done z low f = go (is_whole q) refl z
-      where
-        go : (b : Bool) → is_whole q ≡ b → gate_of sh (length s) (length t) i (flag_of b sh s (length t) ok) ≡ 0
-            → back t i (local_act sh low s a (worker t i)) ≡ cond b (act sh m a) (narrow_act sh m a)
-        go true e z = act_is sh m (sound_of sh s (length t) ok) (W e) a low f z
-        go false e z = narrow_is sh m a ok (N e) low f z
-
-    gate_lets : gate ok ≡ 0 → (low : ℕ) → LowFor sh t a low
-        → back t i (local_turns sh (turns_of q) (local_act sh low s a (worker t i))) ≡ requested sh m q
-    gate_lets z low f =
-        let p = passed (is_whole q) sh s i (length t) ok z in
-        turns_back sh t i p.limits p.worker p.table (turns_of q) (local_act sh low s a (worker t i))
-        (omega (arith, p.laid.fits, act_length sh low s a (worker t i)))
-        ∙ ap (turns_after sh i (turns_of q)) (first_done z low f) ∙ request_is sh m q
-
-  -- the look at the table tells what is asked of the records,
-  in_table : Lent sh s t → looks_at_all q ≡ true → (survey sh q t).ok ≡ table_in_range sh t
-  in_table l = survey_ok_is sh q t (shape_tests sh l.limits) (le-ltb (length t) sh.workers l.table)
-
-  tells_near : i < sh.workers → Tells (near_by sh q (survey sh q t) (worker t i))
-  tells_near h l = go q (in_table l) h
-    where
-      go : (q : Request) → (looks_at_all q ≡ true → (survey sh q t).ok ≡ table_in_range sh t) → actor (action_of q) < sh.workers
-          → near_by sh q (survey sh q t) (worker t (actor (action_of q))) ≡ cond (is_whole q) (table_in_range sh t) (records_in_range sh t (action_of q))
-      go (Whole x) e h = e refl
-      go (Narrow (Enqueue j x) n) e h = e refl
-      go (Narrow (Dequeue j) n) e h = rw (lt-leb sh.workers j h)
-      go (Narrow (Step j) n) e h = rw (lt-leb sh.workers j h)
-
-  tells_away : sh.workers ≤ i → Tells (survey sh q t).ok
-  tells_away h l = go q (in_table l) (survey_none sh q t) h
-    where
-      go : (q : Request) → (looks_at_all q ≡ true → (survey sh q t).ok ≡ table_in_range sh t) → (looks_at_all q ≡ false → (survey sh q t).ok ≡ true)
-          → sh.workers ≤ actor (action_of q) → (survey sh q t).ok ≡ cond (is_whole q) (table_in_range sh t) (records_in_range sh t (action_of q))
-      go (Whole x) e f h = e refl
-      go (Narrow (Enqueue j x) n) e f h = e refl
-      go (Narrow (Dequeue j) n) e f h = rw (le-leb sh.workers j h) (f refl)
-      go (Narrow (Step j) n) e f h = rw (le-leb sh.workers j h) (f refl)
-
-  -- and, where they are in range, the least ticket
-  low_for_lem : Lent sh s t → near_by sh q (survey sh q t) (worker t i) ≡ true → LowFor sh t a (survey sh q t).low
-  low_for_lem l = go q (λ all. survey_low_is sh q t (shape_tests sh l.limits) (le-ltb (length t) sh.workers l.table) all)
-    where
-      go : (q : Request) → (looks_at_all q ≡ true → (survey sh q t).ok ≡ true → (survey sh q t).low ≡ least_ticket t sh.workers)
-          → near_by sh q (survey sh q t) (worker t (actor (action_of q))) ≡ true → LowFor sh t (action_of q) (survey sh q t).low
-      go (Whole (Enqueue j x)) e ok = e refl ok
-      go (Whole (Dequeue j)) e ok = tt
-      go (Whole (Step j)) e ok = tt
-      go (Narrow (Enqueue j x) n) e ok = e refl ok
-      go (Narrow (Dequeue j) n) e ok = tt
-      go (Narrow (Step j) n) e ok = tt
-
-  -- What is done on one record, where the worker has one, and put back is what was requested.
-  pub acted : i < surveyed sh (length t) → back t i (act_on sh q (length t) (survey sh q t) s (worker t i)) ≡ requested sh (lent s t) q
-  unfolding act_on
-  acted h = go (eqb (gate near) 0) refl
-    where
-      near : Bool
-      near = near_by sh q (survey sh q t) (worker t i)
-
-      exists : i < sh.workers
-      exists = surveyed_worker sh (length t) i h
-
-      go : (b : Bool) → eqb (gate near) 0 ≡ b
-          → back t i (cond b (local_turns sh (turns_of q) (local_act sh (survey sh q t).low s a (worker t i))) (refused s (worker t i) (gate near))) ≡
-          requested sh m q
-      go true e =
-          let z = eqb-true _ 0 e in
-          let p = passed (is_whole q) sh s i (length t) near z in
-          gate_lets near (tells_near exists) z (survey sh q t).low
-          (low_for_lem (record { limits = p.limits; store = p.laid.fits; table = p.table }) p.records)
-      go false e =
-          ap (λ (u : List Worker). record { memory = lent s u; response = Refused (gate near) }) (set-get_or t i blank)
-          ∙ gate_refuses near (tells_near exists) (eqb-false _ 0 e)
-
-  -- Past the workers' records there is no worker, or the gate refuses anyway.
-  pub away_is : ltb i (surveyed sh (length t)) ≡ false
-      → gave s t (Refused (gate_on (is_whole q) sh s i (length t) (survey sh q t).ok)) ≡ requested sh (lent s t) q
-  away_is beyond = gate_refuses (survey sh q t).ok tells (λ z.
-      let p = passed (is_whole q) sh s i (length t) (survey sh q t).ok z in
-      omega (arith, p.worker, past (record { limits = p.limits; store = p.laid.fits; table = p.table })))
-    where
-      past : Lent sh s t → sh.workers ≤ i
-      past l =
-          let all : surveyed sh (length t) ≡ sh.workers = rw (shape_tests sh l.limits, le-ltb (length t) sh.workers l.table) in
-          omega (arith, ltb-false i (surveyed sh (length t)) beyond, all)
-
-      tells : Tells (survey sh q t).ok
-      tells l = tells_away (past l) l
-
 -- ── opening ──
 -- how many records it clears, by the number k that refuses it, or 0
 abbrev pub records_opened : Shape → ℕ → ℕ
 records_opened sh k = cond (eqb k 0) sh.workers 0
-
--- no more than there are
-pub opened_bound : (sh : Shape) (s : List ℕ) (n k : ℕ) → k ≡ open_gate sh (length s) n → records_opened sh k ≤ n
-opened_bound sh s n k e = go (eqb k 0) refl
-  where
-    go : (b : Bool) → eqb k 0 ≡ b → cond b sh.workers 0 ≤ n
-    go true z = (open_passed sh (length s) n (sym e ∙ eqb-true k 0 z)).2
-    go false z = omega arith
-
--- with the store opened and the records cleared it is the opening
-pub open_is : (sh : Shape) (s : List ℕ) (t : List Worker) (k : ℕ) (s' : List ℕ) → k ≡ open_gate sh (length s) (length t)
-    → s' ≡ cond (eqb (open_gate sh (length s) (length t)) 0) (open_store sh s) s
-    → leaves s' (replicate (records_opened sh k) blank ++ drop (records_opened sh k) t) (answer_of (open_response k)) ≡ told (open_pool sh (lent s t))
-unfolding open_gate open_pool open_refusal open_table
-open_is sh s t k s' e w = rw (e, w) (go (eqb (open_gate sh (length s) (length t)) 0))
-  where
-    go : (b : Bool)
-        → leaves (cond b (open_store sh s) s) (replicate (cond b sh.workers 0) blank ++ drop (cond b sh.workers 0) t)
-        (answer_of (cond b Opened (Refused (open_gate sh (length s) (length t)))))
-        ≡ told (cond b (record { memory = lent (open_store sh s) (replicate sh.workers blank ++ drop sh.workers t); response = Opened })
-        (record { memory = lent s t; response = Refused (open_gate sh (length s) (length t)) }))
-    go true = refl
-    go false = refl

@@ -22,7 +22,7 @@ use operation::perform_turns;
 use words::replies::{Reply, refuse};
 
 // Refusals 1 to 4, or 0, of n records; ok: those looked at are in range.
-#[tactic(auto, using(admission::specs::Gate::sound_opens, admission::specs::NarrowGate::near_opens), unfolding(crate::specs::LentGate::gate_on))]
+#[tactic(auto, using(admission::proofs::GateLaws::sound_opens, admission::proofs::NarrowGate::near_opens), unfolding(crate::specs::LentGate::gate_on))]
 fn gate_on(shape: Shape, whole: bool, i: usize, n: usize, ok: bool, store: &[u64]) -> u64
     ensures { result ≡ gate_on whole shape store.now i n ok }
 {

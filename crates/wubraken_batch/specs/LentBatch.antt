@@ -19,17 +19,21 @@ use Rattle.calendar.specs.rules.Ranges.{shape_in_range, blank, record_in_range, 
 use Rattle.calendar.proofs.facts.RangeFacts.{limits}
 use Rattle.calendar.specs.rules.Operations.{Memory}
 use Rattle.admission.specs.Watched.{Watched}
-use Rattle.admission.specs.Gate.{sound_of, sound_watched, shape_tests}
+use Rattle.admission.specs.Gate.{sound_of}
+use Rattle.admission.proofs.GateLaws.{sound_watched, shape_tests}
 use Rattle.batch.specs.declared.Stop.{Stop}
 use Rattle.batch.specs.declared.Stop.TheVariants.{Drained, Full, Halted}
 use Rattle.batch.specs.Batch.{Stopped, worked_all}
 use Rattle.batch.specs.Held.{held_all}
 use Rattle.batch.specs.BatchLoop.{at_work}
-use Rattle.batch.specs.RecordsCounted.{counted_of, counted_bound, counted_again, counts}
-use Rattle.batch.specs.RecordsNotHeld.{over, all_within, all_alike}
+use Rattle.batch.specs.RecordsCounted.{counted_of}
+use Rattle.batch.proofs.RecordsCounted.{counted_bound, counted_again, counts}
+use Rattle.batch.specs.RecordsNotHeld.{over}
+use Rattle.batch.proofs.RecordsNotHeld.{all_within, all_alike}
 use Rattle.wubraken_batch.specs.declared.batches.BatchEnd.{BatchEnd}
 use Rattle.wubraken_batch.specs.declared.batches.HeldBatch.{HeldBatch}
-use Rattle.wubraken.specs.Survey.{surveyed, surveyed_bound}
+use Rattle.wubraken.specs.Survey.{surveyed}
+use Rattle.wubraken.proofs.Survey.{surveyed_bound}
 use Rattle.wubraken.specs.Results.{lent}
 
 abbrev pub stop_number : Stop → ℕ

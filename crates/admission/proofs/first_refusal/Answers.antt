@@ -1,7 +1,7 @@
 -- Refusals 1 to 4 in their order, by the flag: those of an opening come first. Assumes nothing.
 use Rattle.std.proofs.Common.{eq-eqb, ne_eqb, le-leb}
 use Rattle.std.proofs.lemmas.Bool.{lt-leb}
-use Rattle.admission.specs.Gate.{gate_parts}
+use Rattle.admission.proofs.GateLaws.{gate_parts}
 use Rattle.admission.proofs.first_refusal.Goals as goal
 
 pub returns-then-k-ne0 : goal.returns-then-k-ne0

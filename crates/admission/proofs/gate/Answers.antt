@@ -1,7 +1,7 @@
 -- One look where the flag is up, else every refusal in its order. Assumes nothing.
 use Rattle.std.proofs.Common.{sym, ltb-true}
 use Rattle.laws.specs.Tests.{parts}
-use Rattle.admission.specs.Gate.{passes}
+use Rattle.admission.proofs.GateLaws.{passes}
 use Rattle.admission.proofs.gate.Goals as goal
 
 pub returns-then-sound-i : goal.returns-then-sound-i

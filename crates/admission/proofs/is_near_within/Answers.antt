@@ -1,6 +1,6 @@
 -- The flag of a narrow call, by a look at the three first words of a store that is long enough. Assumes nothing.
 use Rattle.std.proofs.Common.{sym}
-use Rattle.admission.specs.NarrowGate.{near_short, near_long}
+use Rattle.admission.proofs.NarrowGate.{near_short, near_long}
 use Rattle.admission.proofs.is_near_within.Goals as goal
 
 pub returns-then-is_short : goal.returns-then-is_short

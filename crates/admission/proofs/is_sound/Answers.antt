@@ -1,7 +1,8 @@
 -- The flag by a look at every word of a store that is long enough. Assumes nothing.
 use Rattle.std.proofs.Common.{sym, ◌∙◌, eq-eqb, ne_eqb}
 use Rattle.words.specs.Laid.{laid}
-use Rattle.admission.specs.Gate.{sound_of, open_passed}
+use Rattle.admission.specs.Gate.{sound_of}
+use Rattle.admission.proofs.GateLaws.{open_passed}
 use Rattle.admission.proofs.is_sound.Goals as goal
 
 pub returns-then-open_gate-ne0 : goal.returns-then-open_gate-ne0

@@ -1,12 +1,13 @@
 -- Each arm of the loop is a round of the definition, by its lemma in specs/OpeningRounds, specs/ActHeld and specs/Stopping.
 use Rattle.std.proofs.Common.{sym, ap, ◌∙◌, inl, inr}
 use Rattle.calendar.specs.rules.Ranges.{blank}
-use Rattle.operation.specs.LocalAct.{ready}
-use Rattle.batch.specs.Tickets.{tickets_of, stored_ticket}
-use Rattle.batch.specs.RoundArms.{lent_to_lem, settled, known_open, known_act, nearer_open, nearer_act}
-use Rattle.batch.specs.OpeningRounds.{opening_round}
-use Rattle.batch.specs.ActHeld.{admits, held_round}
-use Rattle.batch.specs.Stopping.{stopped}
+use Rattle.operation.proofs.LocalAct.{ready}
+use Rattle.batch.specs.Tickets.{tickets_of}
+use Rattle.batch.proofs.TicketLaws.{stored_ticket}
+use Rattle.batch.proofs.RoundArms.{lent_to_lem, settled, known_open, known_act, nearer_open, nearer_act}
+use Rattle.batch.proofs.OpeningRounds.{opening_round}
+use Rattle.batch.proofs.ActHeld.{admits, held_round}
+use Rattle.batch.proofs.Stopping.{stopped}
 use Rattle.batch.proofs.work.Goals as goal
 use Rattle.batch.proofs.work.Goals.{then-k-eq0, else-k-eq0, else-loop-tickets-test, then-loop-tickets-test+in-End, then-loop-tickets-test+in-Refused}
 

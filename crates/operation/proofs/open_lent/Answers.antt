@@ -1,7 +1,7 @@
 -- An opening is refused by the lengths, or the store is opened. Assumes nothing.
 use Rattle.std.proofs.Common.{sym, ◌∙◌}
 use Rattle.words.specs.Laid.{laid}
-use Rattle.admission.specs.Gate.{open_passed}
+use Rattle.admission.proofs.GateLaws.{open_passed}
 use Rattle.operation.proofs.open_lent.Goals as goal
 
 pub open_store-requires : goal.open_store-requires

@@ -1,6 +1,6 @@
 -- `operation::perform` does what its action's own function does. Assumes nothing.
 use Rattle.std.proofs.Common.{◌∙◌}
-use Rattle.operation.specs.LocalAct.{local_enqueue_lem, local_dequeue_lem, local_step_lem}
+use Rattle.operation.proofs.LocalAct.{local_enqueue_lem, local_dequeue_lem, local_step_lem}
 use Rattle.operation.proofs.perform.Goals as goal
 
 pub returns-in-Enqueue : goal.returns-in-Enqueue

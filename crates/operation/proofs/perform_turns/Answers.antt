@@ -1,6 +1,7 @@
 -- `operation::perform_turns`: before each round what is left to do gives what the whole gives. Assumes nothing.
 use Rattle.std.proofs.Common.{sym, ap, ◌∙◌}
-use Rattle.operation.specs.LocalTurns.{local_turns, ended, not_ended, going, turns_out, turns_on, goes_back}
+use Rattle.operation.specs.LocalTurns.{local_turns}
+use Rattle.operation.proofs.LocalTurns.{ended, not_ended, going, turns_out, turns_on, goes_back}
 use Rattle.words.specs.Done.{gives}
 use Rattle.operation.proofs.perform_turns.Goals as goal
 

@@ -1,6 +1,7 @@
 use Rattle.std.proofs.Common.{arith}
 use Rattle.arrival.specs.declared.Response.TheVariants.{Refused}
-use Rattle.turn_file.specs.Lines.{line_of, line_most}
+use Rattle.turn_file.specs.Lines.{line_of}
+use Rattle.turn_file.proofs.LineLaws.{line_most}
 use Rattle.turn_file.proofs.write_refusal.Goals as goal
 
 pub returns : goal.returns

@@ -1,7 +1,7 @@
 -- Where there is no last line, none is written.
 use Rattle.std.proofs.Common.{ap}
 use Rattle.turns.specs.TurnsRun.{last_line}
-use Rattle.turns.specs.LastLines.{unclosed}
+use Rattle.turns.proofs.LastLines.{unclosed}
 use Rattle.turns.proofs.close.Goals as goal
 
 pub returns-in-More : goal.returns-in-More

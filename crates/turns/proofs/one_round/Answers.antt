@@ -1,6 +1,6 @@
 -- A batch, what follows it and its last line make up the round.
 use Rattle.std.proofs.Common.{arith}
-use Rattle.turns.specs.BetweenRounds.{round_left}
+use Rattle.turns.proofs.BetweenRounds.{round_left}
 use Rattle.turns.proofs.one_round.Goals as goal
 
 pub overflow_add-result : goal.overflow_add-result

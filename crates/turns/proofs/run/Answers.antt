@@ -3,7 +3,8 @@ use Rattle.std.proofs.Common.{refl, subst, arith}
 use Rattle.std.proofs.Math.Path.{subst⁻¹}
 use Rattle.turns.specs.TurnsRun.{lent, Held, at_first}
 use Rattle.turns.specs.BetweenRounds.{leaves}
-use Rattle.turns.specs.RunFollows.{all_rounds, Followed, Ends, at_start, working, reading, closed, finished, spent, first_held, after_read}
+use Rattle.turns.specs.RunFollows.{all_rounds, Followed, Ends}
+use Rattle.turns.proofs.RunFollows.{at_start, working, reading, closed, finished, spent, first_held, after_read}
 use Rattle.turns.proofs.run.Goals as goal
 
 -- so it is at the start

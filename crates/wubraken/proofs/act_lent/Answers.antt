@@ -8,8 +8,10 @@ use Rattle.calendar.specs.rules.Ranges.{blank, worker}
 use Rattle.operation.specs.LocalAct.{back}
 use Rattle.wubraken.specs.LentGate.{gate_on}
 use Rattle.wubraken.specs.Requests.{is_whole}
-use Rattle.wubraken.specs.Survey.{surveyed, survey_tells}
-use Rattle.wubraken.specs.Results.{gave, put_back, act_on, acted, away_is}
+use Rattle.wubraken.specs.Survey.{surveyed}
+use Rattle.wubraken.proofs.Survey.{survey_tells}
+use Rattle.wubraken.specs.Results.{gave, act_on}
+use Rattle.wubraken.proofs.Results.{put_back, acted, away_is}
 use Rattle.wubraken.proofs.act_lent.Goals as goal
 
 pub act_on_record-r-requires : goal.act_on_record-r-requires

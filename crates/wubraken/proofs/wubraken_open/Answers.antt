@@ -1,5 +1,5 @@
 -- An opening: the store opened, and the workers' records cleared, or nothing. Assumes nothing.
-use Rattle.wubraken.specs.Results.{opened_bound, open_is}
+use Rattle.wubraken.proofs.Results.{opened_bound, open_is}
 use Rattle.wubraken.proofs.wubraken_open.Goals as goal
 
 pub clear_table-requires : goal.clear_table-requires

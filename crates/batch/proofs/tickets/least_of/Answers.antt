@@ -1,6 +1,7 @@
 -- One ticket more.
 use Rattle.std.proofs.Common.{◌≡◌, sym, ap, ◌∙◌, arith}
-use Rattle.batch.specs.Tickets.{least_of, least_of_none, least_of_more, least_at_most}
+use Rattle.batch.specs.Tickets.{least_of}
+use Rattle.batch.proofs.TicketLaws.{least_of_none, least_of_more, least_at_most}
 use Rattle.batch.proofs.tickets.least_of.Goals as goal
 
 pub loop-i-init : goal.loop-i-init

@@ -1,7 +1,8 @@
 -- One ticket more is stored; in the end all are.
 use Rattle.std.proofs.Common.{◌≡◌, ap, ◌∙◌, List, ℕ, ◌++◌, length, take, drop, replicate, slice_set, arith, rules}
 use Rattle.calendar.specs.rules.Ranges.{blank}
-use Rattle.batch.specs.Tickets.{tickets_of, tickets_more, tickets_all}
+use Rattle.batch.specs.Tickets.{tickets_of}
+use Rattle.batch.proofs.TicketLaws.{tickets_more, tickets_all}
 use Rattle.batch.proofs.tickets.tickets_of.Goals as goal
 
 pub loop-i-preserved : goal.loop-i-preserved

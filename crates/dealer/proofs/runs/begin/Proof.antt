@@ -2,7 +2,7 @@
 use mathlib.Core.Path.{◌≡◌, sym, ◌∙◌}
 use lib.ListN.{length}
 use borrow.Author.Tests.{eq-eqb}
-use Rattle.admission.specs.Gate.{gate_passed}
+use Rattle.admission.proofs.GateLaws.{gate_passed}
 use Rattle.dealer.specs.Runs.{begun, refused_begun, goes_begun}
 use Rattle.dealer.specs.DealLoop.{flag_tight}
 use borrow.Author.Rules.{rules}

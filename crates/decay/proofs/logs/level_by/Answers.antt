@@ -1,7 +1,7 @@
 -- `decay::logs::level_by` looks up the logarithms of a ratio. Assumes nothing.
 use Rattle.std.proofs.Common.{◌∙◌, sym, ap}
 use Rattle.decay.specs.Decay.{level_of}
-use Rattle.decay.proofs.Logarithms.{level_none, level_by_table}
+use Rattle.decay.proofs.LogLaws.{level_none, level_by_table}
 use Rattle.decay.proofs.logs.level_by.Goals as goal
 
 pub returns-then-ratio-eq0 : goal.returns-then-ratio-eq0

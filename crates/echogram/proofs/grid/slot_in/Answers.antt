@@ -1,5 +1,5 @@
 -- `echogram::grid::slot_in` divides by a multiplication. Assumes nothing.
-use Rattle.echogram.proofs.Grids.{product_fits, by_factor}
+use Rattle.echogram.proofs.GridLaws.{product_fits, by_factor}
 use Rattle.echogram.proofs.grid.slot_in.Goals as goal
 
 pub overflow_mul-result : goal.overflow_mul-result

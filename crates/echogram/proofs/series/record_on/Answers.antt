@@ -4,7 +4,7 @@ use Rattle.echogram.specs.declared.grid.Grid.{Grid}
 use Rattle.echogram.specs.Series.{recording}
 use Rattle.echogram.specs.AtSlot.{add_answer, added_to}
 use Rattle.echogram.proofs.Recorded.{limits_of, refused_14, by_its_slot, slot_left}
-use Rattle.echogram.proofs.Grids.{past_end}
+use Rattle.echogram.proofs.GridLaws.{past_end}
 use Rattle.echogram.proofs.series.record_on.Goals as goal
 
 pub returns-then-grid-t : goal.returns-then-grid-t

@@ -1,5 +1,5 @@
 use Rattle.std.proofs.Common.{arith}
-use Rattle.turn_file.specs.Decimal.{length_one, length_more, decimal_least, decimal_word}
+use Rattle.turn_file.proofs.Decimal.{length_one, length_more, decimal_least, decimal_word}
 use Rattle.turn_file.proofs.lines.digit_count.Goals as goal
 
 pub overflow_add-count : goal.overflow_add-count

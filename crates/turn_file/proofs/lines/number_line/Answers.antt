@@ -3,8 +3,8 @@ use Rattle.std.proofs.Common.{ap, ◌∙◌, List, ◌∷◌, [], ◌++◌, ℕ,
 use Rattle.std.proofs.lemmas.List.Edits.{sets}
 use Rattle.laws.specs.Storing.{behind}
 use Rattle.turn_file.specs.Decimal.{decimal}
-use Rattle.turn_file.specs.Lines.{number_size}
-use Rattle.turn_file.specs.Buffer.{cut, stored}
+use Rattle.turn_file.proofs.LineLaws.{number_size}
+use Rattle.turn_file.proofs.Buffer.{cut, stored}
 use Rattle.turn_file.proofs.lines.number_line.Goals as goal
 
 pub returns-then-room-first : goal.returns-then-room-first

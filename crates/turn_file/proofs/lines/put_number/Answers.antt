@@ -1,7 +1,8 @@
 use Rattle.std.proofs.Common.{◌≡◌, refl, sym, ap, ◌∙◌, ◌+◌, ◌/◌, ◌%◌, length, set, arith}
 use Rattle.std.proofs.lemmas.List.Edits.{sets}
 use Rattle.laws.specs.Storing.{last_first}
-use Rattle.turn_file.specs.Decimal.{decimal, decimal_one, decimal_more, length_more, decimal_least}
+use Rattle.turn_file.specs.Decimal.{decimal}
+use Rattle.turn_file.proofs.Decimal.{decimal_one, decimal_more, length_more, decimal_least}
 use Rattle.turn_file.proofs.lines.put_number.Goals as goal
 
 pub overflow_sub-place : goal.overflow_sub-place

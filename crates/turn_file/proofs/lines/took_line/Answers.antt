@@ -3,8 +3,9 @@ use Rattle.std.proofs.Common.{ap, ◌∙◌, ◌∷◌, [], ◌++◌, ◌+◌, a
 use Rattle.std.proofs.lemmas.List.Edits.{sets}
 use Rattle.laws.specs.Storing.{behind, joined}
 use Rattle.turn_file.specs.Decimal.{decimal}
-use Rattle.turn_file.specs.Lines.{values, took_line, took_size}
-use Rattle.turn_file.specs.Buffer.{cut, stored}
+use Rattle.turn_file.specs.Lines.{values, took_line}
+use Rattle.turn_file.proofs.LineLaws.{took_size}
+use Rattle.turn_file.proofs.Buffer.{cut, stored}
 use Rattle.turn_file.proofs.lines.took_line.Goals as goal
 
 pub returns-then-room-time_count : goal.returns-then-room-time_count

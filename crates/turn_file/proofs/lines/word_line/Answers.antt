@@ -1,6 +1,6 @@
 -- A line that is a word is one run of stores.
 use Rattle.std.proofs.Common.{◌∙◌, arith}
-use Rattle.turn_file.specs.Buffer.{cut, stored}
+use Rattle.turn_file.proofs.Buffer.{cut, stored}
 use Rattle.turn_file.proofs.lines.word_line.Goals as goal
 
 pub returns-then-room-size : goal.returns-then-room-size

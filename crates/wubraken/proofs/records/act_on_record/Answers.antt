@@ -2,8 +2,9 @@
 use Rattle.std.proofs.Common.{sym, ◌∙◌}
 use Rattle.operation.specs.LocalAct.{local_act}
 use Rattle.operation.specs.LocalTurns.{local_turns}
-use Rattle.wubraken.specs.LentGate.{gate_on, flag_opens, gate_by}
-use Rattle.wubraken.specs.Results.{refused_on, done_on, admits}
+use Rattle.wubraken.specs.LentGate.{gate_on}
+use Rattle.wubraken.proofs.LentGate.{flag_opens, gate_by}
+use Rattle.wubraken.proofs.Results.{refused_on, done_on, admits}
 use Rattle.wubraken.proofs.records.act_on_record.Goals as goal
 
 pub gate-k-requires : goal.gate-k-requires

@@ -8,7 +8,8 @@ use Rattle.arrival.specs.declared.Worker.{Worker}
 use Rattle.laws.specs.Tests.{left_true}
 use Rattle.calendar.specs.rules.Ranges.{blank, worker}
 use Rattle.wubraken.specs.declared.table.Survey.{Survey}
-use Rattle.wubraken.specs.Survey.{seen, survey_of, unseen, survey_start, survey_more, survey_ends}
+use Rattle.wubraken.specs.Survey.{seen, survey_of, unseen}
+use Rattle.wubraken.proofs.Survey.{survey_start, survey_more, survey_ends}
 use Rattle.wubraken.proofs.table.survey_table.Goals as goal
 
 stopped : (sh : Shape) (t : List Worker) (k n : ℕ) (found : Survey) → k ≤ n → found ≡ survey_of sh t k → (ltb k n && found.ok) ≡ false

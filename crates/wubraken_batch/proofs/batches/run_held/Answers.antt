@@ -2,7 +2,8 @@
 use Rattle.std.proofs.Common.{rules, ◌≡◌, sym, ap, ◌∙◌, ℕ, Bool, length, take, length-take-le, arith}
 use Rattle.std.proofs.Math.Path.{subst⁻¹}
 use Rattle.admission.specs.Watched.{Watched}
-use Rattle.admission.specs.Gate.{sound_of, sound_opens}
+use Rattle.admission.specs.Gate.{sound_of}
+use Rattle.admission.proofs.GateLaws.{sound_opens}
 use Rattle.batch.specs.Held.{held_all}
 use Rattle.batch.specs.BatchLoop.{at_work}
 use Rattle.wubraken.specs.Survey.{surveyed}

@@ -13,7 +13,8 @@ use Rattle.batch.specs.Batch.{Progress, Stopped, worked_all}
 use Rattle.batch.specs.Held.{held_all}
 use Rattle.batch.specs.BatchLoop.{at_work}
 use Rattle.batch.specs.CodeView.{Sound, ends, stopped_of}
-use Rattle.batch.specs.RoundArms.{Round, kept, at_full, at_drained, at_halted}
+use Rattle.batch.specs.RoundArms.{Round}
+use Rattle.batch.proofs.RoundArms.{kept, at_full, at_drained, at_halted}
 
 module _ {bytes : List ℕ} {p₀ : Progress} {h₀ records : ℕ} {sh : Shape} {s : List ℕ} {t : List Worker} {at : ℕ} {lines : List ℕ} {to : ℕ} {sound : Bool} {h : ℕ}
     (R : Round bytes p₀ h₀ (length s) records (length lines) sh s t at lines to sound h) where

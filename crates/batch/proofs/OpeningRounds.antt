@@ -13,7 +13,8 @@ use Rattle.admission.specs.Gate.{open_gate, open_response}
 use Rattle.batch.specs.Batch.{Progress}
 use Rattle.batch.specs.Held.{greater}
 use Rattle.batch.specs.Tickets.{tickets_of}
-use Rattle.batch.specs.RoundArms.{Round, Line, opened, not_opened}
+use Rattle.batch.specs.RoundArms.{Round, Line}
+use Rattle.batch.proofs.RoundArms.{opened, not_opened}
 
 module _ {bytes : List ℕ} {p₀ : Progress} {h₀ records space : ℕ} {sh : Shape} {s : List ℕ} {t : List Worker} {at : ℕ} {lines : List ℕ} {to : ℕ} {sound : Bool}
     {h : ℕ}

@@ -9,7 +9,8 @@ use Rattle.arrival.specs.declared.Response.TheVariants.{Opened, Begun, On, Store
 use Rattle.calendar.specs.rules.Operations.{open_pool, act}
 use Rattle.calendar.specs.facts.AnswerRanges.{ValuesInRange}
 use Rattle.calendar.proofs.facts.AnswerRanges.{act_values, open_values}
-use Rattle.turn_file.specs.Lines.{Words, line_most}
+use Rattle.turn_file.specs.Lines.{Words}
+use Rattle.turn_file.proofs.LineLaws.{line_most}
 use Rattle.turn_file.specs.Records.{Record, opens, acts}
 use Rattle.batch.specs.Batch.{Pool, line_for}
 

@@ -17,14 +17,15 @@ use Rattle.turn_file.specs.declared.Read.{Read}
 use Rattle.turn_file.specs.declared.Read.TheVariants.{Open, Act, End, Refused}
 use Rattle.turn_file.specs.Records.{Record, opens, acts}
 use Rattle.turn_file.specs.Reading.{record_at, whole}
-use Rattle.turn_file.specs.OneReading.{read_on}
-use Rattle.turn_file.specs.MoreBytes.{read_rest}
-use Rattle.turn_file.specs.Buffer.{written, after, roomy}
+use Rattle.turn_file.proofs.OneReading.{read_on}
+use Rattle.turn_file.proofs.MoreBytes.{read_rest}
+use Rattle.turn_file.specs.Buffer.{written, after}
+use Rattle.turn_file.proofs.Buffer.{roomy}
 use Rattle.batch.specs.declared.Stop.{Stop}
 use Rattle.batch.specs.declared.Stop.TheVariants.{Drained, Full, Halted}
 use Rattle.batch.specs.Batch.{Pool, pool_after, line_for, Progress, Stopped, has_room, wrote, onward, worked}
 use Rattle.batch.specs.TurnFile.{Ran, behind, from_first, records, all_records}
-use Rattle.batch.specs.LinesFit.{line_fits}
+use Rattle.batch.proofs.LinesFit.{line_fits}
 
 -- ── the file, record by record ──
 -- more records than bytes make no difference

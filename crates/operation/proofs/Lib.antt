@@ -1,0 +1,4 @@
+-- Theorems. What they speak of stands in specs.
+pub mod LocalAct
+pub mod LocalTurns
+pub mod LeakLaws
