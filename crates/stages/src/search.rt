@@ -60,7 +60,7 @@ pub fn step_1(shape: Shape, mut w: Worker, store: &[u64]) -> Reply
     settle_right(shape, w, store)
 }
 
-#[tactic(auto, using(arrival::specs::Keys::lower_keys), unfolding(calendar::specs::rules::SearchSteps::step_2))]
+#[tactic(auto, using(arrival::proofs::Keys::lower_keys), unfolding(calendar::specs::rules::SearchSteps::step_2))]
 pub fn step_2(shape: Shape, mut w: Worker, store: &[u64]) -> Reply
     requires ready { Ready shape store.now w }
     requires right_lt_nodes { w.right < shape.nodes }
