@@ -136,6 +136,8 @@ Ends (Last k) = Unit {0}
 
 module _ (out : List ℕ) (big : 89 ≤ length out) (h : Held) (left : ℕ) (F : Followed (at_first lent out) h left) where
   nothing_more : (r : Rounded) (m : Next) → Ends m → (n : ℕ) (future : Reads) → (next_round (rounds n) future h.ended r m).pool ≡ r.pool
+  nothing_more r More e n future = absurd e
+  nothing_more r Read e n future = absurd e
   nothing_more r End e n future = refl
   nothing_more r (Last k) e n future = refl
 

@@ -1,4 +1,6 @@
 // `turns`: a turn file on standard input, its lines on standard output.
+#![tactic(auto)]
+
 ghost use Rattle.std.specs.Prelude.{◌≡◌, ◌-◌, ◌≤◌, ◌<◌, length, take};
 ghost use Rattle.turn_file.specs.Buffer.{written, after};
 ghost use Rattle.batch.specs.TurnFile.{zeros};
@@ -10,11 +12,11 @@ ghost use Rattle.turns.specs.RunFollows.{Outcome};
 
 use arrival::{IDLE_WORKER, Shape};
 use batch::{HeldPool, Stop, run_batch};
-use libc::{STDIN_FILENO, STDOUT_FILENO};
+use std::io::{Read, Write};
 use turn_file::write_refusal;
 
 // What follows a batch: the rest of its bytes, more bytes behind that rest, or the run's end, without a last line or with the line of a refusal.
-#[derive(Drop)]
+#[derive(Clone, Copy)]
 enum Next {
     More,
     Read,
@@ -121,14 +123,16 @@ fn keep_rest(input: &mut [u8], at: usize, have: usize) -> usize
 }
 
 // Reads behind the first `have` bytes, for which there is room: how many there are then.
-fn read_more(input: &mut [u8], have: usize) -> usize
+fn read_more<R: Read>(from: &mut R, input: &mut [u8], have: usize) -> usize
     requires { have < length input.old }
     ensures { (have ≤ result) × (result ≤ length input.old) × (length input.new ≡ length input.old)
         × (take have input.new ≡ take have input.old) }
 {
     let free = &mut input[have..];
-    let got = libc::read(STDIN_FILENO, free);
-    have + io::count(got, free)
+    match from.read(free) {
+        Ok(n) => have + n,
+        Err(_) => have,
+    }
 }
 
 // One round over the bytes from `at` to `have`: a batch, the last line behind it, and what follows.
@@ -160,7 +164,13 @@ fn one_round(
 }
 
 // Round after round, until one says that the run ends, the output is closed, or all rounds are used up.
-fn run(store: &mut [u64], input: &mut [u8], out: &mut [u8]) -> Ended
+fn run<R: Read, W: Write>(
+    from: &mut R,
+    to: &mut W,
+    store: &mut [u64],
+    input: &mut [u8],
+    out: &mut [u8],
+) -> Ended
     requires { (store.old ≡ lent.store) × (12 ≤ length input.old) × (89 ≤ length out.old) }
     ensures { Outcome (at_first lent out.old) store.new result }
 {
@@ -172,8 +182,8 @@ fn run(store: &mut [u64], input: &mut [u8], out: &mut [u8]) -> Ended
     while 0 < left {
         left -= 1;
         let r = one_round(pool, ended, input, at, have, out, store);
-        let to = r.to;
-        if !io::write_all(STDOUT_FILENO, &out[..to]) {
+        let n = r.to;
+        if to.write_all(&out[..n]).is_err() {
             return Ended::Closed;
         }
         let after = r.pool;
@@ -185,7 +195,7 @@ fn run(store: &mut [u64], input: &mut [u8], out: &mut [u8]) -> Ended
             Next::Read => {
                 let kept = keep_rest(input, at, have);
                 at = 0;
-                have = read_more(input, kept);
+                have = read_more(from, input, kept);
                 ended = have == kept;
             }
             Next::End => {
@@ -199,9 +209,15 @@ fn run(store: &mut [u64], input: &mut [u8], out: &mut [u8]) -> Ended
     Ended::Spent
 }
 
-fn main() {
+fn main(rt: HostRuntime) {
     let mut store = lent_words();
-    let mut input = io::large_buffer();
-    let mut out = io::large_buffer();
-    let _ended = run(&mut store, &mut input, &mut out);
+    let mut input = [0u8; 65536];
+    let mut out = [0u8; 65536];
+    let _ended = run(
+        &mut rt.stdin(),
+        &mut rt.stdout(),
+        &mut store,
+        &mut input,
+        &mut out,
+    );
 }

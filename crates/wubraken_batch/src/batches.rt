@@ -13,7 +13,7 @@ use wubraken::table::records_surveyed;
 // The shape after a batch, the bytes read and written, and why it was left: 0 all bytes are worked through, 1 the next line may not fit, 7 or 8 what
 // follows is refused by that number.
 #[repr(C)]
-#[derive(Drop)]
+#[derive(Clone, Copy)]
 pub struct BatchEnd {
     pub shape: Shape,
     pub read: usize,
@@ -22,7 +22,7 @@ pub struct BatchEnd {
 }
 
 // What a batch leaves of the records, how many of them it held, and its account.
-#[derive(Drop)]
+#[derive(Clone, Copy)]
 pub struct HeldBatch {
     pub table: [Worker; 64],
     pub held: usize,

@@ -5,6 +5,7 @@ ghost use Rattle.calendar.specs.rules.Ranges.{blank};
 use arrival::{IDLE_WORKER, Worker};
 
 // 64 idle records.
+#[tactic(auto, unfolding(calendar::specs::rules::Ranges::blank))]
 fn idle_records() -> [Worker; 64]
     ensures { result ≡ replicate 64 blank }
 {

@@ -1,5 +1,7 @@
 // The library for hosts, batches: a piece of a turn file at once, over lent memory, whatever it holds. An archive of its own, so that the turn has one
 // caller and is compiled into the loop.
+#![tactic(auto)]
+
 ghost use Rattle.std.specs.Prelude.{◌≡◌};
 ghost use Rattle.wubraken_batch.specs.LentBatch.{account, batch_on};
 

@@ -21,7 +21,7 @@ use Rattle.calendar.specs.rules.Operations.{Memory}
 use Rattle.calendar.specs.rules.Ledger.{Ledger}
 use Rattle.calendar.specs.rules.Linearizability.{Finished, EndedBefore, RespectsTime, Agree, Linearization, Correct}
 use Rattle.taken_list.specs.Promises.{NoOverlap, starts, OneAtATime}
-use Rattle.taken_list.specs.Along.{Fits, fits}
+use Rattle.taken_list.proofs.Along.{Fits, fits}
 
 abbrev pub count_from : ℕ → ℕ → List ℕ
 count_from i n = words_from (λ c. c) i n

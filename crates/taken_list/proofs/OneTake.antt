@@ -22,8 +22,8 @@ use Rattle.calendar.specs.rules.Operations.{Memory}
 use Rattle.calendar.specs.rules.Ledger.{Ledger}
 use Rattle.calendar.specs.rules.Linearizability.{Finished, EndedBefore, RespectsTime, mark_ticket, pool_reply, Correct}
 use Rattle.taken_list.specs.Promises.{PutBefore}
-use Rattle.taken_list.specs.LedgerLaws.{Lawful}
-use Rattle.taken_list.specs.Along.{remaining, Fits, fits, fits_front, fits_behind, Put, Marked, remaining_put, in_or_marked}
+use Rattle.taken_list.proofs.LedgerLaws.{Lawful}
+use Rattle.taken_list.proofs.Along.{remaining, Fits, fits, fits_front, fits_behind, Put, Marked, remaining_put, in_or_marked}
 
 -- ── real time ──
 time_apart : (L : Ledger) (o p : List ℕ) (a b : ℕ) → RespectsTime L (o ++ p) → Mem a o → Mem b p → EndedBefore L b a → ⊥

@@ -22,8 +22,8 @@ use Rattle.laws.specs.Lists.{words_from}
 use Rattle.calendar.specs.rules.Ledger.{Ledger}
 use Rattle.calendar.specs.rules.Linearizability.{Finished, RespectsTime, pool_reply}
 use Rattle.taken_list.specs.Promises.{Ascending, nth}
-use Rattle.taken_list.specs.Along.{Fits}
-use Rattle.taken_list.specs.InTurn.{count_from}
+use Rattle.taken_list.proofs.Along.{Fits}
+use Rattle.taken_list.proofs.InTurn.{count_from}
 
 -- ── an order in two parts ──
 -- in front what is at most n, behind it what is more

@@ -20,12 +20,12 @@ use Rattle.calendar.specs.rules.Ledger.{Ledger}
 use Rattle.calendar.specs.rules.Snapshot.{unmarked_of}
 use Rattle.calendar.specs.rules.Linearizability.{Finished, RespectsTime, mark_ticket, pool_reply, InProgress, HeldBy, AnsweredBy, ListedOrMarked, Correct}
 use Rattle.taken_list.specs.Promises.{InLists, Quiet, TakesInTurn, nth, Drained}
-use Rattle.taken_list.specs.LedgerLaws.{Lawful, Kept}
-use Rattle.taken_list.specs.Along.{remaining, Fits, fits, fits_front, fits_behind, Put, Marked, remaining_put, in_or_marked, marked_gone}
-use Rattle.taken_list.specs.OneTake.{time_behind, one_put, marked_is, met, marks_takes}
-use Rattle.taken_list.specs.Fates.{in_lists, lists_put, holder_busy}
-use Rattle.taken_list.specs.InTurn.{count_from, in_turn}
-use Rattle.taken_list.specs.TakesAlone.{Divided, divided, ascending_drained, drained_answers}
+use Rattle.taken_list.proofs.LedgerLaws.{Lawful, Kept}
+use Rattle.taken_list.proofs.Along.{remaining, Fits, fits, fits_front, fits_behind, Put, Marked, remaining_put, in_or_marked, marked_gone}
+use Rattle.taken_list.proofs.OneTake.{time_behind, one_put, marked_is, met, marks_takes}
+use Rattle.taken_list.proofs.Fates.{in_lists, lists_put, holder_busy}
+use Rattle.taken_list.proofs.InTurn.{count_from, in_turn}
+use Rattle.taken_list.proofs.TakesAlone.{Divided, divided, ascending_drained, drained_answers}
 
 module _ (sh : Shape) (m : Memory) (L : Ledger) (C : Correct sh m L) (G : Lawful sh L) (quiet : Quiet sh m) where
   nobody : (c : ℕ) → InProgress sh m L c → ⊥

@@ -20,10 +20,10 @@ use Rattle.calendar.specs.rules.Ledger.{Ledger}
 use Rattle.calendar.specs.rules.Snapshot.{unmarked_of}
 use Rattle.calendar.specs.rules.Linearizability.{Finished, pool_reply, InProgress, HeldBy, AnsweredBy, ListedOrMarked, Correct}
 use Rattle.taken_list.specs.Promises.{Answers, InLists, Fate, OnceEach}
-use Rattle.taken_list.specs.LedgerLaws.{Lawful}
+use Rattle.taken_list.proofs.LedgerLaws.{Lawful}
 use Rattle.calendar.proofs.facts.StoodOn.{marked_stage}
 use Rattle.lists.specs.Walks.{unmarked_there, there_unmarked}
-use Rattle.taken_list.specs.OneTake.{marked_is, Met, met}
+use Rattle.taken_list.proofs.OneTake.{marked_is, Met, met}
 
 module _ (sh : Shape) (m : Memory) (L : Ledger) (C : Correct sh m L) (G : Lawful sh L) where
   -- ── in the lists ──

@@ -34,7 +34,7 @@ use Rattle.calendar.specs.rules.Linearizability.{Finished, EndedBefore, pool_rep
 use Rattle.calendar.proofs.facts.Starred.{arrival, turns, put, take, lent}
 use Rattle.calendar.proofs.facts.WorkedHistory.{one_bucket, start}
 use Rattle.taken_list.specs.Promises.{InLists, Quiet, TakesInTurn, Ascending, nth, Drained}
-use Rattle.taken_list.specs.Needed.{seen, item, nowhere, beginning}
+use Rattle.taken_list.proofs.Needed.{seen, item, nowhere, beginning}
 
 -- the ledger after g, which goes on from h
 abbrev pub afterwards : List Action → List Action → Ledger

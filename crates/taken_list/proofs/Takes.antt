@@ -14,8 +14,8 @@ use Rattle.calendar.specs.rules.Operations.{Memory}
 use Rattle.calendar.specs.rules.Ledger.{Ledger}
 use Rattle.calendar.specs.rules.Linearizability.{EndedBefore, Correct}
 use Rattle.taken_list.specs.Promises.{GoneToAnother, NothingPassedOver, EmptyMeansEmpty, TwoTakes, Swapped}
-use Rattle.taken_list.specs.LedgerLaws.{Lawful}
-use Rattle.taken_list.specs.OneTake.{MarkedByAnother, Met, met, met_taken, met_empty}
+use Rattle.taken_list.proofs.LedgerLaws.{Lawful}
+use Rattle.taken_list.proofs.OneTake.{MarkedByAnother, Met, met, met_taken, met_empty}
 
 module _ (sh : Shape) (m : Memory) (L : Ledger) (C : Correct sh m L) (G : Lawful sh L) where
   -- what is not there another take has marked

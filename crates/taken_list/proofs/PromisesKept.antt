@@ -22,15 +22,15 @@ use Rattle.calendar.specs.rules.Ledger.{Ledger, new, reads, ledger}
 use Rattle.calendar.specs.rules.Linearizability.{Correct, Always, Demand3}
 use Rattle.calendar.specs.rules.HostHistory.{one_by_one, HostAlways}
 use Rattle.taken_list.specs.Promises.{OneAtATime, NothingPassedOver, EmptyMeansEmpty, TwoTakes, Swapped, OnceEach, DrainedIf, Drains, HostDrains}
-use Rattle.taken_list.specs.LedgerLaws.{Lawful, lawful, lawful_new, Kept, kept_refl, kept_trans, kept_act, FromHistory, history_on}
+use Rattle.taken_list.proofs.LedgerLaws.{Lawful, lawful, lawful_new, Kept, kept_refl, kept_trans, kept_act, FromHistory, history_on}
 use Rattle.calendar.proofs.facts.HostRun.{host_memory}
 use Rattle.lists.specs.NodeReuse.{always_in_range}
 use Rattle.interleavings.specs.Demand3.{demand_3}
 use Rattle.interleavings.specs.HostDemand3.{host_always}
-use Rattle.taken_list.specs.InTurn.{by_starts}
-use Rattle.taken_list.specs.Takes.{passed_over, found_empty, two_apart, swapped_overlap}
-use Rattle.taken_list.specs.Fates as fates
-use Rattle.taken_list.specs.Draining.{drained_from}
+use Rattle.taken_list.proofs.InTurn.{by_starts}
+use Rattle.taken_list.proofs.Takes.{passed_over, found_empty, two_apart, swapped_overlap}
+use Rattle.taken_list.proofs.Fates as fates
+use Rattle.taken_list.proofs.Draining.{drained_from}
 
 -- ── what demand 3 gives at every place ──
 correct : Always Correct

@@ -1,0 +1,2 @@
+-- What lists/specs leads to.
+pub mod Fixed
