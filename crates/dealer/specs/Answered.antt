@@ -4,13 +4,9 @@
 --     Handed, hands, handed           the same in numbers: of what the code left, and of a `Deal`
 --     handed_is                       the first gives the second
 -- Assumes nothing.
-use Rattle.std.specs.Prelude.{◌≡◌, refl, List, ℕ}
+use Rattle.std.specs.Prelude.{◌≡◌, List, ℕ}
 use Rattle.std.proofs.Common.{ap, ◌∙◌}
-use Rattle.arrival.specs.declared.Response.{Response}
-use Rattle.calendar.specs.rules.Operations.{Memory, Result}
-use Rattle.wubraken.specs.declared.answers.Answer.{Answer}
-use Rattle.wubraken.specs.Answers.{answer_of}
-use Rattle.wubraken.proofs.AnswerLaws.{answer_said}
+use Rattle.wubraken.specs.Answers.{answer_of, answer_said}
 use Rattle.wubraken.specs.Results.{lent, Told, leaves, told}
 use Rattle.arrival.specs.declared.Worker.{Worker}
 use Rattle.dealer.specs.declared.answers.Dealt.{Dealt}

@@ -6,30 +6,25 @@
 --     last_turn, lasts_less           the turn was the last; it was not, and fewer are left
 --     past_leak, next_round_lem           it led out of the ranges, and 3 ends the run; one round more
 -- Assumes nothing.
-use Rattle.std.specs.Prelude.{◌≡◌, refl, List, [], Bool, true, false, cond, not, ◌||◌, ◌≢◌, ℕ, zero, suc, ◌+◌, ◌-◌, ◌<◌, ◌≤◌, eqb, length, get_or, set, replicate}
-use Rattle.std.proofs.Common.{sym, ap, subst, ◌∙◌, arith, length-set, eqb-true, eq-eqb, ne_eqb}
-use Rattle.std.proofs.lemmas.List.{length-replicate}
-use Rattle.std.proofs.lemmas.Bool.{eqb-false, not-true, not-false}
+use Rattle.std.specs.Prelude.{◌≡◌, refl, List, Bool, true, false, not, ◌||◌, ◌≢◌, ℕ, ◌+◌, ◌-◌, ◌<◌, eqb, length, set}
+use Rattle.std.proofs.Common.{sym, ap, subst, ◌∙◌, arith, eqb-true, eq-eqb, ne_eqb}
+use Rattle.std.proofs.lemmas.Bool.{eqb-false}
 use Rattle.arrival.specs.declared.Shape.{Shape}
 use Rattle.arrival.specs.declared.Worker.{Worker}
 use Rattle.arrival.specs.declared.Action.TheVariants.{Step}
-use Rattle.arrival.specs.declared.Response.{Response}
-use Rattle.arrival.specs.declared.Response.TheVariants.{On, Refused}
+use Rattle.arrival.specs.declared.Response.TheVariants.{Refused}
 use Rattle.laws.specs.Tests.{never}
-use Rattle.calendar.specs.rules.Ranges.{blank, worker, record_in_range}
+use Rattle.calendar.specs.rules.Ranges.{worker, record_in_range}
 use Rattle.calendar.specs.rules.Operations.{Memory, Result}
 use Rattle.calendar.specs.rules.NarrowCalls.{goes_on}
 use Rattle.words.specs.Done.{Done, gives}
 use Rattle.words.specs.declared.replies.Reply.{Reply}
 use Rattle.stages.specs.Ready.{Ready}
 use Rattle.stages.specs.LocalStep.{local_step}
-use Rattle.operation.specs.LocalAct.{local_act, back}
-use Rattle.operation.proofs.LocalAct.{local_step_lem, ready}
-use Rattle.operation.specs.LocalTurns.{Going}
-use Rattle.operation.proofs.LocalTurns.{act_length, going}
-use Rattle.wubraken.specs.Results.{lent, gave}
-use Rattle.wubraken.proofs.Results.{put_back}
-use Rattle.dealer.specs.Dealing.{next_served, Deal, serving, turned_away, dealt, dealt_on, dealt_run}
+use Rattle.operation.specs.LocalAct.{local_act, local_step_lem, ready, back}
+use Rattle.operation.specs.LocalTurns.{act_length}
+use Rattle.wubraken.specs.Results.{lent, gave, put_back}
+use Rattle.dealer.specs.Dealing.{next_served, Deal, serving, dealt, dealt_on}
 use Rattle.dealer.specs.Served.{served_busy}
 use Rattle.dealer.specs.Dealable.{Dealable, MayTurn, leaks_of, none_served, record_out, admits, served_is, keeps_on, leaked}
 use Rattle.dealer.specs.DealLoop.{running, away, ended, on}

@@ -58,10 +58,10 @@ pub in_turn :
     × (dealer_after three (open_pool three lent).memory (new_dealer three) (starts ++ dealing true 9) ≡ 0)
     × (answers_to three at_work 2 (dealing false 9) ≡ On ∷ On ∷ On ∷ On ∷ On ∷ Empty ∷ On ∷ Stored 1 ∷ Refused 16 ∷ [])
     × (served_in three at_work 2 (dealing false 9) ≡ 0 ∷ 2 ∷ 0 ∷ 2 ∷ 0 ∷ 2 ∷ 0 ∷ 0 ∷ [])
-unfolding three starts at_work dealing arrival lent address read write every blank store_in_range table_in_range is_free first_free_of first_free words_from open_store
-    open_table enqueue_start dequeue_start found settle step_1 step_4 step_5 step_6 step_7 walk step_8 step_9 step_13 step open_refusal enqueue_refusal
-    dequeue_refusal step_refusal open_pool act narrow_refusal narrow_act turns_after narrow_call bucket_of first_busy_of deal_refusal dealt memory_after dealer_after
-    answers_to served_in
+unfolding three starts at_work dealing arrival lent address read write every blank store_in_range table_in_range is_free first_free_of first_free words_from
+    open_store open_table enqueue_start dequeue_start found settle step_1 step_4 step_5 step_6 step_7 walk step_8 step_9 step_13 step open_refusal
+    enqueue_refusal dequeue_refusal step_refusal open_pool act narrow_refusal narrow_act turns_after narrow_call bucket_of first_busy_of deal_refusal dealt
+    memory_after dealer_after answers_to served_in
 in_turn = (refl, refl, refl, refl, refl)
 
 -- ── in runs ──
@@ -84,9 +84,9 @@ pub as_requests :
     × (requests_in three at_work 2 (dealing false 2) ≡ Narrow (Step 0) 0 ∷ Narrow (Step 2) 0 ∷ [])
     × (requests_in three at_work 3 (dealing true 2) ≡ [])
     × (refused_in three at_work 3 (dealing true 2) ≡ 4 ∷ 4 ∷ [])
-unfolding three starts at_work dealing arrival lent address read write every blank store_in_range table_in_range is_free first_free_of first_free words_from open_store
-    open_table enqueue_start dequeue_start found settle step_1 step_8 step open_refusal enqueue_refusal dequeue_refusal step_refusal open_pool act narrow_refusal
-    narrow_act turns_after narrow_call bucket_of first_busy_of deal_refusal dealt memory_after requests_in refused_in
+unfolding three starts at_work dealing arrival lent address read write every blank store_in_range table_in_range is_free first_free_of first_free words_from
+    open_store open_table enqueue_start dequeue_start found settle step_1 step_8 step open_refusal enqueue_refusal dequeue_refusal step_refusal open_pool act
+    narrow_refusal narrow_act turns_after narrow_call bucket_of first_busy_of deal_refusal dealt memory_after requests_in refused_in
 as_requests = (refl, refl, refl, refl, refl)
 
 -- ── by hand ──
@@ -111,9 +111,9 @@ pub outside :
     × (dealer_after three at_work 3 (dealing true 1) ≡ 3)
     × (served_in three at_work 3 (dealing true 1) ≡ [])
     × (answers_to three at_work 3 (dealing false 1) ≡ Refused 4 ∷ [])
-unfolding three starts at_work dealing arrival lent address read write every blank store_in_range table_in_range is_free first_free_of first_free words_from open_store
-    open_table enqueue_start dequeue_start open_refusal enqueue_refusal dequeue_refusal open_pool act bucket_of first_busy_of deal_refusal dealt memory_after
-    dealer_after answers_to served_in
+unfolding three starts at_work dealing arrival lent address read write every blank store_in_range table_in_range is_free first_free_of first_free words_from
+    open_store open_table enqueue_start dequeue_start open_refusal enqueue_refusal dequeue_refusal open_pool act bucket_of first_busy_of deal_refusal dealt
+    memory_after dealer_after answers_to served_in
 outside = (refl, refl, refl, refl, refl)
 
 -- ── nobody left ──
@@ -136,8 +136,8 @@ pub lowest_first : (whole : Bool)
     × (answers_to three (record { store = []; table = idle.table }) 1 (deals whole ∷ []) ≡ Refused 2 ∷ [])
     × (answers_to three (record { store = set idle.store 2 4; table = idle.table }) 1 (deals whole ∷ []) ≡ Refused 3 ∷ [])
     × (answers_to three idle 3 (deals whole ∷ []) ≡ Refused 4 ∷ [])
-unfolding three lent address read write every blank store_in_range table_in_range words_from open_store open_table open_refusal open_pool first_busy_of deal_refusal dealt
-    answers_to
+unfolding three lent address read write every blank store_in_range table_in_range words_from open_store open_table open_refusal open_pool first_busy_of
+    deal_refusal dealt answers_to
 lowest_first true = (refl, refl, refl, refl)
 lowest_first false = (refl, refl, refl, refl)
 
@@ -157,9 +157,9 @@ pub damaged :
     × (answers_to three (torn 2) 2 (dealing true 1) ≡ Refused 3 ∷ [])
     × (dealer_after three (torn 2) 2 (dealing true 1) ≡ 2)
     × (memory_after three (torn 2) 2 (dealing true 1) ≡ torn 2)
-unfolding three starts at_work torn at_stage dealing arrival lent address read write every blank store_in_range table_in_range is_free first_free_of first_free
-    words_from open_store open_table enqueue_start dequeue_start found settle step_1 step open_refusal enqueue_refusal dequeue_refusal open_pool act narrow_refusal
-    narrow_act turns_after narrow_call bucket_of first_busy_of deal_refusal dealt memory_after dealer_after answers_to served_in
+unfolding three starts at_work torn at_stage dealing arrival lent address read write every blank store_in_range table_in_range is_free first_free_of
+    first_free words_from open_store open_table enqueue_start dequeue_start found settle step_1 step open_refusal enqueue_refusal dequeue_refusal open_pool
+    act narrow_refusal narrow_act turns_after narrow_call bucket_of first_busy_of deal_refusal dealt memory_after dealer_after answers_to served_in
 damaged = (refl, refl, refl, refl, refl, refl, refl, refl, refl)
 
 -- ── refused by 11 ──
@@ -182,8 +182,8 @@ pub moves_on :
     × (dealer_after three at_the_end 2 (dealing true 1) ≡ 0)
     × (answers_to three at_the_end 2 (dealing false 4) ≡ Refused 11 ∷ On ∷ Refused 11 ∷ On ∷ [])
     × (served_in three at_the_end 2 (dealing false 4) ≡ 0 ∷ 2 ∷ 0 ∷ 2 ∷ [])
-unfolding three spent late at_the_end dealing arrival lent address read write every blank store_in_range table_in_range is_free first_free_of first_free words_from
-    open_store open_table enqueue_start dequeue_start found settle step_1 step_4 step_5 step_6 walk step_8 step_9 step open_refusal
-    enqueue_refusal dequeue_refusal step_refusal open_pool act narrow_refusal narrow_act turns_after narrow_call bucket_of first_busy_of deal_refusal dealt
-    memory_after dealer_after answers_to served_in
+unfolding three spent late at_the_end dealing arrival lent address read write every blank store_in_range table_in_range is_free first_free_of first_free
+    words_from open_store open_table enqueue_start dequeue_start found settle step_1 step_4 step_5 step_6 walk step_8 step_9 step open_refusal enqueue_refusal
+    dequeue_refusal step_refusal open_pool act narrow_refusal narrow_act turns_after narrow_call bucket_of first_busy_of deal_refusal dealt memory_after
+    dealer_after answers_to served_in
 moves_on = (refl, refl, refl, refl, refl, refl, refl, refl)

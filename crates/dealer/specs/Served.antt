@@ -20,8 +20,6 @@ use Rattle.laws.specs.Tests.{never, is_false}
 use Rattle.calendar.specs.rules.Ranges.{worker}
 use Rattle.calendar.specs.rules.Reclaim.{in_progress}
 use Rattle.dealer.specs.Dealing.{worker_after, first_busy_of, next_served, all_idle}
--- the runs come first: a wrong definition is refused by them
-use Rattle.dealer.specs.DealtExample.{by_hand}
 
 pub after_below : (sh : Shape) (n : ℕ) → 1 ≤ sh.workers → worker_after sh n < sh.workers
 after_below sh n h = go (ltb (n + 1) sh.workers) refl

@@ -16,8 +16,7 @@ use Rattle.std.proofs.lemmas.List.{set-get_or}
 use borrow.Author.Tests.{eqb-true, eqb-false}
 use Rattle.arrival.specs.declared.Shape.{Shape}
 use Rattle.arrival.specs.declared.Worker.{Worker}
-use Rattle.arrival.specs.declared.Response.{Response}
-use Rattle.arrival.specs.declared.Response.TheVariants.{On, Refused}
+use Rattle.arrival.specs.declared.Response.TheVariants.{Refused}
 use Rattle.laws.specs.Tests.{never, by_test}
 use Rattle.calendar.specs.rules.Ranges.{blank, worker, record_in_range}
 use Rattle.calendar.specs.rules.Reclaim.{in_progress}
@@ -26,8 +25,7 @@ use Rattle.words.specs.Done.{Done, gives}
 use Rattle.words.specs.declared.replies.Reply.{Reply}
 use Rattle.stages.specs.Ready.{Ready}
 use Rattle.stages.specs.LocalStep.{local_step}
-use Rattle.admission.specs.Gate.{gate_of}
-use Rattle.admission.proofs.GateLaws.{shape_tests, gate_passed}
+use Rattle.admission.specs.Gate.{shape_tests, gate_of}
 use Rattle.wubraken.specs.Results.{lent}
 use Rattle.dealer.specs.declared.runs.Run.{Run}
 use Rattle.dealer.specs.Dealing.{worker_after, first_busy_of, next_served, Deal, dealt_on, dealt_run}

@@ -55,9 +55,9 @@ pub reached :
     × (served_in three pool 2 (dealing false 2) ≡ 0 ∷ 1 ∷ [])
     × (served_in three pool 2 (dealing false 3) ≡ 0 ∷ 1 ∷ 2 ∷ [])
     × (first_of (memory_tests three (too_short three pool.store pool.table) false 2) ≡ 0)
-unfolding three begins pool dealing lent address read write every blank store_in_range table_in_range words_from open_store open_table dequeue_start step_8 step
-    open_refusal dequeue_refusal step_refusal open_pool act narrow_refusal narrow_act turns_after narrow_call first_busy_of deal_refusal dealt memory_after dealer_after
-    served_in
+unfolding three begins pool dealing lent address read write every blank store_in_range table_in_range words_from open_store open_table dequeue_start step_8
+    step open_refusal dequeue_refusal step_refusal open_pool act narrow_refusal narrow_act turns_after narrow_call first_busy_of deal_refusal dealt
+    memory_after dealer_after served_in
 reached = (refl, refl, refl, refl, refl, refl, refl)
 
 -- no turn that is dealt to this pool is refused by 3
@@ -108,8 +108,9 @@ unfoldable pub ended_by_host : List Move
 ended_by_host = replicate 3 (asks (Whole (Step 2))) ++ dealing true 3
 
 ended_run : served_in three pool 2 ended_by_host ≡ 0 ∷ 1 ∷ 0 ∷ []
-unfolding three begins pool dealing ended_by_host lent address read write every blank store_in_range table_in_range words_from open_store open_table dequeue_start
-    walk step_8 step_9 step_13 step open_refusal dequeue_refusal step_refusal open_pool act first_busy_of deal_refusal dealt memory_after served_in
+unfolding three begins pool dealing ended_by_host lent address read write every blank store_in_range table_in_range words_from open_store open_table
+    dequeue_start walk step_8 step_9 step_13 step open_refusal dequeue_refusal step_refusal open_pool act first_busy_of deal_refusal dealt memory_after
+    served_in
 ended_run = refl
 
 pub no_turn_needed :
@@ -140,8 +141,8 @@ pub leak :
     (out_of_range three leaky.store leaky.table ≡ false)
     × (answers_to three leaky 2 (dealing true 3) ≡ On ∷ Refused 3 ∷ Refused 3 ∷ [])
     × (served_in three leaky 2 (dealing true 3) ≡ 0 ∷ [])
-unfolding three dealing leaky at_stage address read write every store_in_range table_in_range settle step_3 step step_refusal act first_busy_of deal_refusal dealt
-    answers_to served_in
+unfolding three dealing leaky at_stage address read write every store_in_range table_in_range settle step_3 step step_refusal act first_busy_of deal_refusal
+    dealt answers_to served_in
 leak = (refl, refl, refl)
 
 pub unrefused_3_needed_begun :

@@ -7,7 +7,7 @@ use wubraken::answers::{Answer, answer_of};
 
 // The worker served last, how many turns were dealt, and the answer.
 #[repr(C)]
-#[derive(Drop)]
+#[derive(Clone, Copy)]
 pub struct Dealt {
     pub dealer: u64,
     pub turns: u64,

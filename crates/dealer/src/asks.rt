@@ -1,7 +1,7 @@
 // What is asked of the dealer, by value: at most so many turns, behind the worker served last, each by a look at the whole of the lent memory or narrow.
 ghost use Rattle.std.specs.Prelude.{◌≡◌, true, false};
 
-#[derive(Drop)]
+#[derive(Clone, Copy)]
 pub struct Ask {
     pub whole: bool,
     pub dealer: u64,

@@ -1,4 +1,6 @@
 // The dealer of turns, for hosts: over lent memory, whatever it holds. An archive of its own.
+#![tactic(auto)]
+
 ghost use Rattle.std.specs.Prelude.{◌≡◌, true, false};
 ghost use Rattle.wubraken.specs.Results.{lent};
 ghost use Rattle.dealer.specs.Dealing.{new_dealer, dealt, dealt_run};
@@ -26,12 +28,7 @@ pub fn wubraken_new_dealer(shape: Shape) -> u64
 }
 
 // One dealt turn, by a look at the whole of the lent memory.
-pub fn wubraken_deal(
-    shape: Shape,
-    dealer: u64,
-    store: &mut [u64],
-    table: &mut [Worker],
-) -> Dealt
+pub fn wubraken_deal(shape: Shape, dealer: u64, store: &mut [u64], table: &mut [Worker]) -> Dealt
     ensures { hands store.new table.new result ≡ handed (dealt true shape (lent store.old table.old)
         dealer) }
 {

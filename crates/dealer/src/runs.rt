@@ -10,7 +10,7 @@ use operation::goes_on;
 use wubraken::table::Survey;
 
 // The candidate to be looked at and how many are left with it, the worker served last, the turns made and the last response; whether it goes on.
-#[derive(Drop)]
+#[derive(Clone, Copy)]
 pub struct Run {
     pub going: bool,
     pub at: usize,
@@ -39,6 +39,7 @@ pub fn worker_after(shape: Shape, i: u64) -> u64
 }
 
 // The flag for refusal 3 before the first turn: by a look at everything, or at the three first words.
+#[tactic(auto, unfolding(crate::specs::Runs::flag_of))]
 pub fn flag_of(shape: Shape, whole: bool, n: usize, ok: bool, store: &[u64]) -> bool
     ensures { result ≡ flag_of whole shape store.now n ok }
 {
@@ -101,6 +102,7 @@ pub fn begin(shape: Shape, ask: Ask, n: usize, seen: Survey, store: &[u64]) -> R
 }
 
 // The candidate has no call in progress: on to the next, if one is left.
+#[tactic(auto, unfolding(crate::specs::Runs::passed_by))]
 pub fn passed_by(shape: Shape, run: Run) -> Run
     requires at_lt_workers { run.at < shape.workers }
     requires rest_nonzero { 0 < run.rest }
@@ -121,6 +123,7 @@ pub fn passed_by(shape: Shape, run: Run) -> Run
 }
 
 // Its turn was made: on to the next round, unless the run ends with it.
+#[tactic(auto, unfolding(crate::specs::Runs::moved_on))]
 pub fn moved_on(shape: Shape, turns: u64, run: Run, leak: bool, response: Response) -> Run
     requires at_lt_workers { run.at < shape.workers }
     requires made_lt_turns { run.made < turns }

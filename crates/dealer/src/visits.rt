@@ -12,7 +12,7 @@ use operation::leaks::turn_leaks;
 use stages::step;
 
 // The run and the candidate's record behind the look.
-#[derive(Drop)]
+#[derive(Clone, Copy)]
 pub struct Visit {
     pub run: Run,
     pub worker: Worker,
@@ -40,6 +40,7 @@ fn leaks_of(shape: Shape, whole: bool, w: Worker, store: &[u64]) -> bool
     false
 }
 
+#[tactic(auto, unfolding(crate::specs::Runs::visited))]
 pub fn look_at(
     shape: Shape,
     whole: bool,
