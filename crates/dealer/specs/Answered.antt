@@ -2,11 +2,11 @@
 --     dealt_of                         of a run, in numbers
 --     leaves_deal                      memory and what a run has, as a `Deal`
 --     Handed, hands, handed           the same in numbers: of what the code left, and of a `Deal`
---     handed_is                       the first gives the second
 -- Assumes nothing.
 use Rattle.std.specs.Prelude.{◌≡◌, List, ℕ}
 use Rattle.std.proofs.Common.{ap, ◌∙◌}
-use Rattle.wubraken.specs.Answers.{answer_of, answer_said}
+use Rattle.wubraken.specs.Answers.{answer_of}
+use Rattle.wubraken.proofs.AnswerLaws.{answer_said}
 use Rattle.wubraken.specs.Results.{lent, Told, leaves, told}
 use Rattle.arrival.specs.declared.Worker.{Worker}
 use Rattle.dealer.specs.declared.answers.Dealt.{Dealt}
@@ -31,14 +31,3 @@ hands s t r = record { told = leaves s t r.answer; dealer = r.dealer; turns = r.
 
 abbrev pub handed : Deal → Handed
 handed d = record { told = told (record { memory = d.memory; response = d.response }); dealer = d.dealer; turns = d.turns }
-
-pub handed_is : (s : List ℕ) (t : List Worker) (r : Run) (a : Dealt) (d : Deal) → leaves_deal s t r ≡ d → a ≡ dealt_of r
-    → hands s t a ≡ handed d
-handed_is s t r a d leaves-is answers =
-    (λ k. hands s t (answers k))
-    ∙ (λ k. record {
-      told = record { memory = lent s t; answer = answer_of r.response; said = answer_said r.response k };
-      dealer = r.last;
-      turns = r.made;
-    })
-    ∙ ap handed leaves-is

@@ -2,16 +2,13 @@ pub mod Dealing
 pub mod DealtHistory
 pub mod DealtExample
 pub mod Served
-pub mod Requests
 pub mod DealtTurn
 pub mod DealtInRange
-pub mod Waited
 pub mod WaitingReached
 pub mod Covered
 pub mod DealtRefusals
 pub mod DealtRuns
 pub mod DealtRunLists
-pub mod RunRefusals
 pub mod Answered
 pub mod Dealable
 pub mod DealLoop

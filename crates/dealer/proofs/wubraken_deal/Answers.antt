@@ -2,8 +2,8 @@
 use Rattle.std.proofs.Common.{◌∙◌, true}
 use Rattle.wubraken.specs.Results.{lent}
 use Rattle.dealer.specs.Dealing.{dealt, dealt_run}
-use Rattle.dealer.specs.DealtRuns.{one_turn}
-use Rattle.dealer.specs.Answered.{handed_is}
+use Rattle.dealer.proofs.DealtRuns.{one_turn}
+use Rattle.dealer.proofs.Answered.{handed_is}
 use Rattle.dealer.proofs.wubraken_deal.Goals as goal
 
 pub returns : goal.returns

@@ -1,8 +1,9 @@
 -- Before the first turn: none is asked for, 1 to 4 refuse it, or the run goes. Assumes nothing.
 use Rattle.std.proofs.Common.{sym, ◌∙◌, length, eq-eqb}
-use Rattle.admission.specs.Gate.{gate_passed}
-use Rattle.dealer.specs.Runs.{begun, refused_begun, goes_begun}
-use Rattle.dealer.specs.DealLoop.{flag_tight}
+use Rattle.admission.proofs.GateLaws.{gate_passed}
+use Rattle.dealer.specs.Runs.{begun}
+use Rattle.dealer.proofs.RunLaws.{refused_begun, goes_begun}
+use Rattle.dealer.proofs.DealLoop.{flag_tight}
 use Rattle.dealer.proofs.runs.begin.Goals as goal
 
 pub returns-then-ask-eq0 : goal.returns-then-ask-eq0

@@ -11,7 +11,8 @@ use Rattle.dealer.specs.declared.runs.Run.{Run}
 use Rattle.dealer.specs.Dealing.{turn_of}
 use Rattle.dealer.specs.Runs.{begun}
 use Rattle.dealer.specs.DealLoop.{ok_of}
-use Rattle.dealer.specs.Tour.{Sound, wanted, sound_start, wanted_start}
+use Rattle.dealer.specs.Tour.{Sound, wanted}
+use Rattle.dealer.proofs.Tour.{sound_start, wanted_start}
 use Rattle.dealer.proofs.turns.deal_lent.Goals as goal
 
 begins : (sh : Shape) (x : Ask) (s : List ℕ) (t : List Worker) (look : Request) (seen : Survey) (r : Run) → look ≡ turn_of x.whole 0

@@ -1,7 +1,8 @@
 -- `turns::deal_turns`: the look at the candidate may be made, and leaves a run that is sound, wants the same and has less to do. Assumes nothing.
 use Rattle.std.proofs.Common.{sym, subst, ◌∙◌}
 use Rattle.calendar.specs.rules.Ranges.{blank}
-use Rattle.dealer.specs.Tour.{wanted_ended, visitable, Moved, moves}
+use Rattle.dealer.specs.Tour.{Moved}
+use Rattle.dealer.proofs.Tour.{wanted_ended, visitable, moves}
 use Rattle.dealer.proofs.turns.deal_turns.Goals as goal
 
 pub look_at-v-requires : goal.look_at-v-requires

@@ -22,11 +22,13 @@ use Rattle.calendar.specs.rules.HostHistory.{requested, action_of}
 use Rattle.dealer.specs.Dealing.{Deal, next_served, turn_of, dealt}
 use Rattle.dealer.specs.DealtHistory.{Move, asks, deals, memory_after, dealer_after, served_in, among, deals_in, is_turn_of, no_turn_of}
 use Rattle.dealer.specs.DealtHistory.{Unrefused3, StaysInProgress, Waiting, WaitingBegun, WaitingOpened}
-use Rattle.dealer.specs.Served.{Ahead, all_ahead, none_ahead, served_first, somebody}
-use Rattle.dealer.specs.Requests.{request_same_size, request_others, busy_kept}
-use Rattle.dealer.specs.DealtTurn.{Able, able_size, able_tests, turn_actor, dealt_served, dealt_unless_3}
-use Rattle.dealer.specs.DealtInRange.{never_3, kept_after}
-use Rattle.dealer.specs.DealtRefusals.{by_deal}
+use Rattle.dealer.specs.Served.{Ahead}
+use Rattle.dealer.proofs.Served.{all_ahead, none_ahead, served_first, somebody}
+use Rattle.dealer.proofs.RequestLaws.{request_same_size, request_others, busy_kept}
+use Rattle.dealer.specs.DealtTurn.{Able}
+use Rattle.dealer.proofs.DealtTurn.{able_size, able_tests, turn_actor, dealt_served, dealt_unless_3}
+use Rattle.dealer.proofs.DealtInRange.{never_3, kept_after}
+use Rattle.dealer.proofs.DealtRefusals.{by_deal}
 
 -- worker i is served now, or among those served later
 now_or_later : (i j : ℕ) (js : List ℕ) (nearer : Type 0) → (j ≡ i) ⊎ nearer → (j ≢ i → nearer → among i js ≡ true) → (eqb j i || among i js) ≡ true

@@ -27,11 +27,12 @@ use Rattle.calendar.specs.facts.HostRun.{StaysInRange}
 use Rattle.lists.specs.NodeReuse.{always_in_range}
 use Rattle.dealer.specs.Dealing.{Deal, next_served, all_idle, deal_out, deal_tests, deal_refusal, turn_of, dealt, dealt_on, dealt_run}
 use Rattle.dealer.specs.DealtHistory.{Move, deals, memory_after, dealer_after}
-use Rattle.dealer.specs.Served.{somebody}
-use Rattle.dealer.specs.DealtTurn.{Able, able_moved, dealt_unless_3}
-use Rattle.dealer.specs.DealtInRange.{deal_not_3, stays_moved}
-use Rattle.dealer.specs.DealtRefusals.{only_11, refused_kept, by_deal}
-use Rattle.dealer.specs.DealtRuns.{one_turn, run_stops, run_on, stays_along}
+use Rattle.dealer.proofs.Served.{somebody}
+use Rattle.dealer.specs.DealtTurn.{Able}
+use Rattle.dealer.proofs.DealtTurn.{able_moved, dealt_unless_3}
+use Rattle.dealer.proofs.DealtInRange.{deal_not_3, stays_moved}
+use Rattle.dealer.proofs.DealtRefusals.{only_11, refused_kept, by_deal}
+use Rattle.dealer.proofs.DealtRuns.{one_turn, run_stops, run_on, stays_along}
 
 -- ── a turn that goes on ──
 narrow_went : (sh : Shape) (m : Memory) (a : Action) → goes_on (narrow_act sh m a).response ≡ true → narrow_refusal sh m a ≡ 0

@@ -1,0 +1,19 @@
+-- Theorems. What they speak of stands in specs.
+pub mod DealLoop
+pub mod DealRound
+pub mod Dealable
+pub mod DealtExample
+pub mod DealtInRange
+pub mod DealtRefusals
+pub mod DealtRunLists
+pub mod DealtRuns
+pub mod DealtTurn
+pub mod RunRefusals
+pub mod Served
+pub mod Tour
+pub mod Waited
+pub mod WaitingReached
+pub mod Covered
+pub mod Answered
+pub mod RequestLaws
+pub mod RunLaws
