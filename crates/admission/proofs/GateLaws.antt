@@ -17,8 +17,7 @@ use Rattle.std.specs.Prelude.{◌≡◌, refl, List, ◌++◌, Bool, true, false
 use Rattle.std.proofs.Common.{sym, ap, ◌∙◌, arith}
 use borrow.Author.Tests.{not-false, eqb-true, ltb-false, leb-false, le-leb, lt-leb, le-ltb, eq-eqb, ne_eqb}
 use Rattle.arrival.specs.declared.Shape.{Shape}
-use Rattle.arrival.specs.declared.Response.{Response}
-use Rattle.arrival.specs.declared.Response.TheVariants.{Opened, Refused}
+use Rattle.arrival.specs.declared.Response.TheVariants.{Refused}
 use Rattle.arrival.specs.declared.Action.{Action}
 use Rattle.arrival.specs.declared.Action.TheVariants.{Step}
 use Rattle.laws.specs.Tests.{neither}

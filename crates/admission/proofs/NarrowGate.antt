@@ -5,7 +5,7 @@
 --     near_passed                    what a narrow action that the gate lets pass may count on
 --     narrow_first, narrow_away      the gate's refusal, or the first of its own, is the narrow action's; what the gate refuses does nothing
 -- Assumes nothing.
-use Rattle.std.specs.Prelude.{◌≡◌, List, Bool, true, false, ◌&&◌, ◌≢◌, ℕ, ◌<◌, eqb, length}
+use Rattle.std.specs.Prelude.{◌≡◌, List, Bool, true, false, ◌&&◌, ◌≢◌, ℕ, eqb, length}
 use Rattle.std.proofs.Math.Path.{refl, ap}
 use Rattle.std.proofs.Common.{sym, ◌∙◌, arith}
 use Rattle.std.proofs.Math.Bool.{cond, not}
@@ -20,7 +20,6 @@ use Rattle.calendar.specs.rules.Operations.{Memory, actor}
 use Rattle.calendar.specs.rules.NarrowCalls.{records_in_range, narrow_out, narrow_refusal, narrow_act}
 use Rattle.laws.specs.FirstOf.{first_of, first_append}
 use Rattle.calendar.specs.facts.Accepted.{Lent}
-use Rattle.calendar.specs.facts.RangeFacts.{WordRanges}
 use Rattle.calendar.proofs.facts.RangeFacts.{limits, word_ranges}
 use Rattle.words.specs.Laid.{Laid, laid}
 use Rattle.admission.specs.Gate.{gate_of, open_gate}

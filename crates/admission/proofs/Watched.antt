@@ -28,7 +28,7 @@ use Rattle.calendar.specs.rules.SearchSteps.{left_holds, unlink, found, settle, 
 use Rattle.calendar.specs.rules.Steps.{step}
 use Rattle.calendar.proofs.facts.Changes.{step_is, step_at}
 use Rattle.calendar.proofs.facts.Inside.{enqueue_inside, dequeue_inside, change_inside}
-use Rattle.calendar.specs.facts.Accepted.{Lent, Usable, EnqueueAccepted, DequeueAccepted, StepAccepted}
+use Rattle.calendar.specs.facts.Accepted.{Usable, EnqueueAccepted, DequeueAccepted, StepAccepted}
 use Rattle.calendar.specs.facts.RangesKept.{leaks}
 use Rattle.calendar.proofs.facts.RangesKept.{enqueue_ranged, dequeue_ranged, step_ranged}
 use Rattle.calendar.specs.rules.Operations.{Memory, perform, outcome}

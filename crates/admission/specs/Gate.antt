@@ -5,27 +5,14 @@
 --     Tight                          a flag down where 1 or 2 applies; an opening's refusals among the gate's
 --     sound_of                        the flag by a look at every field; a shape within its limits passes its test
 -- Assumes nothing.
-use Rattle.std.specs.Prelude.{◌≡◌, refl, List, ◌++◌, Bool, true, false, cond, not, ◌&&◌, ◌≢◌, ℕ, ◌≤◌, ◌<◌, eqb, length}
-use Rattle.std.proofs.Common.{sym, ap, ◌∙◌, arith}
-use borrow.Author.Tests.{not-false, eqb-true, ltb-false, leb-false, le-leb, lt-leb, le-ltb, eq-eqb, ne_eqb}
+use Rattle.std.specs.Prelude.{◌≡◌, List, Bool, true, false, cond, not, ◌&&◌, ℕ, eqb, length}
 use Rattle.arrival.specs.declared.Shape.{Shape}
 use Rattle.arrival.specs.declared.Response.{Response}
 use Rattle.arrival.specs.declared.Response.TheVariants.{Opened, Refused}
-use Rattle.arrival.specs.declared.Action.{Action}
-use Rattle.arrival.specs.declared.Action.TheVariants.{Step}
-use Rattle.laws.specs.Tests.{neither}
-use Rattle.calendar.specs.rules.Layout.{layout}
-use Rattle.calendar.specs.rules.Ranges.{worker, shape_in_range, store_in_range, table_in_range}
-use Rattle.calendar.specs.facts.RangeFacts.{Limits}
-use Rattle.calendar.proofs.facts.RangeFacts.{limits}
-use Rattle.calendar.specs.rules.Refusals.{bad_shape, short, too_short, out_of_range, length_tests, field_tests, memory_tests, memory_of, open_refusal}
-use Rattle.laws.specs.FirstOf.{first_of, None, first_append, first_parts, first_none}
-use Rattle.calendar.specs.facts.Accepted.{Lent, Usable}
-use Rattle.calendar.proofs.facts.Accepted.{lent, memory_accepted}
-use Rattle.calendar.proofs.facts.RefusalParts.{refusal_first}
+use Rattle.calendar.specs.rules.Ranges.{store_in_range}
+use Rattle.calendar.specs.rules.Refusals.{short, length_tests, memory_tests}
+use Rattle.laws.specs.FirstOf.{first_of}
 pub use Rattle.calendar.specs.facts.RefusalParts.{own_of}
-use Rattle.calendar.specs.rules.Operations.{Memory, actor, refusal, act}
-use Rattle.admission.specs.Watched.{Watched}
 
 unfoldable pub gate_of : Shape → ℕ → ℕ → ℕ → Bool → ℕ
 gate_of sh words records i sound = first_of (memory_tests sh (short sh words records) (not sound) i)

@@ -3,25 +3,16 @@
 --     RecordsSeen                    what `ok` has to say
 --     Near                           what a narrow action that the gate lets pass may count on
 -- Assumes nothing.
-use Rattle.std.specs.Prelude.{◌≡◌, List, Bool, true, false, ◌&&◌, ◌≢◌, ℕ, ◌<◌, eqb, length}
-use Rattle.std.proofs.Math.Path.{refl, ap}
-use Rattle.std.proofs.Common.{sym, ◌∙◌, arith}
-use Rattle.std.proofs.Math.Bool.{cond, not}
-use borrow.Author.Tests.{eqb-true, eq-eqb, ne_eqb, ltb-false}
+use Rattle.std.specs.Prelude.{◌≡◌, List, Bool, true, false, ◌&&◌, ℕ, ◌<◌, eqb, length}
+use Rattle.std.proofs.Math.Bool.{cond}
 use Rattle.arrival.specs.declared.Shape.{Shape}
 use Rattle.arrival.specs.declared.Action.{Action}
-use Rattle.arrival.specs.declared.Response.TheVariants.{Refused}
-use Rattle.laws.specs.Tests.{parts, neither}
-use Rattle.calendar.specs.rules.Ranges.{shape_in_range, words_in_range}
-use Rattle.calendar.specs.rules.Refusals.{short, too_short, memory_tests}
+use Rattle.calendar.specs.rules.Ranges.{words_in_range}
 use Rattle.calendar.specs.rules.Operations.{Memory, actor}
-use Rattle.calendar.specs.rules.NarrowCalls.{records_in_range, narrow_out, narrow_refusal, narrow_act}
-use Rattle.laws.specs.FirstOf.{first_of, first_append}
+use Rattle.calendar.specs.rules.NarrowCalls.{records_in_range}
 use Rattle.calendar.specs.facts.Accepted.{Lent}
 use Rattle.calendar.specs.facts.RangeFacts.{WordRanges}
-use Rattle.calendar.proofs.facts.RangeFacts.{limits, word_ranges}
-use Rattle.words.specs.Laid.{Laid, laid}
-use Rattle.admission.specs.Gate.{gate_of, open_gate}
+use Rattle.admission.specs.Gate.{open_gate}
 
 -- down where the memory is too short to be looked at
 unfoldable pub near_of : Shape → List ℕ → ℕ → Bool → Bool

@@ -1,7 +1,6 @@
 -- The energy of an arrival at a distance in metres.
 --     energy_at_0      at distance 0 it is 0
---     energy_floor     elsewhere it, times distance², is within 2^24, and one more is not
---     energy_only      no other number is so
+--     energy_only      elsewhere no other number is as energy_floor says
 --     energy_most      it is at most 2^24
 -- Assumes nothing.
 use Rattle.std.specs.Prelude.{◌≡◌, refl, ℕ, ◌+◌, ◌*◌, ◌/◌, ◌<◌, ◌≤◌}
@@ -9,6 +8,7 @@ use Rattle.std.proofs.Common.{mul-le-mul, mul-le-mul_left, lt_of_mul-lt-mul_righ
 use Rattle.std.proofs.Math.Nat.{lt-div-mul-add}
 use Rattle.laws.specs.Tests.{by_size}
 use Rattle.arrival.specs.Energy.{energy_of}
+use Rattle.arrival.proofs.EnergyFloor.{some, energy_floor}
 
 pub energy_at_0 : energy_of 0 ≡ 0
 unfolding energy_of
@@ -26,24 +26,11 @@ by_hand :
 unfolding energy_of
 by_hand = (refl, refl, refl, refl, refl, refl, refl, refl)
 
-within : (n s b : ℕ) → n ≤ b → n / s * s ≤ b
-within n s b h = omega (arith, div-mul-le_self n s)
-
-past : (n s b : ℕ) → 0 < s → b ≤ n → b < (1 + n / s) * s
-past n s b some h = omega (arith, lt-div-mul-add {a = n} {b = s} some)
-
 module _ (d : ℕ) (h : 1 ≤ d) where
-  some : 0 < d * d
-  some = omega (arith, mul-le-mul h h)
-
-  pub energy_floor : (energy_of d * (d * d) ≤ 16777216) × (16777216 < (1 + energy_of d) * (d * d))
-  unfolding energy_of
-  energy_floor = rw (ne_eqb d 0 (omega arith)) (within _ _ _ (omega arith), past _ _ _ some (omega arith))
-
   pub energy_only : (e : ℕ) → e * (d * d) ≤ 16777216 → 16777216 < (1 + e) * (d * d) → e ≡ energy_of d
   energy_only e low high =
-      let up : e < 1 + energy_of d = lt_of_mul-lt-mul_right (d * d) (omega (arith, low, energy_floor.1)) in
-      let down : energy_of d < 1 + e = lt_of_mul-lt-mul_right (d * d) (omega (arith, high, energy_floor.0)) in
+      let up : e < 1 + energy_of d = lt_of_mul-lt-mul_right (d * d) (omega (arith, low, (energy_floor d h).1)) in
+      let down : energy_of d < 1 + e = lt_of_mul-lt-mul_right (d * d) (omega (arith, high, (energy_floor d h).0)) in
       omega arith
 
 pub energy_most : (d : ℕ) → energy_of d ≤ 16777216

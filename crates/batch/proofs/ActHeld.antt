@@ -2,7 +2,7 @@
 --     place_own, place_last            where the code looks for the worker's record, by its test
 --     admits                          a worker that is let in is ready there
 --     held_round                      stored at that place, it is one record more
-use Rattle.std.specs.Prelude.{◌≡◌, refl, List, Bool, true, false, cond, not, ◌≢◌, ℕ, ◌+◌, ◌<◌, ◌≤◌, eqb, ltb, leb, length, set}
+use Rattle.std.specs.Prelude.{◌≡◌, refl, List, Bool, true, false, cond, not, ◌≢◌, ℕ, ◌+◌, ◌<◌, ◌≤◌, eqb, leb, length, set}
 use Rattle.std.proofs.Common.{sym, ap, ◌∙◌, arith, eqb-true, lt-ltb, le-ltb}
 use Rattle.std.proofs.Math.Path.{subst⁻¹}
 use Rattle.std.proofs.lemmas.List.{set-get_or}
@@ -13,7 +13,7 @@ use Rattle.arrival.specs.declared.Action.{Action}
 use Rattle.calendar.specs.rules.Ranges.{blank, worker}
 use Rattle.calendar.specs.rules.Operations.{actor}
 use Rattle.words.specs.declared.replies.Reply.{Reply}
-use Rattle.words.specs.Done.{Done, gives, refused, unless_refused}
+use Rattle.words.specs.Done.{Done, gives, refused}
 use Rattle.operation.specs.LocalAct.{local_act, Admitted}
 use Rattle.admission.specs.Gate.{gate_of}
 use Rattle.turn_file.specs.declared.Read.TheVariants.{Act}

@@ -15,7 +15,7 @@ use Rattle.arrival.specs.declared.Action.{Action}
 use Rattle.arrival.specs.declared.Action.TheVariants.{Enqueue, Dequeue, Step}
 use Rattle.calendar.specs.rules.Ranges.{worker}
 use Rattle.calendar.specs.rules.Reclaim.{in_progress}
-use Rattle.starts.specs.LeastTicket.{lower, least_ticket, least_bound}
+use Rattle.starts.specs.LeastTicket.{least_ticket, least_bound}
 use Rattle.operation.specs.LocalAct.{LowFor}
 use Rattle.batch.specs.Tickets.{ticket_of, tickets_of, least, least_of, low_for}
 

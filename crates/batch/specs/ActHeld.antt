@@ -1,26 +1,15 @@
 -- A start or turn of a record that is held, as the code has it, is a round of the definition. Assumes nothing.
 --     held_act, sound_after             what `act_held` and `sound_after` give: refused by 1 to 4, and all stays; or what the action gives
 --     place_of                         where the code looks for the worker's record, by its test
-use Rattle.std.specs.Prelude.{◌≡◌, refl, List, Bool, true, false, cond, not, ◌≢◌, ℕ, ◌+◌, ◌<◌, ◌≤◌, eqb, ltb, leb, length, set}
-use Rattle.std.proofs.Common.{sym, ap, ◌∙◌, arith, eqb-true, lt-ltb, le-ltb}
-use Rattle.std.proofs.Math.Path.{subst⁻¹}
-use Rattle.std.proofs.lemmas.List.{set-get_or}
-use Rattle.std.proofs.lemmas.Bool.{eqb-false}
+use Rattle.std.specs.Prelude.{List, Bool, cond, not, ℕ, eqb, ltb}
 use Rattle.arrival.specs.declared.Shape.{Shape}
 use Rattle.arrival.specs.declared.Worker.{Worker}
 use Rattle.arrival.specs.declared.Action.{Action}
-use Rattle.calendar.specs.rules.Ranges.{blank, worker}
 use Rattle.calendar.specs.rules.Operations.{actor}
-use Rattle.words.specs.declared.replies.Reply.{Reply}
-use Rattle.words.specs.Done.{Done, gives, refused, unless_refused}
-use Rattle.operation.specs.LocalAct.{local_act, Admitted}
-use Rattle.admission.specs.Gate.{gate_of}
-use Rattle.turn_file.specs.declared.Read.TheVariants.{Act}
-use Rattle.turn_file.specs.Reading.{record_at}
-use Rattle.batch.specs.Batch.{Progress}
+use Rattle.words.specs.Done.{Done, unless_refused}
+use Rattle.operation.specs.LocalAct.{local_act}
 use Rattle.operation.specs.Leaks.{action_leaks}
-use Rattle.batch.specs.Tickets.{tickets_of, low_for}
-use Rattle.batch.specs.RoundArms.{Round, Line}
+use Rattle.batch.specs.Tickets.{low_for}
 
 -- what an action leaves, to which the gate answers k
 abbrev pub held_act : ℕ → Shape → Action → Worker → List ℕ → List ℕ → Done

@@ -2,24 +2,12 @@
 --     Going                          what a round keeps; at first; past one record
 --     at_work                        the loop's values as a progress
 -- Assumes nothing.
-use Rattle.std.specs.Prelude.{◌≡◌, List, Bool, true, false, leb}
-use Rattle.std.proofs.Math.Path.{refl, ap}
-use Rattle.std.proofs.Common.{sym, ◌∙◌, arith, leb-true, leb-false, le-leb}
-use Rattle.std.proofs.Math.Bool.{cond}
-use Prim.Native.Nat.{ℕ, zero, suc, ◌+◌, ◌-◌, ◌≤◌, ◌<◌}
-use Rattle.std.proofs.Math.ListN.{length}
-use Rattle.std.proofs.lemmas.Bool.{lt-leb}
+use Rattle.std.specs.Prelude.{◌≡◌, List, Bool}
+use Prim.Native.Nat.{ℕ}
 use Rattle.arrival.specs.declared.Shape.{Shape}
 use Rattle.arrival.specs.declared.Worker.{Worker}
-use Rattle.turn_file.specs.declared.Read.{Read}
-use Rattle.turn_file.specs.declared.Read.TheVariants.{Open, Act, End, Refused}
-use Rattle.turn_file.specs.Records.{Record, opens, acts}
-use Rattle.turn_file.specs.Reading.{record_at, whole}
-use Rattle.turn_file.proofs.OneReading.{read_on}
-use Rattle.batch.specs.declared.Stop.TheVariants.{Drained, Full, Halted}
-use Rattle.batch.specs.Held.{held_after, held, held_all}
-use Rattle.batch.specs.Held.{onward as held_Onward}
-use Rattle.batch.specs.Batch.{Progress, Stopped, has_room, wrote, onward, worked, worked_all}
+use Rattle.batch.specs.Held.{held_all}
+use Rattle.batch.specs.Batch.{Progress, worked_all}
 use Rattle.admission.specs.Watched.{Watched}
 
 -- From p the same is left to be worked through as from p₀; h and h₀ of the lent records are held.

@@ -1,6 +1,5 @@
 -- How many of the lent records count. Assumes nothing.
-use Rattle.std.specs.Prelude.{◌≡◌, refl, Bool, true, false, cond, ℕ, ◌≤◌, ltb}
-use Rattle.std.proofs.Common.{sym, ◌∙◌, arith, ltb-true, ltb-false, le-ltb}
+use Rattle.std.specs.Prelude.{cond, ℕ, ltb}
 
 -- of n: no shape has more than 64 workers
 abbrev pub counted_of : ℕ → ℕ

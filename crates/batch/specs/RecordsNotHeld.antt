@@ -3,45 +3,16 @@
 --     over, on_table, keeping_from     the first k records of one table and the rest of another; a batch on it, and what it left with it
 --     more                           records past the 64th do not matter, and stay
 -- Assumes nothing.
-use Rattle.std.specs.Prelude.{◌≡◌, Bool, ◌≢◌, ltb, length, take}
-use Rattle.std.proofs.Math.Path.{refl, ap, subst}
-use Rattle.std.proofs.Common.{sym, ◌∙◌, length-append, length-drop, take-append-drop, length-take-le, take_at}
-use Rattle.std.proofs.Math.Bool.{true, false, cond}
-use mathlib.Core.List.{List, [], ◌∷◌, ◌++◌, append_assoc}
-use Prim.Native.Nat.{ℕ, zero, suc, ◌+◌, ◌≤◌}
-use native.Mathlib.Omega.{arith}
-use Rattle.std.proofs.Math.Dec.{eqb}
-use Rattle.std.proofs.Math.ListN.{drop, replicate}
-use Rattle.std.proofs.lemmas.List.{length-replicate, drop-append-le}
-use borrow.Author.Tests.{eqb-true, eqb-false, ne_eqb, ltb-true, ltb-false}
+use Rattle.std.specs.Prelude.{◌≡◌, length, take}
+use Rattle.std.proofs.Math.Bool.{true}
+use mathlib.Core.List.{List, ◌++◌}
+use Prim.Native.Nat.{ℕ, ◌≤◌}
+use Rattle.std.proofs.Math.ListN.{drop}
 use Rattle.arrival.specs.declared.Shape.{Shape}
 use Rattle.arrival.specs.declared.Worker.{Worker}
-use Rattle.arrival.specs.declared.Action.{Action}
-use Rattle.arrival.specs.declared.Response.TheVariants as response
-use Rattle.calendar.specs.rules.Ranges.{shape_in_range, blank}
-use Rattle.calendar.proofs.facts.RangeFacts.{limits}
-use Rattle.calendar.specs.rules.Refusals.{open_refusal}
-use Rattle.calendar.proofs.facts.Accepted.{open_accepted}
-use Rattle.calendar.proofs.facts.RefusalParts.{refused_first}
-use Rattle.calendar.specs.rules.Opening.{open_store, open_table}
-use Rattle.calendar.specs.rules.Operations.{Result, act, open_pool}
-use Rattle.calendar.proofs.facts.Untouched.{act_same_size, open_same_size}
-use Rattle.calendar.specs.facts.RecordsBeyond.{keeping}
-use Rattle.calendar.proofs.facts.RecordsBeyond.{act_same}
-use Rattle.admission.proofs.GateLaws.{shape_tests}
-use Rattle.turn_file.specs.declared.Read.{Read}
-use Rattle.turn_file.specs.declared.Read.TheVariants.{Open, Act, End, Refused}
-use Rattle.turn_file.specs.Records.{Record, opens, acts}
-use Rattle.turn_file.specs.Reading.{record_at}
-use Rattle.turn_file.specs.Lines.{line_of}
-use Rattle.turn_file.specs.Buffer.{written, after}
-use Rattle.batch.specs.declared.Stop.{Stop}
-use Rattle.batch.specs.declared.Stop.TheVariants.{Drained, Full, Halted}
-use Rattle.batch.specs.Batch.{Pool, result_of, shape_after, Progress, Stopped, has_room, wrote, onward, worked, worked_all}
+use Rattle.calendar.specs.rules.Ranges.{shape_in_range}
+use Rattle.batch.specs.Batch.{Progress, Stopped}
 use Rattle.batch.specs.RecordsCounted.{counted_of}
-use Rattle.batch.specs.Held.{greater, held_after, held, held_all}
-use Rattle.batch.specs.Held as holding
-use Rattle.laws.specs.Storing.{over_taken}
 
 -- u has the first k records of t, and as many as count
 pub record Alike (k : ℕ) (t u : List Worker) : Type 0 where

@@ -3,18 +3,11 @@
 --     least                                   the lesser of two, and its bound
 --     least_of                                 the least of the first n, one by one
 --     low_for                                  the least where an action asks for it; it is that of the records
-use Rattle.std.specs.Prelude.{◌≡◌, refl, List, [], ◌∷◌, ◌++◌, Bool, true, false, cond, ◌&&◌, ℕ, zero, suc, ◌+◌, ◌<◌, ◌≤◌, ltb, length, get_or, set, take, drop}
-use Rattle.std.proofs.Common.{sym, ap, ◌∙◌, append-nil, arith, add-one, take_all, ltb-true, ltb-false, le-ltb}
-use Rattle.std.proofs.Math.Seq.{drop-length}
-use Rattle.laws.specs.Storing.{store_next}
-use Rattle.arrival.specs.declared.Shape.{Shape}
+use Rattle.std.specs.Prelude.{List, [], ◌∷◌, cond, ℕ, zero, suc, ltb, get_or}
 use Rattle.arrival.specs.declared.Worker.{Worker}
 use Rattle.arrival.specs.declared.Action.{Action}
 use Rattle.arrival.specs.declared.Action.TheVariants.{Enqueue, Dequeue, Step}
-use Rattle.calendar.specs.rules.Ranges.{worker}
-use Rattle.calendar.specs.rules.Reclaim.{in_progress}
-use Rattle.starts.specs.LeastTicket.{lower, least_ticket, least_bound}
-use Rattle.operation.specs.LocalAct.{LowFor}
+use Rattle.starts.specs.LeastTicket.{lower}
 
 abbrev pub ticket_of : Worker → ℕ
 ticket_of w = lower 4294967296 w

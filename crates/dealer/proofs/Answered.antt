@@ -5,7 +5,7 @@ use Rattle.std.specs.Prelude.{◌≡◌, List, ℕ}
 use Rattle.std.proofs.Common.{ap, ◌∙◌}
 use Rattle.wubraken.specs.Answers.{answer_of}
 use Rattle.wubraken.proofs.AnswerLaws.{answer_said}
-use Rattle.wubraken.specs.Results.{lent, Told, leaves, told}
+use Rattle.wubraken.specs.Results.{lent}
 use Rattle.arrival.specs.declared.Worker.{Worker}
 use Rattle.dealer.specs.declared.answers.Dealt.{Dealt}
 use Rattle.dealer.specs.declared.runs.Run.{Run}

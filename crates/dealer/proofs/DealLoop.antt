@@ -31,7 +31,6 @@ use Rattle.admission.proofs.GateLaws.{sound_opens, sound_watched}
 use Rattle.admission.specs.NarrowGate.{near_of}
 use Rattle.admission.proofs.NarrowGate.{near_opens}
 use Rattle.wubraken.specs.Results.{lent}
-use Rattle.wubraken.specs.Survey.{survey}
 use Rattle.wubraken.proofs.Survey.{survey_ok_is}
 use Rattle.dealer.specs.Runs.{flag_of}
 use Rattle.dealer.specs.Dealing.{

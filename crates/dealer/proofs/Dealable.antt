@@ -6,7 +6,7 @@
 --     served_is                  the dealt turn is the turn of its record, put back
 --     keeps_on, leaked           past a turn that goes on: as before; or, where it leaks, 3
 -- Assumes nothing.
-use Rattle.std.specs.Prelude.{◌≡◌, refl, List, Bool, true, false, cond, not, ◌&&◌, ◌||◌, ◌≢◌, ℕ, ◌<◌, length, set}
+use Rattle.std.specs.Prelude.{◌≡◌, refl, Bool, true, false, cond, not, ◌||◌, ◌≢◌, ℕ, ◌<◌, length, set}
 use Rattle.std.proofs.Common.{sym, ap, subst, ◌∙◌, arith, length-set}
 use borrow.Author.Tests.{eq-eqb, ne_eqb, lt-leb, le-ltb}
 use Rattle.arrival.specs.declared.Shape.{Shape}

@@ -9,10 +9,8 @@
 --     damaged                    one record out of range: a narrow turn is refused by 3 where that is the worker to be served, a whole one in any case
 --     moves_on                   the put's fifth turn is refused by 11: the memory stays, the dealer moves on, and the next turn is the take's
 -- Assumes nothing.
-use Rattle.std.specs.Prelude.{◌≡◌, refl, List, [], ◌∷◌, ◌++◌, Bool, true, false, ℕ, replicate, set}
-use Rattle.arrival.specs.declared.Shape.{Shape}
-use Rattle.arrival.specs.declared.Worker.{Worker}
-use Rattle.arrival.specs.declared.Action.TheVariants.{Enqueue, Dequeue, Step}
+use Rattle.std.specs.Prelude.{◌≡◌, refl, [], ◌∷◌, ◌++◌, Bool, true, false, set}
+use Rattle.arrival.specs.declared.Action.TheVariants.{Step}
 use Rattle.arrival.specs.declared.Request.TheVariants.{Whole, Narrow}
 use Rattle.arrival.specs.declared.Response.TheVariants.{Begun, On, Stored, Empty, Refused}
 use Rattle.arrival.specs.Keys.{bucket_of}
@@ -28,11 +26,11 @@ use Rattle.calendar.specs.rules.EnqueueSteps.{step_4, step_5, step_6, step_7}
 use Rattle.calendar.specs.rules.DequeueSteps.{walk, step_8, step_9, step_13}
 use Rattle.calendar.specs.rules.Steps.{step}
 use Rattle.calendar.specs.rules.Refusals.{out_of_range, open_refusal, enqueue_refusal, dequeue_refusal, step_refusal}
-use Rattle.calendar.specs.rules.Operations.{Memory, open_pool, act}
+use Rattle.calendar.specs.rules.Operations.{open_pool, act}
 use Rattle.calendar.specs.rules.NarrowCalls.{narrow_refusal, narrow_act, turns_after, narrow_call}
 use Rattle.calendar.proofs.facts.Starred.{arrival, lent}
 use Rattle.dealer.specs.Dealing.{new_dealer, first_busy_of, next_served, deal_refusal, dealt, dealt_on, dealt_run}
-use Rattle.dealer.specs.DealtHistory.{Move, asks, deals, memory_after, dealer_after, answers_to, served_in, requests_in, refused_in}
+use Rattle.dealer.specs.DealtHistory.{deals, memory_after, dealer_after, answers_to, served_in, requests_in, refused_in}
 use Rattle.dealer.specs.DealtExample.{three, dealing, starts, at_work, at_stage, torn, spent, late, at_the_end}
 
 -- ── in turn ──

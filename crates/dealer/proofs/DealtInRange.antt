@@ -17,7 +17,7 @@ use Rattle.arrival.specs.Responses.{said}
 use Rattle.laws.specs.Tests.{by_test}
 use Rattle.laws.proofs.Counting.{every_at}
 use Rattle.laws.specs.FirstOf.{lacks, first_lacks}
-use Rattle.calendar.specs.rules.Ranges.{worker, record_in_range, store_in_range, table_in_range}
+use Rattle.calendar.specs.rules.Ranges.{worker, record_in_range, table_in_range}
 use Rattle.calendar.specs.rules.Refusals.{bad_shape, too_short, out_of_range, no_worker}
 use Rattle.calendar.specs.rules.Operations.{Memory, actor, refusal, act, run}
 use Rattle.calendar.specs.rules.NarrowCalls.{turns_after, narrow_call}
@@ -31,7 +31,6 @@ use Rattle.dealer.specs.Dealing.{Deal, next_served, all_idle, served_in_range, d
 use Rattle.dealer.specs.DealtHistory.{Move, asks, deals, moved, memory_after, dealer_after, Unrefused3}
 use Rattle.dealer.proofs.Served.{served_busy}
 use Rattle.dealer.proofs.RequestLaws.{stays_requested}
-use Rattle.dealer.specs.DealtTurn.{Able}
 use Rattle.dealer.proofs.DealtTurn.{able_moved}
 use Rattle.dealer.specs.DealtInRange.{InRange, KeptAfter}
 

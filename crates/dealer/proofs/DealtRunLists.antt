@@ -9,7 +9,6 @@ use Rattle.std.proofs.Common.{◌∙◌}
 use mathlib.Core.List.{List, [], ◌∷◌, ◌++◌}
 use Rattle.arrival.specs.declared.Shape.{Shape}
 use Rattle.calendar.specs.rules.Operations.{Memory}
-use Rattle.dealer.specs.Dealing.{dealt_run}
 use Rattle.dealer.specs.DealtHistory.{Move, moved, memory_after, dealer_after, answers_to, served_in}
 use Rattle.dealer.specs.DealtRuns.{run_moves}
 use Rattle.dealer.proofs.DealtRuns.{run_moves_lem}

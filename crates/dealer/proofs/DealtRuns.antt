@@ -5,15 +5,13 @@
 --     narrow_run_same                         where the memory stays in range, a narrow run is as good
 --     stays_along, narrow_run_same_opened     so it stays along requests and dealt turns; so at any moment after an opening
 -- Assumes nothing.
-use Rattle.std.specs.Prelude.{◌≡◌, refl, List, [], ◌∷◌, ◌++◌, Bool, true, false, cond, ◌≢◌, ℕ, zero, suc, ◌+◌, ◌<◌, ◌≤◌, eqb, length, take}
+use Rattle.std.specs.Prelude.{◌≡◌, refl, List, [], ◌∷◌, Bool, true, false, cond, ℕ, zero, suc, ◌+◌, ◌<◌, ◌≤◌, eqb, length}
 use Rattle.std.proofs.Common.{sym, ap, ◌∙◌, arith}
 use Rattle.arrival.specs.declared.Shape.{Shape}
-use Rattle.arrival.specs.declared.Response.{Response}
-use Rattle.arrival.specs.declared.Response.TheVariants.{Opened, Refused}
+use Rattle.arrival.specs.declared.Response.TheVariants.{Opened}
 use Rattle.laws.specs.Tests.{never, by_test}
 use Rattle.calendar.specs.rules.Operations.{Memory, open_pool, run}
 use Rattle.calendar.specs.rules.NarrowCalls.{goes_on}
-use Rattle.calendar.specs.facts.NarrowTurns.{all_go_on}
 use Rattle.calendar.specs.facts.HostRun.{StaysInRange}
 use Rattle.lists.specs.NodeReuse.{always_in_range}
 use Rattle.dealer.specs.Dealing.{Deal, dealt, undealt, behind, dealt_on, dealt_run}

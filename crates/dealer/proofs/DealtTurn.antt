@@ -13,7 +13,7 @@ use Rattle.arrival.specs.declared.Shape.{Shape}
 use Rattle.arrival.specs.declared.Response.TheVariants.{Refused}
 use Rattle.laws.specs.Tests.{by_test}
 use Rattle.laws.specs.FirstOf.{first_of, first_none}
-use Rattle.calendar.specs.rules.Refusals.{bad_shape, too_short, memory_tests}
+use Rattle.calendar.specs.rules.Refusals.{too_short, memory_tests}
 use Rattle.calendar.specs.rules.Operations.{Memory, actor}
 use Rattle.calendar.specs.rules.HostHistory.{requested, action_of}
 use Rattle.calendar.specs.facts.Untouched.{SameSize}

@@ -3,26 +3,21 @@
 --     refused_begun, goes_begun       the arms of `begun`
 --     idle_visited .. served_visited  the arms of `visited`
 -- Assumes nothing.
-use Rattle.std.specs.Prelude.{◌≡◌, List, Bool, true, false, cond, not, ◌||◌, ◌≢◌, ℕ, ◌+◌, ◌-◌, ◌<◌, eqb, length}
+use Rattle.std.specs.Prelude.{◌≡◌, List, Bool, true, false, not, ◌||◌, ◌≢◌, ℕ, ◌+◌, eqb, length}
 use Rattle.std.proofs.Math.Path.{sym, ap}
 use Rattle.std.proofs.Common.{◌∙◌}
 use borrow.Author.Tests.{eq-eqb, ne_eqb}
 use Rattle.arrival.specs.declared.Shape.{Shape}
 use Rattle.arrival.specs.declared.Worker.{Worker}
 use Rattle.arrival.specs.declared.Response.{Response}
-use Rattle.arrival.specs.declared.Response.TheVariants.{On, Refused}
-use Rattle.calendar.specs.rules.Ranges.{shape_in_range, record_in_range}
-use Rattle.calendar.specs.rules.Reclaim.{in_progress}
+use Rattle.arrival.specs.declared.Response.TheVariants.{Refused}
+use Rattle.calendar.specs.rules.Ranges.{record_in_range}
 use Rattle.calendar.specs.rules.NarrowCalls.{goes_on}
-use Rattle.words.specs.Done.{Done, gives}
+use Rattle.words.specs.Done.{gives}
 use Rattle.words.specs.declared.replies.Reply.{Reply}
-use Rattle.admission.specs.Gate.{gate_of, sound_of}
-use Rattle.admission.specs.NarrowGate.{near_of}
-use Rattle.stages.specs.Ready.{Ready}
+use Rattle.admission.specs.Gate.{gate_of}
 use Rattle.stages.specs.LocalStep.{local_step}
 use Rattle.dealer.specs.declared.runs.Run.{Run}
-use Rattle.dealer.specs.declared.visits.Visit.{Visit}
-use Rattle.dealer.specs.Dealing.{worker_after}
 use Rattle.dealer.specs.Dealable.{leaks_of}
 use Rattle.dealer.specs.Runs.{flag_of, stopped_by, started_at, unbegun, begun, passed_by, moved_on, served, visited}
 

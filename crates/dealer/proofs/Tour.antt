@@ -6,7 +6,7 @@
 use Rattle.std.specs.Prelude.{◌≡◌, List, Bool, true, false, cond, not, ◌||◌, ◌≢◌, eqb, length, set}
 use Rattle.std.proofs.Math.Path.{refl, ap}
 use Rattle.std.proofs.Common.{sym, subst, ◌∙◌}
-use Prim.Native.Nat.{ℕ, zero, suc, ◌+◌, ◌-◌, ◌*◌, ◌<◌, ◌≤◌}
+use Prim.Native.Nat.{ℕ, zero, suc, ◌+◌, ◌-◌, ◌<◌}
 use Rattle.std.proofs.Math.Nat.{suc-mul}
 use native.Mathlib.Omega.{arith}
 use Rattle.std.proofs.lemmas.List.{set-get_or}
@@ -30,7 +30,7 @@ use Rattle.dealer.specs.Dealing.{worker_after, first_busy_of, next_served, Deal,
 use Rattle.dealer.proofs.Served.{after_below}
 use Rattle.dealer.specs.Answered.{leaves_deal}
 use Rattle.dealer.specs.Dealable.{Dealable, leaks_of}
-use Rattle.dealer.specs.Runs.{flag_of, stopped_by, started_at, unbegun, begun, passed_by, moved_on, Visited, served, visited, Visitable}
+use Rattle.dealer.specs.Runs.{flag_of, stopped_by, started_at, unbegun, begun, passed_by, moved_on, served, visited, Visitable}
 use Rattle.dealer.specs.DealLoop.{ok_of, running}
 use Rattle.dealer.proofs.DealLoop.{passed_by_lem, away_at_first, away, none_dealt}
 use Rattle.dealer.specs.DealRound.{Round}

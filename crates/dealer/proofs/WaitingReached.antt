@@ -7,10 +7,10 @@
 --     leak, unrefused_3_needed_begun     a dealt turn leads it out of range, and every later one is refused by 3
 --     unrefused_3_needed                 so also where the call stays in progress
 -- Assumes nothing.
-use Rattle.std.specs.Prelude.{◌≡◌, refl, List, [], ◌∷◌, ◌++◌, true, false, ℕ, ◌-◌, ◌<◌, ◌≤◌, replicate}
+use Rattle.std.specs.Prelude.{◌≡◌, refl, List, [], ◌∷◌, true, false, ℕ, ◌-◌, ◌<◌, ◌≤◌}
 use Rattle.std.proofs.Common.{sym, ap, ◌∙◌, arith}
 use Rattle.arrival.specs.declared.Shape.{Shape}
-use Rattle.arrival.specs.declared.Action.TheVariants.{Dequeue, Step}
+use Rattle.arrival.specs.declared.Action.TheVariants.{Step}
 use Rattle.arrival.specs.declared.Request.TheVariants.{Whole}
 use Rattle.arrival.specs.declared.Response.TheVariants.{Opened, On, Refused}
 use Rattle.laws.specs.Tests.{never}

@@ -3,10 +3,8 @@
 --     leaves_deal                      memory and what a run has, as a `Deal`
 --     Handed, hands, handed           the same in numbers: of what the code left, and of a `Deal`
 -- Assumes nothing.
-use Rattle.std.specs.Prelude.{◌≡◌, List, ℕ}
-use Rattle.std.proofs.Common.{ap, ◌∙◌}
+use Rattle.std.specs.Prelude.{List, ℕ}
 use Rattle.wubraken.specs.Answers.{answer_of}
-use Rattle.wubraken.proofs.AnswerLaws.{answer_said}
 use Rattle.wubraken.specs.Results.{lent, Told, leaves, told}
 use Rattle.arrival.specs.declared.Worker.{Worker}
 use Rattle.dealer.specs.declared.answers.Dealt.{Dealt}

@@ -3,32 +3,15 @@
 --     MayTurn                    what lets the turn be made
 --     leaks_of                    whether a look at everything finds something out of range past a turn
 -- Assumes nothing.
-use Rattle.std.specs.Prelude.{◌≡◌, refl, List, Bool, true, false, cond, not, ◌&&◌, ◌||◌, ◌≢◌, ℕ, ◌<◌, length, set}
-use Rattle.std.proofs.Common.{sym, ap, subst, ◌∙◌, arith, length-set}
-use borrow.Author.Tests.{eq-eqb, ne_eqb, lt-leb, le-ltb}
+use Rattle.std.specs.Prelude.{◌≡◌, List, Bool, true, false, ◌&&◌, ◌||◌, ℕ, ◌<◌}
 use Rattle.arrival.specs.declared.Shape.{Shape}
 use Rattle.arrival.specs.declared.Worker.{Worker}
-use Rattle.arrival.specs.declared.Action.TheVariants.{Step}
-use Rattle.calendar.specs.rules.Layout.{layout}
-use Rattle.calendar.specs.rules.Ranges.{worker, record_in_range}
-use Rattle.calendar.specs.rules.Operations.{Memory, Result, act}
-use Rattle.calendar.specs.rules.NarrowCalls.{goes_on, turns_after, narrow_call}
-use Rattle.calendar.specs.rules.HostHistory.{requested}
+use Rattle.calendar.specs.rules.Ranges.{record_in_range}
+use Rattle.calendar.specs.rules.Operations.{Memory}
 use Rattle.calendar.specs.facts.RangeFacts.{WordRanges}
-use Rattle.calendar.proofs.facts.RangeFacts.{word_tests, record_ranges}
 use Rattle.calendar.specs.facts.RangesKept.{leaks}
 use Rattle.calendar.specs.facts.Accepted.{Lent}
-use Rattle.words.specs.Done.{Done}
-use Rattle.words.specs.Laid.{laid}
-use Rattle.admission.specs.Watched.{in_range, Watched}
-use Rattle.admission.specs.Gate.{gate_of, open_gate}
-use Rattle.admission.proofs.GateLaws.{shape_tests, lent_passes, passes, usable}
-use Rattle.admission.specs.NarrowGate.{near_of}
-use Rattle.operation.specs.LocalAct.{local_act, Admitted, back}
-use Rattle.operation.proofs.LocalAct.{admitted, act_is, narrow_is}
-use Rattle.operation.proofs.LocalTurns.{act_length, going}
-use Rattle.operation.proofs.LeakLaws.{act_watched}
-use Rattle.dealer.specs.Dealing.{next_served, all_idle, deal_out, deal_refusal, turn_of, serving, turned_away, dealt}
+use Rattle.admission.specs.Watched.{in_range}
 
 -- what is known to be in range
 abbrev pub Kept : Bool → Shape → Memory → Type 0

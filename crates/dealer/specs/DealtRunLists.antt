@@ -1,14 +1,12 @@
 -- Requests and dealt turns in two lists one behind the other; and so a run among them.
 --     run_amid, RunBetween                a run between two lists
 -- Assumes nothing.
-use Rattle.std.specs.Prelude.{◌≡◌, Bool, true, false, cond, ℕ, eqb}
-use Rattle.std.proofs.Math.Path.{refl, ap}
-use Rattle.std.proofs.Common.{◌∙◌}
-use mathlib.Core.List.{List, [], ◌∷◌, ◌++◌}
+use Rattle.std.specs.Prelude.{◌≡◌, Bool, ℕ}
+use mathlib.Core.List.{List, ◌++◌}
 use Rattle.arrival.specs.declared.Shape.{Shape}
 use Rattle.calendar.specs.rules.Operations.{Memory}
 use Rattle.dealer.specs.Dealing.{dealt_run}
-use Rattle.dealer.specs.DealtHistory.{Move, moved, memory_after, dealer_after, answers_to, served_in}
+use Rattle.dealer.specs.DealtHistory.{Move, memory_after, dealer_after, answers_to, served_in}
 use Rattle.dealer.specs.DealtRuns.{run_moves}
 
 -- ── a run between two lists ──

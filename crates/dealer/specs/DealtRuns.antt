@@ -1,19 +1,15 @@
 -- A run is dealt turns one by one.
 --     run_moves, RunMoves                          the turns to be dealt in a run; it leaves what they leave, and all but the last go on
 -- Assumes nothing.
-use Rattle.std.specs.Prelude.{◌≡◌, refl, List, [], ◌∷◌, ◌++◌, Bool, true, false, cond, ◌≢◌, ℕ, zero, suc, ◌+◌, ◌<◌, ◌≤◌, eqb, length, take}
-use Rattle.std.proofs.Common.{sym, ap, ◌∙◌, arith}
+use Rattle.std.specs.Prelude.{◌≡◌, List, [], ◌∷◌, ◌++◌, Bool, true, false, cond, ◌≢◌, ℕ, zero, suc, ◌<◌, ◌≤◌, length, take}
 use Rattle.arrival.specs.declared.Shape.{Shape}
 use Rattle.arrival.specs.declared.Response.{Response}
-use Rattle.arrival.specs.declared.Response.TheVariants.{Opened, Refused}
-use Rattle.laws.specs.Tests.{never, by_test}
-use Rattle.calendar.specs.rules.Operations.{Memory, open_pool, run}
+use Rattle.arrival.specs.declared.Response.TheVariants.{Refused}
+use Rattle.calendar.specs.rules.Operations.{Memory}
 use Rattle.calendar.specs.rules.NarrowCalls.{goes_on}
 use Rattle.calendar.specs.facts.NarrowTurns.{all_go_on}
-use Rattle.calendar.specs.facts.HostRun.{StaysInRange}
-use Rattle.lists.specs.NodeReuse.{always_in_range}
-use Rattle.dealer.specs.Dealing.{Deal, dealt, undealt, behind, dealt_on, dealt_run}
-use Rattle.dealer.specs.DealtHistory.{Move, deals, moved, memory_after, dealer_after, answers_to, served_in}
+use Rattle.dealer.specs.Dealing.{dealt, dealt_run}
+use Rattle.dealer.specs.DealtHistory.{Move, deals, memory_after, dealer_after, answers_to, served_in}
 
 -- ── the turns to be dealt ──
 unfoldable pub run_moves : Bool → Shape → ℕ → Memory → ℕ → List Move

@@ -5,10 +5,7 @@
 --     Visited, visits, visited        run, record and store behind a look at a candidate: of what the code left, and by the rules
 --     Visitable                       what the look needs
 -- Assumes nothing.
-use Rattle.std.specs.Prelude.{◌≡◌, List, Bool, true, false, cond, not, ◌||◌, ◌≢◌, ℕ, ◌+◌, ◌-◌, ◌<◌, eqb, length}
-use Rattle.std.proofs.Math.Path.{sym, ap}
-use Rattle.std.proofs.Common.{◌∙◌}
-use borrow.Author.Tests.{eq-eqb, ne_eqb}
+use Rattle.std.specs.Prelude.{◌≡◌, List, Bool, true, false, cond, not, ◌||◌, ℕ, ◌+◌, ◌-◌, ◌<◌, eqb, length}
 use Rattle.arrival.specs.declared.Shape.{Shape}
 use Rattle.arrival.specs.declared.Worker.{Worker}
 use Rattle.arrival.specs.declared.Response.{Response}
@@ -16,8 +13,7 @@ use Rattle.arrival.specs.declared.Response.TheVariants.{On, Refused}
 use Rattle.calendar.specs.rules.Ranges.{shape_in_range, record_in_range}
 use Rattle.calendar.specs.rules.Reclaim.{in_progress}
 use Rattle.calendar.specs.rules.NarrowCalls.{goes_on}
-use Rattle.words.specs.Done.{Done, gives}
-use Rattle.words.specs.declared.replies.Reply.{Reply}
+use Rattle.words.specs.Done.{Done}
 use Rattle.admission.specs.Gate.{gate_of, sound_of}
 use Rattle.admission.specs.NarrowGate.{near_of}
 use Rattle.stages.specs.Ready.{Ready}

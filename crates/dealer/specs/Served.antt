@@ -4,17 +4,13 @@
 --     FirstBusy                  who is served is the first after the dealer: none between the two has a call in progress
 --     Ahead                      among the k workers that follow n
 -- Assumes nothing.
-use Rattle.std.specs.Prelude.{◌≡◌, refl, List, Bool, true, false, cond, ◌⊎◌, ◌≢◌, ltb}
-use Rattle.std.proofs.Common.{sym, ap, subst, ◌∙◌, inl, inr, arith, ltb-true, ltb-false, eqb-true}
+use Rattle.std.specs.Prelude.{◌≡◌, List, true, false, ◌⊎◌}
 use Prim.Native.Nat.{ℕ, zero, suc, ◌+◌, ◌<◌, ◌≤◌}
-use Rattle.std.proofs.Math.Decide.{dec_lt, ℕ_discrete}
-use Rattle.std.proofs.lemmas.Bool.{eqb-false}
 use Rattle.arrival.specs.declared.Shape.{Shape}
 use Rattle.arrival.specs.declared.Worker.{Worker}
-use Rattle.laws.specs.Tests.{never, is_false}
 use Rattle.calendar.specs.rules.Ranges.{worker}
 use Rattle.calendar.specs.rules.Reclaim.{in_progress}
-use Rattle.dealer.specs.Dealing.{worker_after, first_busy_of, next_served, all_idle}
+use Rattle.dealer.specs.Dealing.{worker_after}
 
 -- ── none between ──
 -- the k-th worker after n, going round

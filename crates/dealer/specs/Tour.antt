@@ -4,35 +4,19 @@
 --     todo                            how much is left
 --     Moved                           what the look leaves is sound, wants the same, and has less to do
 -- Assumes nothing.
-use Rattle.std.specs.Prelude.{◌≡◌, List, Bool, true, false, cond, not, ◌||◌, ◌≢◌, eqb, length, set}
-use Rattle.std.proofs.Math.Path.{refl, ap}
-use Rattle.std.proofs.Common.{sym, subst, ◌∙◌}
-use Prim.Native.Nat.{ℕ, zero, suc, ◌+◌, ◌-◌, ◌*◌, ◌<◌, ◌≤◌}
-use Rattle.std.proofs.Math.Nat.{suc-mul}
-use native.Mathlib.Omega.{arith}
-use Rattle.std.proofs.lemmas.List.{set-get_or}
-use borrow.Author.Tests.{eqb-true, eqb-false}
+use Rattle.std.specs.Prelude.{◌≡◌, List, Bool, true, cond, length, set}
+use Prim.Native.Nat.{ℕ, suc, ◌+◌, ◌-◌, ◌*◌, ◌<◌, ◌≤◌}
 use Rattle.arrival.specs.declared.Shape.{Shape}
 use Rattle.arrival.specs.declared.Worker.{Worker}
-use Rattle.arrival.specs.declared.Response.TheVariants.{Refused}
-use Rattle.laws.specs.Tests.{never, by_test}
-use Rattle.calendar.specs.rules.Ranges.{blank, worker, record_in_range}
+use Rattle.calendar.specs.rules.Ranges.{worker}
 use Rattle.calendar.specs.rules.Reclaim.{in_progress}
-use Rattle.calendar.specs.rules.NarrowCalls.{goes_on}
-use Rattle.words.specs.Done.{Done, gives}
-use Rattle.words.specs.declared.replies.Reply.{Reply}
-use Rattle.stages.specs.Ready.{Ready}
-use Rattle.stages.specs.LocalStep.{local_step}
-use Rattle.admission.specs.Gate.{gate_of}
-use Rattle.admission.proofs.GateLaws.{shape_tests}
 use Rattle.wubraken.specs.Results.{lent}
 use Rattle.dealer.specs.declared.runs.Run.{Run}
-use Rattle.dealer.specs.Dealing.{worker_after, first_busy_of, next_served, Deal, dealt_on, dealt_run}
+use Rattle.dealer.specs.Dealing.{first_busy_of, next_served, Deal, dealt_on}
 use Rattle.dealer.specs.Answered.{leaves_deal}
-use Rattle.dealer.specs.Dealable.{Dealable, leaks_of}
-use Rattle.dealer.specs.Runs.{flag_of, stopped_by, started_at, unbegun, begun, passed_by, moved_on, Visited, served, visited, Visitable}
-use Rattle.dealer.specs.DealLoop.{ok_of, running}
-use Rattle.dealer.specs.DealRound.{Round}
+use Rattle.dealer.specs.Dealable.{Dealable}
+use Rattle.dealer.specs.Runs.{Visited}
+use Rattle.dealer.specs.DealLoop.{running}
 
 -- of the workers that are left, with the candidate, the first that has a call in progress is the next to be served
 pub record Touring (whole : Bool) (sh : Shape) (turns : ℕ) (r : Run) (s : List ℕ) (t : List Worker) : Type 0 where

@@ -3,32 +3,13 @@
 --     ended_by_host                      the host makes the turns of worker 2 itself
 --     leaky                              a memory in range
 -- Assumes nothing.
-use Rattle.std.specs.Prelude.{◌≡◌, refl, List, [], ◌∷◌, ◌++◌, true, false, ℕ, ◌-◌, ◌<◌, ◌≤◌, replicate}
-use Rattle.std.proofs.Common.{sym, ap, ◌∙◌, arith}
-use Rattle.arrival.specs.declared.Shape.{Shape}
+use Rattle.std.specs.Prelude.{List, [], ◌∷◌, ◌++◌, true, replicate}
 use Rattle.arrival.specs.declared.Action.TheVariants.{Dequeue, Step}
 use Rattle.arrival.specs.declared.Request.TheVariants.{Whole}
-use Rattle.arrival.specs.declared.Response.TheVariants.{Opened, On, Refused}
-use Rattle.laws.specs.Tests.{never}
-use Rattle.laws.specs.Counting.{every}
-use Rattle.laws.specs.Lists.{words_from}
-use Rattle.laws.specs.FirstOf.{first_of}
-use Rattle.calendar.specs.rules.Layout.{address, read, write}
-use Rattle.calendar.specs.rules.Ranges.{blank, worker, store_in_range, table_in_range}
-use Rattle.calendar.specs.rules.Reclaim.{in_progress}
-use Rattle.calendar.specs.rules.Opening.{open_store, open_table}
-use Rattle.calendar.specs.rules.Starts.{dequeue_start}
-use Rattle.calendar.specs.rules.SearchSteps.{settle, step_3}
-use Rattle.calendar.specs.rules.DequeueSteps.{walk, step_8, step_9, step_13}
-use Rattle.calendar.specs.rules.Steps.{step}
-use Rattle.calendar.specs.rules.Refusals.{too_short, out_of_range, memory_tests, open_refusal, dequeue_refusal, step_refusal}
-use Rattle.calendar.specs.rules.Operations.{Memory, open_pool, act}
-use Rattle.calendar.specs.rules.NarrowCalls.{narrow_refusal, narrow_act, turns_after, narrow_call}
+use Rattle.calendar.specs.rules.Operations.{Memory, open_pool}
 use Rattle.calendar.proofs.facts.Starred.{lent}
-use Rattle.lists.specs.NodeReuse.{always_in_range}
-use Rattle.dealer.specs.Dealing.{new_dealer, first_busy_of, deal_refusal, dealt}
-use Rattle.dealer.specs.DealtHistory.{Move, asks, memory_after, dealer_after, answers_to, served_in, among, deals_in, no_turn_of}
-use Rattle.dealer.specs.DealtHistory.{Unrefused3, StaysInProgress}
+use Rattle.dealer.specs.Dealing.{new_dealer}
+use Rattle.dealer.specs.DealtHistory.{Move, asks, memory_after}
 use Rattle.dealer.specs.DealtExample.{three, dealing, at_stage}
 
 unfoldable pub begins : List Move

@@ -1,3 +1,4 @@
+-- Theorems. What they speak of stands in specs.
 pub mod DecayRun
 pub mod Rest
 pub mod DecayRefusals

@@ -1,3 +1,4 @@
+-- Theorems. What they speak of stands in specs.
 pub mod EchogramRun
 pub mod AtSlot
 pub mod Recorded

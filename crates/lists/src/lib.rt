@@ -18,5 +18,4 @@ pub fn nodes_stay()
     ensures epoch { (sh : Shape) (j x : ℕ) → j < sh.workers → x < sh.nodes → (m : Memory) → (open_pool sh m).response ≡ Opened
         → (g h : List Action) → let n = run sh (open_pool sh m).memory g in
         Throughout sh (OnlyStandsOn sh x) j n h → epoch_at sh (run sh n h).store x ≡ epoch_at sh n.store x }
-{
-}
+{}

@@ -1,14 +1,13 @@
 -- The flag for refusal 3 past an action that the gate lets in: down just where a turn leaks.
 --     act_watched                     whether an action leaves the ranges; the flag past it
 -- Assumes nothing.
-use Rattle.std.specs.Prelude.{◌≡◌, List, Bool, cond, not, ◌≢◌, ℕ, length}
+use Rattle.std.specs.Prelude.{◌≡◌, Bool, cond, not, ◌≢◌, ℕ, length}
 use Rattle.std.proofs.Math.Path.{refl, sym}
 use Rattle.std.proofs.Common.{◌∙◌, eqb-true}
 use Rattle.std.proofs.Math.Bool.{true, false}
 use Rattle.std.proofs.Math.Dec.{eqb}
 use Rattle.std.proofs.lemmas.Bool.{eqb-false}
 use Rattle.arrival.specs.declared.Shape.{Shape}
-use Rattle.arrival.specs.declared.Worker.{Worker}
 use Rattle.arrival.specs.declared.Action.{Action}
 use Rattle.arrival.specs.declared.Action.TheVariants.{Enqueue, Dequeue, Step}
 use Rattle.arrival.specs.declared.Response.TheVariants as response

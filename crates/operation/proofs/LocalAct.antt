@@ -2,7 +2,7 @@
 --     local_enqueue_lem, local_dequeue_lem, local_step_lem  what the code of the three gives is that
 --     admitted                                  what it may count on; what refusals 1 to 4 leave is enough
 --     act_is, narrow_is                         put back into the table, it is the action on the lent memory, by a look at all of it or a narrow one
-use Rattle.std.specs.Prelude.{◌≡◌, refl, List, Bool, true, false, cond, ℕ, ◌<◌, ◌≤◌, eqb, length, set}
+use Rattle.std.specs.Prelude.{◌≡◌, refl, List, Bool, true, false, cond, ℕ, ◌<◌, ◌≤◌, eqb, length}
 use Rattle.std.proofs.Common.{ap, ◌∙◌, arith}
 use Rattle.std.proofs.lemmas.List.{set-get_or}
 use borrow.Author.Tests.{lt-leb, eq-eqb}
@@ -13,20 +13,18 @@ use Rattle.arrival.specs.declared.Action.{Action}
 use Rattle.arrival.specs.declared.Action.TheVariants.{Enqueue, Dequeue, Step}
 use Rattle.arrival.specs.declared.Response.TheVariants.{Refused}
 use Rattle.calendar.specs.rules.Ranges.{blank, worker}
-use Rattle.calendar.specs.rules.Refusals.{own_tests}
 use Rattle.laws.specs.FirstOf.{first_of}
-use Rattle.calendar.specs.rules.Operations.{Memory, Result, unless, perform, actor, outcome_of, outcome, act}
+use Rattle.calendar.specs.rules.Operations.{Memory, unless, perform, actor, outcome, act}
 use Rattle.calendar.specs.rules.NarrowCalls.{records_in_range, narrow_act}
-use Rattle.calendar.specs.facts.RangeFacts.{Limits, WordRanges, RecordRanges}
+use Rattle.calendar.specs.facts.RangeFacts.{RecordRanges}
 use Rattle.calendar.proofs.facts.RangeFacts.{table_ranges}
 use Rattle.calendar.specs.facts.Accepted.{Usable}
-use Rattle.words.specs.Laid.{Laid, laid}
-use Rattle.words.specs.Done.{Done, done, refused, unless_refused}
+use Rattle.words.specs.Laid.{laid}
+use Rattle.words.specs.Done.{done, refused, unless_refused}
 use Rattle.stages.specs.Ready.{Ready}
 use Rattle.stages.specs.LocalStep.{local_step}
-use Rattle.starts.specs.LeastTicket.{least_ticket}
-use Rattle.starts.specs.FreeSearch.{first_free_below, first_free_is}
-use Rattle.starts.specs.LocalStart.{none_below, local_enqueue, local_dequeue}
+use Rattle.starts.specs.FreeSearch.{first_free_is}
+use Rattle.starts.specs.LocalStart.{local_enqueue, local_dequeue}
 use Rattle.admission.specs.Watched.{Watched}
 use Rattle.admission.specs.Gate.{gate_of}
 use Rattle.admission.proofs.GateLaws.{own_of, usable, refusal_is}

@@ -26,7 +26,7 @@ use Rattle.calendar.specs.rules.Refusals.{own_tests, enqueue_own, dequeue_own, s
 use Rattle.calendar.specs.rules.Operations.{Memory, outcome_of}
 use Rattle.calendar.specs.rules.NarrowCalls.{records_in_range, narrow_act, goes_on, turns_after}
 use Rattle.laws.specs.FirstOf.{first_of, first_none}
-use Rattle.calendar.specs.facts.RangeFacts.{Limits, WordRanges, RecordRanges}
+use Rattle.calendar.specs.facts.RangeFacts.{Limits, RecordRanges}
 use Rattle.calendar.proofs.facts.RangeFacts.{word_tests, record_ranges, record_tests_lem}
 use Rattle.calendar.specs.facts.Accepted.{Lent}
 use Rattle.calendar.proofs.facts.Inside.{length_write_all}

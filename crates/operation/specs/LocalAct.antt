@@ -3,36 +3,21 @@
 --     Admitted                                  what it may count on; what refusals 1 to 4 leave is enough
 --     back                                      the record back in the table
 --     LowFor, TicketsFor                        what a put asks of `low` and of the tickets in the table
-use Rattle.std.specs.Prelude.{◌≡◌, refl, List, Bool, true, false, cond, ℕ, ◌<◌, ◌≤◌, eqb, length, set}
-use Rattle.std.proofs.Common.{ap, ◌∙◌, arith}
-use Rattle.std.proofs.lemmas.List.{set-get_or}
-use borrow.Author.Tests.{lt-leb, eq-eqb}
+use Rattle.std.specs.Prelude.{◌≡◌, List, ℕ, ◌<◌, set}
 use Rattle.arrival.specs.declared.Shape.{Shape}
-use Rattle.arrival.specs.declared.Arrival.{Arrival}
 use Rattle.arrival.specs.declared.Worker.{Worker}
 use Rattle.arrival.specs.declared.Action.{Action}
 use Rattle.arrival.specs.declared.Action.TheVariants.{Enqueue, Dequeue, Step}
-use Rattle.arrival.specs.declared.Response.TheVariants.{Refused}
-use Rattle.calendar.specs.rules.Ranges.{blank, worker}
+use Rattle.calendar.specs.rules.Ranges.{worker}
 use Rattle.calendar.specs.rules.Refusals.{own_tests}
 use Rattle.laws.specs.FirstOf.{first_of}
-use Rattle.calendar.specs.rules.Operations.{Memory, Result, unless, perform, actor, outcome_of, outcome, act}
-use Rattle.calendar.specs.rules.NarrowCalls.{records_in_range, narrow_act}
+use Rattle.calendar.specs.rules.Operations.{Result, outcome_of}
 use Rattle.calendar.specs.facts.RangeFacts.{Limits, WordRanges, RecordRanges}
-use Rattle.calendar.proofs.facts.RangeFacts.{table_ranges}
-use Rattle.calendar.specs.facts.Accepted.{Usable}
-use Rattle.words.specs.Laid.{Laid, laid}
-use Rattle.words.specs.Done.{Done, done, refused, unless_refused}
-use Rattle.stages.specs.Ready.{Ready}
-use Rattle.stages.specs.LocalStep.{local_step}
+use Rattle.words.specs.Laid.{Laid}
+use Rattle.words.specs.Done.{Done, done, unless_refused}
 use Rattle.starts.specs.LeastTicket.{least_ticket}
-use Rattle.starts.specs.FreeSearch.{first_free_below, first_free_is}
-use Rattle.starts.specs.LocalStart.{none_below, local_enqueue, local_dequeue}
-use Rattle.admission.specs.Watched.{Watched}
-use Rattle.admission.specs.Gate.{gate_of}
-use Rattle.admission.proofs.GateLaws.{own_of, usable, refusal_is}
-use Rattle.admission.specs.NarrowGate.{near_of, RecordsSeen}
-use Rattle.admission.proofs.NarrowGate.{near_passed, narrow_first}
+use Rattle.starts.specs.FreeSearch.{first_free_below}
+use Rattle.starts.specs.LocalStart.{none_below}
 
 unfoldable pub local_act : Shape → ℕ → List ℕ → Action → Worker → Done
 local_act sh low s a w =

@@ -22,5 +22,4 @@ pub fn promises_kept()
     ensures host_swapped { HostAlways Swapped }
     ensures host_once_each { HostAlways OnceEach }
     ensures host_drains { HostDrains }
-{
-}
+{}

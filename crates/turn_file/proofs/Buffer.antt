@@ -1,6 +1,6 @@
 -- A line in a lent buffer: where it fits it replaces as many bytes, else the buffer is as it was.
 -- Assumes nothing.
-use Rattle.std.specs.Prelude.{◌≡◌, refl, cond, List, ◌++◌, ℕ, ◌+◌, ◌<◌, ◌≤◌, leb, take, drop}
+use Rattle.std.specs.Prelude.{◌≡◌, refl, List, ◌++◌, ℕ, ◌+◌, ◌<◌, ◌≤◌, leb, take, drop}
 use Rattle.std.proofs.Common.{ap, ◌∙◌, sym, arith, length-append, leb-true, le-leb}
 use Rattle.std.proofs.Math.ListN.{length}
 use Rattle.std.proofs.lemmas.List.Edits.{sets, sets-eq}

@@ -1,9 +1,7 @@
 -- The records of a turn file, their marks and their sizes.
 -- Assumes nothing.
-use Rattle.std.specs.Prelude.{cond, ℕ, ◌+◌, ◌*◌, ◌<◌, ◌≤◌, eqb}
+use Rattle.std.specs.Prelude.{ℕ, ◌<◌, ◌≤◌, eqb}
 use Rattle.std.proofs.Common.{arith, eqb-true}
-use Rattle.arrival.specs.declared.Shape.{Shape}
-use Rattle.arrival.specs.declared.Action.{Action}
 use Rattle.laws.specs.Tests.{by_test, by_size}
 use Rattle.turn_file.specs.Records.{OP, PU, TA, TU, size_of}
 

@@ -1,13 +1,7 @@
 -- A line in a lent buffer: where it fits it replaces as many bytes, else the buffer is as it was.
 -- Assumes nothing.
-use Rattle.std.specs.Prelude.{◌≡◌, refl, cond, List, ◌++◌, ℕ, ◌+◌, ◌<◌, ◌≤◌, leb, take, drop}
-use Rattle.std.proofs.Common.{ap, ◌∙◌, sym, arith, length-append, leb-true, le-leb}
+use Rattle.std.specs.Prelude.{cond, List, ◌++◌, ℕ, ◌+◌, leb, take, drop}
 use Rattle.std.proofs.Math.ListN.{length}
-use Rattle.std.proofs.lemmas.List.Edits.{sets, sets-eq}
-use Rattle.std.proofs.Math.Seq.{length-sets}
-use Rattle.std.proofs.lemmas.Bool.{lt-leb}
-use Rattle.laws.specs.Tests.{by_test, by_size}
-use Rattle.laws.specs.Storing.{behind}
 
 unfoldable pub written : List ℕ → ℕ → List ℕ → List ℕ
 written s at line = cond (leb (at + length line) (length s)) (take at s ++ line ++ drop (at + length line) s) s

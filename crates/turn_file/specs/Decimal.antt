@@ -1,9 +1,6 @@
 -- A number in decimal, as ASCII: no leading zeros, and one digit for zero.
 -- Assumes nothing.
-use Rattle.std.specs.Prelude.{◌≡◌, Bool, true, false, List, [], ◌∷◌, ◌++◌, ℕ, zero, suc, ◌+◌, ◌/◌, ◌%◌, ◌^◌, ◌<◌, ◌≤◌, ltb, length}
-use Rattle.std.proofs.Math.Nat.{pow-succ'}
-use Rattle.std.proofs.Common.{arith, length-append, lt-ltb, le-ltb}
-use Rattle.laws.specs.Tests.{by_size}
+use Rattle.std.specs.Prelude.{Bool, true, false, List, [], ◌∷◌, ◌++◌, ℕ, zero, suc, ◌+◌, ◌/◌, ◌%◌, ltb}
 
 -- Below ten one digit; else the digits of the tenth part, and the last one. The first number is a bound on the digits,
 -- the test whether the second is below ten.

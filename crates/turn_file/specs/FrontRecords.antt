@@ -3,14 +3,10 @@
 --     Bytes                                   each element is a byte
 --     mark_of                                  the mark and the size of an encoded record
 -- Assumes nothing.
-use Rattle.std.specs.Prelude.{◌≡◌, refl, List, [], ◌∷◌, ◌++◌, ℕ, zero, suc, ◌+◌, ◌*◌, ◌/◌, ◌%◌, ◌<◌, ◌≤◌, length, take}
-use Rattle.std.proofs.Common.{arith}
+use Rattle.std.specs.Prelude.{List, ℕ, ◌<◌}
 use Rattle.arrival.specs.declared.Action.TheVariants.{Enqueue, Dequeue, Step}
-use Rattle.laws.specs.Lists.{words_from, take_words}
-use Rattle.turn_file.specs.Fields.{byte_at, two_at, four_at, shape_at, arrival_at}
-use Rattle.turn_file.specs.Records.{Record, opens, acts, OP, PU, TA, TU, size_of}
-use Rattle.turn_file.specs.Reading.{fields_at}
-use Rattle.turn_file.specs.Encoding.{encode, Fits}
+use Rattle.turn_file.specs.Fields.{byte_at}
+use Rattle.turn_file.specs.Records.{Record, opens, acts, OP, PU, TA, TU}
 
 -- Each element is a byte.
 abbrev pub Bytes : List ℕ → Type 0

@@ -2,15 +2,9 @@
 --
 --     Unknown, Cut                          an unknown mark; too few bytes
 -- Assumes nothing.
-use Rattle.std.specs.Prelude.{◌≡◌, refl, List, ◌++◌, Bool, true, false, cond, ◌⊎◌, ℕ, ◌+◌, ◌-◌, ◌<◌, ◌≤◌, eqb, leb, ltb, length, drop}
-use Rattle.std.proofs.Common.{sym, ap, ◌∙◌, inl, inr, arith, length-append, length-drop}
-use Rattle.std.proofs.Common.{eqb-true, leb-true, leb-false, ltb-true, le-leb, eq-eqb, ne_eqb, lt-ltb}
-use Rattle.std.proofs.Math.ListN.{get_or-append}
-use Rattle.std.proofs.lemmas.Bool.{lt-leb}
-use Rattle.turn_file.specs.declared.Read.TheVariants.{End, Refused}
-use Rattle.turn_file.specs.Fields.{byte_at, two_at, four_at, shape_at, arrival_at}
-use Rattle.turn_file.specs.Records.{Record, size_of}
-use Rattle.turn_file.specs.Reading.{fields_at, whole, marked_at, record_at}
+use Rattle.std.specs.Prelude.{◌≡◌, List, ◌⊎◌, ℕ, ◌+◌, ◌<◌, length}
+use Rattle.turn_file.specs.Fields.{two_at}
+use Rattle.turn_file.specs.Records.{size_of}
 
 -- ── what an answer without a record tells ──
 -- an unknown mark

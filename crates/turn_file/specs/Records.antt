@@ -1,10 +1,8 @@
 -- The records of a turn file, their marks and their sizes.
 -- Assumes nothing.
-use Rattle.std.specs.Prelude.{cond, ℕ, ◌+◌, ◌*◌, ◌<◌, ◌≤◌, eqb}
-use Rattle.std.proofs.Common.{arith, eqb-true}
+use Rattle.std.specs.Prelude.{cond, ℕ, ◌+◌, ◌*◌, eqb}
 use Rattle.arrival.specs.declared.Shape.{Shape}
 use Rattle.arrival.specs.declared.Action.{Action}
-use Rattle.laws.specs.Tests.{by_test, by_size}
 
 pub data Record : Type 0 where
   opens : Shape → Record

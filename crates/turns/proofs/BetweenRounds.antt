@@ -18,14 +18,14 @@ use Rattle.batch.specs.declared.Progress as code
 use Rattle.batch.specs.declared.Stop.{Stop}
 use Rattle.batch.specs.declared.Stop.TheVariants.{Drained, Full, Halted}
 use Rattle.batch.specs.Batch.{Progress, Stopped, worked_all}
-use Rattle.batch.specs.CodeView.{lent_to, begins, ends}
+use Rattle.batch.specs.CodeView.{begins, ends}
 use Rattle.batch.proofs.WithinBuffers.{within}
 use Rattle.batch.proofs.PartOfFile.{Reason}
 use Rattle.batch.proofs.PartOfFile.{part_of_file}
 use Rattle.turns.specs.declared.Next.{Next}
 use Rattle.turns.specs.declared.Next.TheVariants.{Read, Last}
 use Rattle.turns.specs.declared.Round.{Round}
-use Rattle.turns.specs.TurnsRun.{follows, last_line, Held, Rounded, rounded, round_of, is_empty}
+use Rattle.turns.specs.TurnsRun.{follows, last_line, rounded, round_of, is_empty}
 use Rattle.turns.specs.BetweenRounds.{in_hand, holding, leaves, Placed}
 
 -- ── bytes in hand ──

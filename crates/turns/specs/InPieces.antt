@@ -3,30 +3,12 @@
 --     Step                         what a round does to the file; every round
 --     load, weight                     how much is to come; enough rounds work through it
 -- Assumes nothing.
-use Rattle.std.specs.Prelude.{◌≡◌, refl, Bool, true, false, cond, List, [], ◌∷◌, ◌++◌, ◌⊎◌, ℕ, zero, suc, ◌+◌, ◌≤◌, ◌<◌, eqb, length, take, drop}
-use Rattle.std.proofs.Common.{sym, ap, ◌∙◌, append_assoc, append-nil, inl, inr, arith, length-append, length-drop, drop_of_length-le}
-use Rattle.std.proofs.lemmas.Bool.{eqb-false}
-use Rattle.arrival.specs.declared.Response.TheVariants as response
-use Rattle.turn_file.specs.declared.Read.TheVariants.{Refused}
-use Rattle.turn_file.specs.Reading.{record_at}
-use Rattle.turn_file.specs.MoreBytes.{Unknown, Cut}
-use Rattle.turn_file.proofs.MoreBytes.{at_end, why_refused, unknown_refused, cut_refused, unknown_rest, cut_rest}
-use Rattle.turn_file.specs.Lines.{line_of}
-use Rattle.turn_file.proofs.LineLaws.{line_most}
-use Rattle.turn_file.specs.Buffer.{written, after}
-use Rattle.turn_file.proofs.Buffer.{written_length}
-use Rattle.calendar.specs.rules.Operations.{Memory}
-use Rattle.batch.specs.declared.Stop.{Stop}
-use Rattle.batch.specs.declared.Stop.TheVariants.{Drained, Full, Halted}
-use Rattle.batch.specs.Batch.{Pool, Progress, Stopped, worked_all}
-use Rattle.batch.proofs.WithinBuffers.{within}
-use Rattle.batch.specs.TurnFile.{behind, records, all_records, turn_file}
-use Rattle.batch.proofs.PartOfFile.{PartOf}
-use Rattle.batch.proofs.PartOfFile.{part_of_file, line_behind}
+use Rattle.std.specs.Prelude.{◌≡◌, Bool, true, false, List, [], ◌∷◌, ◌++◌, ℕ, suc, ◌+◌, ◌<◌, length, take}
+use Rattle.batch.specs.TurnFile.{behind, all_records}
 use Rattle.turns.specs.declared.Next.{Next}
 use Rattle.turns.specs.declared.Next.TheVariants.{More, Read, End, Last}
-use Rattle.turns.specs.TurnsRun.{follows, last_line, Held, Rounded, rounded, round_of, Reads, handed, later, is_empty, worked_on, read_on, next_round, rounds}
-use Rattle.turns.specs.TurnsRun.{at_first, input_of}
+use Rattle.turns.specs.TurnsRun.{Held, Rounded, Reads}
+use Rattle.turns.specs.TurnsRun.{input_of}
 
 -- ── one round ──
 -- what is still to come

@@ -5,23 +5,13 @@
 --     Whole, After, Interrupted, Outcome     what a run left, by why it ended
 --     Ends                                   it is closed; the file has ended
 -- Assumes nothing.
-use Rattle.std.specs.Prelude.{◌≡◌, List, [], ◌∷◌, ◌++◌, false, ℕ, suc, ◌+◌, ◌-◌, ◌≤◌, ◌<◌, eqb, length, take, drop}
-use Rattle.std.proofs.Math.Path.{refl, sym, ap, subst⁻¹}
-use Rattle.std.proofs.Common.{◌∙◌, subst, arith}
-use Rattle.std.proofs.Math.Seq.{append_snoc}
-use Rattle.laws.specs.Storing.{moved}
-use Rattle.batch.specs.declared.HeldPool.{HeldPool}
-use Rattle.batch.specs.Batch.{Pool}
-use Rattle.batch.specs.TurnFile.{Ran, behind, zeros, turn_file}
-use Rattle.batch.proofs.PartOfFile.{behind_behind}
+use Rattle.std.specs.Prelude.{◌≡◌, List, ◌++◌, ℕ, ◌+◌, ◌<◌}
+use Rattle.batch.specs.TurnFile.{behind, turn_file}
 use Rattle.turns.specs.declared.Ended.{Ended}
 use Rattle.turns.specs.declared.Ended.TheVariants.{Finished, Closed, Spent}
 use Rattle.turns.specs.declared.Next.{Next}
 use Rattle.turns.specs.declared.Next.TheVariants.{More, Read, End, Last}
-use Rattle.turns.specs.declared.Round.{Round}
-use Rattle.turns.specs.TurnsRun.{lent, Held, Rounded, round_of, Reads, worked_on, read_on, next_round, rounds, at_first, input_of}
-use Rattle.turns.specs.InPieces.{load}
-use Rattle.turns.specs.BetweenRounds.{in_hand, holding, leaves}
+use Rattle.turns.specs.TurnsRun.{lent, Held, Reads, rounds, input_of}
 
 -- as many rounds as a run may take
 abbrev pub all_rounds : ℕ

@@ -1,9 +1,8 @@
 -- A response in numbers, and that the numbers tell the response. Assumes nothing.
-use Rattle.std.specs.Prelude.{◌≡◌, refl, [], ◌∷◌, ℕ, get_or}
+use Rattle.std.specs.Prelude.{◌≡◌, refl}
 use Rattle.arrival.specs.declared.Response.{Response}
 use Rattle.arrival.specs.declared.Response.TheVariants.{Opened, Begun, On, Stored, Took, Empty, Refused}
-use Rattle.arrival.specs.Responses.{Said, said}
-use Rattle.wubraken.specs.declared.answers.Answer.{Answer}
+use Rattle.arrival.specs.Responses.{said}
 use Rattle.wubraken.specs.Answers.{answer_of, response_of, said_by}
 
 pub answer_tells : (r : Response) → response_of (answer_of r) ≡ r

@@ -21,7 +21,6 @@ use Rattle.arrival.specs.declared.Action.{Action}
 use Rattle.arrival.specs.declared.Action.TheVariants.{Enqueue, Dequeue, Step}
 use Rattle.arrival.specs.declared.Request.{Request}
 use Rattle.arrival.specs.declared.Request.TheVariants.{Whole, Narrow}
-use Rattle.arrival.specs.Responses.{Said, said}
 use Rattle.calendar.specs.rules.Ranges.{blank, worker, record_in_range, table_in_range}
 use Rattle.calendar.specs.rules.Opening.{open_store, open_table}
 use Rattle.calendar.specs.rules.Refusals.{open_refusal}
@@ -30,7 +29,7 @@ use Rattle.calendar.specs.rules.NarrowCalls.{records_in_range, narrow_act, turns
 use Rattle.calendar.specs.rules.HostHistory.{requested, action_of}
 use Rattle.calendar.specs.facts.Accepted.{Lent}
 use Rattle.calendar.proofs.facts.RangeFacts.{record_ranges}
-use Rattle.words.specs.Done.{Done, gives, refused, unless_refused}
+use Rattle.words.specs.Done.{Done, gives, refused}
 use Rattle.words.specs.declared.replies.Reply.{Reply}
 use Rattle.operation.specs.LocalAct.{local_act, Admitted, LowFor, back}
 use Rattle.operation.proofs.LocalAct.{act_is, narrow_is}
@@ -44,7 +43,7 @@ use Rattle.admission.specs.NarrowGate.{RecordsSeen}
 use Rattle.admission.proofs.NarrowGate.{narrow_away}
 use Rattle.wubraken.specs.declared.table.Survey.{Survey}
 use Rattle.wubraken.specs.declared.answers.Answer.{Answer}
-use Rattle.wubraken.specs.Answers.{answer_of, said_by}
+use Rattle.wubraken.specs.Answers.{answer_of}
 use Rattle.wubraken.proofs.AnswerLaws.{answer_said}
 use Rattle.wubraken.specs.Survey.{Surveyed, surveyed, survey}
 use Rattle.wubraken.proofs.Survey.{surveyed_worker, survey_none, survey_ok_is, survey_low_is}

@@ -1,8 +1,8 @@
 -- A response in numbers, and that the numbers tell the response. Assumes nothing.
-use Rattle.std.specs.Prelude.{◌≡◌, refl, [], ◌∷◌, ℕ, get_or}
+use Rattle.std.specs.Prelude.{[], ◌∷◌, ℕ, get_or}
 use Rattle.arrival.specs.declared.Response.{Response}
 use Rattle.arrival.specs.declared.Response.TheVariants.{Opened, Begun, On, Stored, Took, Empty, Refused}
-use Rattle.arrival.specs.Responses.{Said, said}
+use Rattle.arrival.specs.Responses.{Said}
 use Rattle.wubraken.specs.declared.answers.Answer.{Answer}
 
 -- of one value at most

@@ -1,17 +1,10 @@
 -- Refusals 1 to 4 of a call on lent memory, the flag computed by a look at every field, or a narrow one. Assumes nothing.
-use Rattle.std.specs.Prelude.{◌≡◌, List, Bool, true, false, cond, ℕ, ◌<◌, ◌≤◌, eqb, length}
-use Rattle.std.proofs.Common.{ap, ◌∙◌, eq-eqb}
+use Rattle.std.specs.Prelude.{◌≡◌, List, Bool, true, cond, ℕ, ◌<◌, ◌≤◌, length}
 use Rattle.arrival.specs.declared.Shape.{Shape}
-use Rattle.laws.specs.Tests.{parts}
-use Rattle.calendar.specs.rules.Ranges.{words_in_range, store_in_range}
 use Rattle.calendar.specs.facts.RangeFacts.{Limits, WordRanges}
-use Rattle.calendar.proofs.facts.RangeFacts.{word_ranges}
-use Rattle.calendar.proofs.facts.Narrow.{words_of_store}
-use Rattle.words.specs.Laid.{Laid, laid}
-use Rattle.admission.specs.Gate.{gate_of, open_gate, sound_of}
-use Rattle.admission.proofs.GateLaws.{gate_passed, gate_opens, open_passed, sound_opens}
+use Rattle.words.specs.Laid.{Laid}
+use Rattle.admission.specs.Gate.{gate_of, sound_of}
 use Rattle.admission.specs.NarrowGate.{near_of}
-use Rattle.admission.proofs.NarrowGate.{near_opens}
 
 -- of n records, where `ok` says that those looked at are in range; the flag by a look at all words, or at the three first
 abbrev pub flag_of : Bool → Shape → List ℕ → ℕ → Bool → Bool

@@ -6,47 +6,24 @@
 --     act_on                          refused by 1 to 4, or done; by what the gate said
 --     records_opened                  how many records an opening clears, by the number that refuses it
 -- Assumes nothing.
-use Rattle.std.specs.Prelude.{◌≡◌, List, ◌++◌, ◌≢◌, ℕ, zero, suc, ◌<◌, ◌≤◌, eqb, ltb, length, set, drop, replicate}
-use Rattle.std.proofs.Math.Path.{refl}
-use Rattle.std.proofs.Common.{sym, ap, ◌∙◌, arith}
-use Rattle.std.proofs.Math.Bool.{Bool, true, false, cond}
-use Rattle.std.proofs.lemmas.List.{set-get_or}
-use borrow.Author.Tests.{eqb-true, eqb-false, ltb-false, le-leb, lt-leb, le-ltb, eq-eqb, ne_eqb}
+use Rattle.std.specs.Prelude.{◌≡◌, List, ℕ, eqb}
+use Rattle.std.proofs.Math.Bool.{Bool, cond}
 use Rattle.arrival.specs.declared.Shape.{Shape}
 use Rattle.arrival.specs.declared.Worker.{Worker}
 use Rattle.arrival.specs.declared.Response.{Response}
-use Rattle.arrival.specs.declared.Response.TheVariants.{Opened, Refused}
-use Rattle.arrival.specs.declared.Action.{Action}
-use Rattle.arrival.specs.declared.Action.TheVariants.{Enqueue, Dequeue, Step}
 use Rattle.arrival.specs.declared.Request.{Request}
-use Rattle.arrival.specs.declared.Request.TheVariants.{Whole, Narrow}
 use Rattle.arrival.specs.Responses.{Said, said}
-use Rattle.calendar.specs.rules.Ranges.{blank, worker, record_in_range, table_in_range}
-use Rattle.calendar.specs.rules.Opening.{open_store, open_table}
-use Rattle.calendar.specs.rules.Refusals.{open_refusal}
-use Rattle.calendar.specs.rules.Operations.{Memory, Result, actor, act, open_pool}
-use Rattle.calendar.specs.rules.NarrowCalls.{records_in_range, narrow_act, turns_after, narrow_call}
+use Rattle.calendar.specs.rules.Ranges.{record_in_range}
+use Rattle.calendar.specs.rules.Operations.{Memory, Result, actor}
 use Rattle.calendar.specs.rules.HostHistory.{requested, action_of}
-use Rattle.calendar.specs.facts.Accepted.{Lent}
-use Rattle.calendar.proofs.facts.RangeFacts.{record_ranges}
-use Rattle.words.specs.Done.{Done, gives, refused, unless_refused}
-use Rattle.words.specs.declared.replies.Reply.{Reply}
-use Rattle.operation.specs.LocalAct.{local_act, Admitted, LowFor, back}
-use Rattle.operation.proofs.LocalAct.{act_is, narrow_is}
+use Rattle.words.specs.Done.{Done, unless_refused}
+use Rattle.operation.specs.LocalAct.{local_act}
 use Rattle.operation.specs.LocalTurns.{local_turns}
-use Rattle.operation.proofs.LocalTurns.{act_length, turns_back}
-use Rattle.starts.specs.LeastTicket.{least_ticket}
-use Rattle.admission.specs.Watched.{Watched}
-use Rattle.admission.specs.Gate.{gate_of, sound_of, open_gate, open_response}
-use Rattle.admission.proofs.GateLaws.{sound_watched, shape_tests, refused_is, open_passed}
-use Rattle.admission.specs.NarrowGate.{RecordsSeen}
-use Rattle.admission.proofs.NarrowGate.{narrow_away}
 use Rattle.wubraken.specs.declared.table.Survey.{Survey}
 use Rattle.wubraken.specs.declared.answers.Answer.{Answer}
 use Rattle.wubraken.specs.Answers.{answer_of, said_by}
-use Rattle.wubraken.specs.Survey.{Surveyed, surveyed, survey}
 use Rattle.wubraken.specs.Requests.{turns_of, is_whole, looks_at_all}
-use Rattle.wubraken.specs.LentGate.{flag_of, gate_on}
+use Rattle.wubraken.specs.LentGate.{gate_on}
 
 -- ── what a call leaves ──
 abbrev pub lent : List ℕ → List Worker → Memory

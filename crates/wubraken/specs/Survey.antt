@@ -1,18 +1,12 @@
 -- A look over the workers' records: whether all are in range, and if so the least ticket in progress. Assumes nothing.
-use Rattle.std.specs.Prelude.{◌≡◌, List, Bool, cond, ◌&&◌, ltb, length}
-use Rattle.std.proofs.Math.Path.{refl, sym, ap}
-use Rattle.std.proofs.Common.{◌∙◌, add-zero, add-suc, add-one, ltb-true, ltb-false}
+use Rattle.std.specs.Prelude.{◌≡◌, List, cond, ◌&&◌, ltb, length}
 use Rattle.std.proofs.Math.Bool.{true, false}
-use Prim.Native.Nat.{ℕ, zero, suc, ◌+◌, ◌<◌, ◌≤◌}
-use native.Mathlib.Omega.{arith}
+use Prim.Native.Nat.{ℕ, zero, suc, ◌≤◌}
 use Rattle.arrival.specs.declared.Shape.{Shape}
 use Rattle.arrival.specs.declared.Worker.{Worker}
 use Rattle.arrival.specs.declared.Request.{Request}
-use Rattle.laws.specs.Tests.{never, left_true}
-use Rattle.laws.specs.Counting.{every}
-use Rattle.laws.proofs.Counting.{every_at}
-use Rattle.calendar.specs.rules.Ranges.{shape_in_range, record_in_range, table_in_range, worker}
-use Rattle.starts.specs.LeastTicket.{lower, lower_at_most, least_ticket}
+use Rattle.calendar.specs.rules.Ranges.{shape_in_range, record_in_range, worker}
+use Rattle.starts.specs.LeastTicket.{lower}
 use Rattle.wubraken.specs.declared.table.Survey.{Survey}
 use Rattle.wubraken.specs.Requests.{looks_at_all}
 

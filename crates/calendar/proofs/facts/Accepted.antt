@@ -4,19 +4,16 @@
 --     enqueue_passed, dequeue_passed, step_passed           an action that its own tests let pass may count on what they look at
 --     enqueue_accepted, dequeue_accepted, step_accepted     an action that is not refused has its own
 -- Assumes nothing.
-use Rattle.std.specs.Prelude.{◌≡◌, refl, List, false, ◌≢◌, ℕ, ◌<◌, ◌≤◌, length}
+use Rattle.std.specs.Prelude.{◌≡◌, refl, List, false, ◌≢◌, ℕ}
 use Rattle.std.proofs.lemmas.Bool.{not-false, eqb-false, not-true}
 use Rattle.std.proofs.Common.{ltb-true, ltb-false, leb-false, leb-true, eqb-true}
 use Rattle.arrival.specs.declared.Shape.{Shape}
 use Rattle.arrival.specs.declared.Arrival.{Arrival}
 use Rattle.arrival.specs.declared.Worker.{Worker}
 use Rattle.laws.specs.Tests.{parts, neither}
-use Rattle.calendar.specs.rules.Layout.{layout, started}
+use Rattle.calendar.specs.rules.Layout.{started}
 use Rattle.calendar.specs.rules.Ranges.{worker, store_in_range, table_in_range}
-use Rattle.calendar.specs.facts.RangeFacts.{Limits, StoreRanges, RecordRanges}
 use Rattle.calendar.proofs.facts.RangeFacts.{limits, store_ranges, table_ranges}
-use Rattle.calendar.specs.facts.Views.{view}
-use Rattle.calendar.specs.rules.Reclaim.{first_free}
 use Rattle.calendar.specs.rules.Refusals.{bad_shape, too_short, no_ticket, no_epoch, no_node, open_tests, memory_of, enqueue_own, dequeue_own, step_own}
 use Rattle.calendar.specs.rules.Refusals.{open_refusal, enqueue_refusal, dequeue_refusal, step_refusal}
 use Rattle.laws.specs.FirstOf.{first_of, first_parts, first_none}

@@ -3,18 +3,16 @@
 -- an unfinished take what it has marked. The order of every linearization is in the list; where the list is empty, there is none.
 --     linearization_admitted                 the order of every linearization is among them
 -- Assumes nothing.
-use Rattle.std.specs.Prelude.{◌≡◌, refl, Bool, true, false, cond, not, ◌&&◌, ◌||◌, eqb, ltb, length}
+use Rattle.std.specs.Prelude.{◌≡◌, refl, Bool, true, false, not, ◌||◌, length}
 use Rattle.std.proofs.Common.{sym, subst, arith, eq-eqb, ltb-true}
 use mathlib.Core.List.Memᴰ
-use mathlib.Core.List.{List, [], ◌∷◌, ◌++◌, map, Memᴰ}
+use mathlib.Core.List.{List, [], ◌∷◌, map, Memᴰ}
 use Rattle.std.proofs.Math.Option.{Option, none, some}
 use Prim.Native.Nat.{ℕ, zero, suc, ◌≤◌}
 use Rattle.arrival.specs.declared.Item.{Item}
-use Rattle.arrival.specs.declared.Response.{Response}
-use Rattle.arrival.specs.declared.Response.TheVariants.{Opened, Begun, On, Stored, Took, Empty, Refused}
 use Rattle.arrival.specs.Queue.{Call, enqueue, dequeue, Reply, Items, dequeued, reply, after, replies}
 use Rattle.laws.specs.Lists.{mem_behind, Once, without, without_in, in_without, without_less, up_to, up_to_in, length_up_to}
-use Rattle.laws.specs.Lists.{same_numbers, same_numbers_lem, all, all_true, gathered, gathered_in}
+use Rattle.laws.specs.Lists.{same_numbers_lem, all_true, gathered_in}
 use Rattle.calendar.specs.rules.Ledger.{Ledger}
 use Rattle.calendar.specs.rules.Linearizability.{Finished, EndedBefore, RespectsTime, pool_reply, Agree, MarkedAhead, Linearization}
 use Rattle.calendar.specs.facts.AdmittedOrders.{is_finished, ended_before, numbers, same_reply, marks_that, may_end, may_be_next, ended, next, orders_of, admitted}

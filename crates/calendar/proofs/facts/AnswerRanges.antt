@@ -19,7 +19,7 @@ use Rattle.arrival.specs.declared.Action.{Action}
 use Rattle.arrival.specs.declared.Action.TheVariants.{Enqueue, Dequeue, Step}
 use Rattle.arrival.specs.declared.Request.{Request}
 use Rattle.arrival.specs.declared.Response.{Response}
-use Rattle.arrival.specs.declared.Response.TheVariants.{Opened, Begun, On, Stored, Took, Empty, Refused}
+use Rattle.arrival.specs.declared.Response.TheVariants.{Opened, Refused}
 use Rattle.arrival.proofs.Energy.{energy_most}
 use Rattle.calendar.specs.rules.Layout.{Write, distance_at}
 use Rattle.calendar.specs.rules.Ranges.{worker}

@@ -19,19 +19,15 @@ use Rattle.arrival.specs.declared.Action.{Action}
 use Rattle.arrival.specs.declared.Action.TheVariants.{Enqueue, Dequeue, Step}
 use Rattle.laws.proofs.Counting.{every_at, every_fails, every_same}
 use Rattle.laws.specs.Tests.{parts}
-use Rattle.calendar.specs.rules.Layout.{current, started, last_node}
 use Rattle.calendar.specs.rules.Ranges.{words_in_range, record_in_range, table_in_range, worker}
-use Rattle.calendar.specs.rules.Reclaim.{first_free}
-use Rattle.calendar.specs.rules.Refusals.{bad_shape, too_short, no_worker, memory_tests}
+use Rattle.calendar.specs.rules.Refusals.{bad_shape, too_short, no_worker}
 use Rattle.calendar.specs.rules.Operations.{Memory, actor}
 use Rattle.calendar.specs.rules.NarrowCalls.{own_in_range, records_in_range, narrow_out, narrow_refusal}
-use Rattle.calendar.specs.facts.RangeFacts.{WordRanges, RecordRanges}
+use Rattle.calendar.specs.facts.RangeFacts.{RecordRanges}
 use Rattle.calendar.proofs.facts.RangeFacts.{word_ranges, record_ranges, table_ranges}
-use Rattle.calendar.specs.facts.Accepted.{Lent}
 use Rattle.calendar.proofs.facts.Accepted.{lent}
 use Rattle.laws.specs.FirstOf.{first_of, first_parts, first_behind, first_none}
 use Rattle.calendar.specs.facts.RefusalParts.{own_of}
-use Rattle.calendar.specs.facts.Untouched.{SameSize}
 use Rattle.calendar.specs.facts.NarrowAccepted.{narrow_memory, SameLooked, NarrowAccepted}
 
 pub narrow_parts : (sh : Shape) (m : Memory) (a : Action) → narrow_refusal sh m a ≡ first_of (narrow_memory sh m a ++ own_of sh m a)

@@ -6,13 +6,12 @@
 --     narrow_call_goes                                   one that ends without a refusal goes on where the call is in progress
 --     narrow_call_spent                                  and goes on only where all its turns are made
 -- Assumes nothing.
-use Rattle.std.specs.Prelude.{◌≡◌, refl, List, [], ◌∷◌, ◌++◌, Bool, true, false, cond, ◌&&◌, ◌≢◌, ℕ, zero, suc, ◌<◌, ◌≤◌, replicate, take, eqb}
+use Rattle.std.specs.Prelude.{◌≡◌, refl, [], ◌∷◌, Bool, true, false, cond, ◌≢◌, ℕ, zero, suc, ◌<◌, replicate, eqb}
 use Rattle.std.proofs.Common.{sym, ap, ◌∙◌, arith, eqb-true, ne_eqb}
 use Rattle.std.proofs.lemmas.Bool.{eqb-false}
 use Rattle.arrival.specs.declared.Shape.{Shape}
 use Rattle.arrival.specs.declared.Action.{Action}
 use Rattle.arrival.specs.declared.Action.TheVariants.{Step}
-use Rattle.arrival.specs.declared.Response.{Response}
 use Rattle.arrival.specs.declared.Response.TheVariants.{Refused}
 use Rattle.arrival.specs.Responses.{said}
 use Rattle.laws.specs.Tests.{never, by_test, by_size}

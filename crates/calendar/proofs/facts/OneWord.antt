@@ -3,7 +3,7 @@
 --     one_shared_word                                    two stores that agree on it; a turn does the same on both
 --     one_word_written                                   it writes nothing else
 -- Assumes nothing.
-use Rattle.std.specs.Prelude.{◌≡◌, Bool, ◌≢◌, ◌⊎◌, ltb, get_or}
+use Rattle.std.specs.Prelude.{◌≡◌, Bool, ◌≢◌, ltb, get_or}
 use Rattle.std.proofs.Math.Path.{refl, ap}
 use Rattle.std.proofs.Common.{sym, ◌∙◌, subst, inl, inr, arith}
 use mathlib.Core.List.{List, [], ◌∷◌, Memᴰ}
@@ -15,10 +15,9 @@ use Rattle.arrival.specs.declared.Shape.{Shape}
 use Rattle.arrival.specs.declared.Item.{Item}
 use Rattle.arrival.specs.declared.Worker.{Worker}
 use Rattle.arrival.specs.declared.Response.TheVariants.{Stored, Empty}
-use Rattle.arrival.specs.Keys.{key_of}
 use Rattle.arrival.proofs.Keys.{lower_by_key}
 use Rattle.arrival.specs.Queue.{taken}
-use Rattle.calendar.specs.rules.Layout.{Place, word, cell, field, Write, ◌≔◌, read, started, link_cell, item_at, epoch_at, successor, is_marked, unmarked}
+use Rattle.calendar.specs.rules.Layout.{Place, word, cell, field, Write, ◌≔◌, read, link_cell, item_at, successor, is_marked, unmarked}
 use Rattle.calendar.specs.rules.Layout.{unlinked_at, bucket_in, epoch_in}
 use Rattle.calendar.specs.rules.Outcome.{Outcome, on, answer, with_own, with_bucket, with_left, with_right, with_seen, with_current}
 use Rattle.calendar.specs.rules.SearchSteps.{found, settle, right_is_lower, unlink, step_1, step_2, step_3}

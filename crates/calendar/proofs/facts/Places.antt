@@ -2,7 +2,7 @@
 --     read_write, length_write                   what is read after a write; a write keeps the length
 --     word_inside, cell_inside, field_inside     the addresses lie in the layout
 -- Assumes nothing.
-use Rattle.std.specs.Prelude.{◌≡◌, refl, List, Bool, true, false, cond, ◌&&◌, ◌≢◌, ℕ, ◌+◌, ◌<◌, eqb, leb, ltb, length, get_or, set}
+use Rattle.std.specs.Prelude.{◌≡◌, refl, List, Bool, true, false, cond, ◌≢◌, ℕ, ◌+◌, ◌<◌, eqb, length, get_or, set}
 use Rattle.std.proofs.Common.{sym, arith, length-set, get_or-set_same, get_or-set_other, eqb-true, eq-eqb, ltb-true}
 use Rattle.std.proofs.lemmas.Bool.{eqb-false}
 use Rattle.arrival.specs.declared.Shape.{Shape}

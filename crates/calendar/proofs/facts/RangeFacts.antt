@@ -16,7 +16,7 @@ use Rattle.calendar.specs.rules.Layout.{bucket_in}
 use Rattle.calendar.specs.rules.Ranges.{shape_in_range, head_in_range, node_in_range, store_in_range, table_in_range, worker, implies, between}
 use Rattle.calendar.specs.rules.Ranges.{call_in_range, place_in_range, words_held_in_range, record_in_range}
 use Rattle.calendar.specs.rules.Ranges.{words_in_range}
-use Rattle.calendar.specs.facts.Views.{View, view}
+use Rattle.calendar.specs.facts.Views.{view}
 use Rattle.calendar.specs.facts.RangeFacts.{Limits, NodeRanges, HeadRanges, StoreRanges, WordRanges, RecordRanges}
 
 -- ── tests joined by "implies" ──

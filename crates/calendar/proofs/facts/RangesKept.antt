@@ -2,7 +2,7 @@
 --     enqueue_ranged, dequeue_ranged     starts keep every field in its range
 --     step_ranged                        a turn keeps the ranges, but for that leak
 -- Assumes nothing.
-use Rattle.std.specs.Prelude.{◌≡◌, refl, List, [], Bool, true, false, cond, ◌&&◌, ◌≢◌, ℕ, ◌+◌, ◌*◌, ◌/◌, ◌%◌, ◌≤◌, ◌<◌, eqb}
+use Rattle.std.specs.Prelude.{◌≡◌, refl, List, [], Bool, true, false, cond, ◌≢◌, ℕ, ◌+◌, ◌*◌, ◌/◌, ◌%◌, ◌≤◌, ◌<◌, eqb}
 use Rattle.std.proofs.Common.{sym, ◌∙◌, subst, inl, arith, eq-eqb}
 use Rattle.std.proofs.lemmas.Bool.{eqb-false}
 use Rattle.arrival.specs.declared.Shape.{Shape}
@@ -13,7 +13,7 @@ use Rattle.calendar.specs.rules.Layout.{Write, word, cell, field, link, started}
 use Rattle.calendar.specs.rules.Ranges.{worker}
 use Rattle.calendar.specs.rules.Outcome.{Outcome}
 use Rattle.calendar.specs.rules.Starts.{enqueue_start, dequeue_start}
-use Rattle.calendar.specs.rules.SearchSteps.{left_holds, retirement}
+use Rattle.calendar.specs.rules.SearchSteps.{retirement}
 use Rattle.calendar.specs.rules.EnqueueSteps.{own_epoch, renewed}
 use Rattle.calendar.specs.rules.DequeueSteps.{next_current}
 use Rattle.calendar.specs.rules.Reclaim.{first_free}

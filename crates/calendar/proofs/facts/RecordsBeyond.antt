@@ -22,7 +22,7 @@ use Rattle.calendar.specs.rules.Reclaim.{started_by, is_free, node_after, first_
 use Rattle.calendar.specs.rules.Layout.{standing}
 use Rattle.calendar.specs.rules.Opening.{open_store, open_table}
 use Rattle.calendar.specs.rules.Refusals.{memory_of, open_refusal}
-use Rattle.calendar.specs.rules.Operations.{Memory, Result, perform, actor, refusal, outcome, act, open_pool}
+use Rattle.calendar.specs.rules.Operations.{Memory, perform, actor, refusal, outcome, act, open_pool}
 use Rattle.calendar.proofs.facts.RangeFacts.{limits}
 use Rattle.calendar.proofs.facts.Accepted.{open_accepted}
 use Rattle.calendar.specs.facts.RefusalParts.{own_of}

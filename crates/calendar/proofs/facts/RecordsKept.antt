@@ -6,7 +6,7 @@
 --     turn_tests                            their test is then the test of the whole record
 --     enqueue_words .. turn_words         the three first words stay in range
 -- Assumes nothing.
-use Rattle.std.specs.Prelude.{◌≡◌, refl, List, [], Bool, true, false, ◌&&◌, ◌≢◌, ℕ, ◌+◌, ◌-◌, ◌/◌, ◌%◌, ◌≤◌, ◌<◌, leb, length}
+use Rattle.std.specs.Prelude.{◌≡◌, refl, List, [], Bool, true, false, ◌≢◌, ℕ, ◌+◌, ◌-◌, ◌/◌, ◌%◌, ◌≤◌, ◌<◌, length}
 use Rattle.std.proofs.Common.{sym, ◌∙◌, subst, arith, ltb-true, leb-true, le-leb, eq-eqb}
 use Rattle.arrival.specs.declared.Shape.{Shape}
 use Rattle.arrival.specs.declared.Arrival.{Arrival}
@@ -14,7 +14,7 @@ use Rattle.arrival.specs.declared.Worker.{Worker}
 use Rattle.arrival.proofs.Keys.{bucket_below}
 use Rattle.laws.specs.Tests.{never, parts, both}
 use Rattle.calendar.specs.rules.Layout.{Write, write_all, layout, link, started, current}
-use Rattle.calendar.specs.rules.Ranges.{link_in_range, record_in_range}
+use Rattle.calendar.specs.rules.Ranges.{record_in_range}
 use Rattle.calendar.specs.rules.Outcome.{Outcome, with_stage, with_seen, with_own, with_bucket, with_current}
 use Rattle.calendar.specs.rules.Starts.{enqueue_start, dequeue_start}
 use Rattle.calendar.specs.rules.EnqueueSteps.{current_holds}

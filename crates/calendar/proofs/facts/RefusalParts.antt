@@ -10,8 +10,7 @@ use Rattle.arrival.specs.declared.Shape.{Shape}
 use Rattle.arrival.specs.declared.Worker.{Worker}
 use Rattle.arrival.specs.declared.Action.{Action}
 use Rattle.arrival.specs.declared.Action.TheVariants.{Enqueue, Dequeue, Step}
-use Rattle.calendar.specs.rules.Ranges.{worker}
-use Rattle.calendar.specs.rules.Refusals.{no_node, open_tests, memory_of, own_tests}
+use Rattle.calendar.specs.rules.Refusals.{open_tests, memory_of}
 use Rattle.calendar.specs.rules.Refusals.{open_refusal, enqueue_refusal, dequeue_refusal, step_refusal}
 use Rattle.calendar.specs.rules.Operations.{Memory, actor, refusal}
 use Rattle.laws.specs.FirstOf.{first_of, rises, first_parts, first_behind, first_front}

@@ -12,7 +12,7 @@
 --     open_same_size, open_same_beyond                  the opening keeps both
 --     run_same_size, run_same_beyond                    so does a history
 -- Assumes nothing.
-use Rattle.std.specs.Prelude.{◌≡◌, refl, List, [], ◌∷◌, Bool, true, false, cond, ◌≢◌, ℕ, suc, ◌<◌, eqb, length, drop, replicate}
+use Rattle.std.specs.Prelude.{◌≡◌, refl, List, [], ◌∷◌, Bool, true, false, cond, ◌≢◌, ℕ, suc, ◌<◌, eqb, drop, replicate}
 use Rattle.std.proofs.Common.{ap, ◌∙◌, arith, length-set, length-append, length-drop, drop-set-lt, drop_at, get_or-set_other, eqb-true}
 use Rattle.std.proofs.lemmas.List.{length-replicate}
 use Rattle.arrival.specs.declared.Shape.{Shape}

@@ -1,12 +1,10 @@
 -- The store as functions: a view. A write to one place updates one function of the view and leaves the others, by
 -- computation, the same functions. All invariants are over views. Assumes nothing.
-use Rattle.std.specs.Prelude.{◌≡◌, refl, List, [], ◌∷◌, true, cond, ℕ, ◌≤◌, ◌<◌, length}
+use Rattle.std.specs.Prelude.{◌≡◌, refl, List, [], ◌∷◌, true, ℕ, ◌≤◌, ◌<◌, length}
 use Rattle.std.proofs.Common.{ap, ◌∙◌, arith}
 use Rattle.arrival.specs.declared.Shape.{Shape}
-use Rattle.arrival.specs.declared.Item.{Item}
-use Rattle.arrival.specs.Keys.{lower}
-use Rattle.calendar.specs.rules.Layout.{Place, word, cell, field, Write, ◌≔◌, address, layout, read, write, write_all}
-use Rattle.calendar.specs.facts.Places.{same, valid}
+use Rattle.calendar.specs.rules.Layout.{Place, word, cell, field, Write, ◌≔◌, address, layout, write, write_all}
+use Rattle.calendar.specs.facts.Places.{valid}
 use Rattle.calendar.proofs.facts.Places.{read_write, length_write}
 use Rattle.calendar.specs.facts.Views.{view, update, updates, AllInside}
 

@@ -4,21 +4,16 @@
 --     lent                                                  an opening that is not refused has the first
 --     EnqueuePassed                                         without those of a put, whatever the memory's tests say
 -- Assumes nothing.
-use Rattle.std.specs.Prelude.{◌≡◌, refl, List, false, ◌≢◌, ℕ, ◌<◌, ◌≤◌, length}
-use Rattle.std.proofs.lemmas.Bool.{not-false, eqb-false, not-true}
-use Rattle.std.proofs.Common.{ltb-true, ltb-false, leb-false, leb-true, eqb-true}
+use Rattle.std.specs.Prelude.{◌≡◌, List, false, ◌≢◌, ℕ, ◌<◌, ◌≤◌, length}
 use Rattle.arrival.specs.declared.Shape.{Shape}
 use Rattle.arrival.specs.declared.Arrival.{Arrival}
 use Rattle.arrival.specs.declared.Worker.{Worker}
-use Rattle.laws.specs.Tests.{parts, neither}
 use Rattle.calendar.specs.rules.Layout.{layout, started}
-use Rattle.calendar.specs.rules.Ranges.{worker, store_in_range, table_in_range}
+use Rattle.calendar.specs.rules.Ranges.{worker}
 use Rattle.calendar.specs.facts.RangeFacts.{Limits, StoreRanges, RecordRanges}
 use Rattle.calendar.specs.facts.Views.{view}
 use Rattle.calendar.specs.rules.Reclaim.{first_free}
-use Rattle.calendar.specs.rules.Refusals.{bad_shape, too_short, no_ticket, no_epoch, no_node, open_tests, memory_of, enqueue_own, dequeue_own, step_own}
-use Rattle.calendar.specs.rules.Refusals.{open_refusal, enqueue_refusal, dequeue_refusal, step_refusal}
-use Rattle.laws.specs.FirstOf.{first_of, first_parts, first_none}
+use Rattle.calendar.specs.rules.Refusals.{no_epoch}
 
 -- shape and lengths: refusals 1 and 2
 pub record Lent (sh : Shape) (s : List ℕ) (t : List Worker) : Type 0 where

@@ -6,20 +6,18 @@
 --     may_end, may_be_next                      what is left may be left out; a call may come next
 --     orders_of, admitted                     the orders found; of a ledger
 -- Assumes nothing.
-use Rattle.std.specs.Prelude.{◌≡◌, refl, Bool, true, false, cond, not, ◌&&◌, ◌||◌, eqb, ltb, length}
-use Rattle.std.proofs.Common.{sym, subst, arith, eq-eqb, ltb-true}
-use mathlib.Core.List.Memᴰ
-use mathlib.Core.List.{List, [], ◌∷◌, ◌++◌, map, Memᴰ}
+use Rattle.std.specs.Prelude.{Bool, true, false, cond, not, ◌&&◌, ◌||◌, eqb, ltb}
+use mathlib.Core.List.{List, [], ◌∷◌, ◌++◌, map}
 use Rattle.std.proofs.Math.Option.{Option, none, some}
-use Prim.Native.Nat.{ℕ, zero, suc, ◌≤◌}
+use Prim.Native.Nat.{ℕ, zero, suc}
 use Rattle.arrival.specs.declared.Item.{Item}
 use Rattle.arrival.specs.declared.Response.{Response}
 use Rattle.arrival.specs.declared.Response.TheVariants.{Opened, Begun, On, Stored, Took, Empty, Refused}
-use Rattle.arrival.specs.Queue.{Call, enqueue, dequeue, Reply, Items, dequeued, reply, after, replies}
-use Rattle.laws.specs.Lists.{mem_behind, Once, without, without_in, in_without, without_less, up_to, up_to_in, length_up_to}
-use Rattle.laws.specs.Lists.{same_numbers, same_numbers_lem, all, all_true, gathered, gathered_in}
+use Rattle.arrival.specs.Queue.{Call, enqueue, dequeue, Reply, Items, dequeued, reply, after}
+use Rattle.laws.specs.Lists.{without, up_to}
+use Rattle.laws.specs.Lists.{same_numbers, all, gathered}
 use Rattle.calendar.specs.rules.Ledger.{Ledger}
-use Rattle.calendar.specs.rules.Linearizability.{Finished, EndedBefore, RespectsTime, pool_reply, Agree, MarkedAhead, Linearization}
+use Rattle.calendar.specs.rules.Linearizability.{pool_reply}
 
 -- ── tests ──
 abbrev pub is_finished : Option ℕ → Bool

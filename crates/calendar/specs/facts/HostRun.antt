@@ -2,22 +2,14 @@
 --     StaysInRange                                       in range after every history; so it stays
 --     Replied                                            one request
 -- Assumes nothing.
-use Rattle.std.specs.Prelude.{◌≡◌, refl, List, [], ◌∷◌, ◌++◌, map, true, ℕ, suc, ◌-◌, eqb, length, get_or, drop}
-use Rattle.std.proofs.Common.{sym, ap, subst, ◌∙◌, append_assoc, arith, length-append, drop_at, eqb-true}
-use Rattle.std.proofs.Math.Seq.{get_or-append_seam}
+use Rattle.std.specs.Prelude.{◌≡◌, List, [], ◌∷◌, ◌++◌, true}
 use Rattle.arrival.specs.declared.Shape.{Shape}
 use Rattle.arrival.specs.declared.Action.{Action}
 use Rattle.arrival.specs.declared.Request.{Request}
-use Rattle.arrival.specs.declared.Request.TheVariants.{Whole, Narrow}
 use Rattle.arrival.specs.declared.Response.{Response}
-use Rattle.arrival.specs.declared.Response.TheVariants.{Opened}
-use Rattle.laws.specs.Tests.{parts}
 use Rattle.calendar.specs.rules.Ranges.{store_in_range, table_in_range}
-use Rattle.calendar.specs.rules.Operations.{Memory, Result, act, run, responses}
-use Rattle.calendar.specs.rules.NarrowCalls.{turns_after, narrow_act, narrow_call, narrow_made, narrow_run, narrow_responses}
-use Rattle.calendar.specs.rules.HostHistory.{requested, host_run, host_answers, made_by, one_by_one, counts, last_of_each, single}
-use Rattle.calendar.specs.rules.HostHistory.{action_of}
-use Rattle.calendar.specs.facts.Untouched.{SameSize, SameBeyond}
+use Rattle.calendar.specs.rules.Operations.{Memory, run, responses}
+use Rattle.calendar.specs.rules.HostHistory.{requested, made_by}
 
 -- ── in range ──
 abbrev pub StaysInRange : Shape → Memory → Type 0

@@ -2,27 +2,18 @@
 --     SameLooked                   what it looks at is the same
 --     NarrowAccepted               lengths, the three first words, its worker's record
 -- Assumes nothing.
-use Rattle.std.specs.Prelude.{◌≡◌, refl, List, ◌++◌, Bool, true, false, ◌||◌, ℕ, ◌<◌}
-use Rattle.std.proofs.Common.{sym, ap, ◌∙◌, leb-false}
-use Rattle.std.proofs.Math.Bool.{and-false}
-use Rattle.std.proofs.lemmas.Bool.{not-false, lt-leb}
+use Rattle.std.specs.Prelude.{◌≡◌, List, Bool, ℕ, ◌<◌}
 use Rattle.arrival.specs.declared.Shape.{Shape}
-use Rattle.arrival.specs.declared.Arrival.{Arrival}
-use Rattle.arrival.specs.declared.Worker.{Worker}
 use Rattle.arrival.specs.declared.Action.{Action}
 use Rattle.arrival.specs.declared.Action.TheVariants.{Enqueue, Dequeue, Step}
-use Rattle.laws.proofs.Counting.{every_at, every_fails, every_same}
-use Rattle.laws.specs.Tests.{parts}
 use Rattle.calendar.specs.rules.Layout.{current, started, last_node}
-use Rattle.calendar.specs.rules.Ranges.{words_in_range, record_in_range, table_in_range, worker}
+use Rattle.calendar.specs.rules.Ranges.{worker}
 use Rattle.calendar.specs.rules.Reclaim.{first_free}
-use Rattle.calendar.specs.rules.Refusals.{bad_shape, too_short, no_worker, memory_tests}
+use Rattle.calendar.specs.rules.Refusals.{too_short, memory_tests}
 use Rattle.calendar.specs.rules.Operations.{Memory, actor}
-use Rattle.calendar.specs.rules.NarrowCalls.{own_in_range, records_in_range, narrow_out, narrow_refusal}
+use Rattle.calendar.specs.rules.NarrowCalls.{narrow_out}
 use Rattle.calendar.specs.facts.RangeFacts.{WordRanges, RecordRanges}
 use Rattle.calendar.specs.facts.Accepted.{Lent}
-use Rattle.laws.specs.FirstOf.{first_of, first_parts, first_behind, first_none}
-use Rattle.calendar.specs.facts.RefusalParts.{own_of}
 use Rattle.calendar.specs.facts.Untouched.{SameSize}
 
 -- 1 to 4

@@ -1,21 +1,14 @@
 -- A narrow call of several turns is its starts and turns one by one, and keeps what each of them keeps.
 --     all_go_on, OneByOne                                      it is a start or turn and some turns of its worker, all but the last going on
 -- Assumes nothing.
-use Rattle.std.specs.Prelude.{◌≡◌, refl, List, [], ◌∷◌, ◌++◌, Bool, true, false, cond, ◌&&◌, ◌≢◌, ℕ, zero, suc, ◌<◌, ◌≤◌, replicate, take, eqb}
-use Rattle.std.proofs.Common.{sym, ap, ◌∙◌, arith, eqb-true, ne_eqb}
-use Rattle.std.proofs.lemmas.Bool.{eqb-false}
+use Rattle.std.specs.Prelude.{◌≡◌, List, [], ◌∷◌, ◌++◌, Bool, true, false, ◌&&◌, ℕ, suc, ◌<◌, ◌≤◌, replicate, take}
 use Rattle.arrival.specs.declared.Shape.{Shape}
 use Rattle.arrival.specs.declared.Action.{Action}
 use Rattle.arrival.specs.declared.Action.TheVariants.{Step}
 use Rattle.arrival.specs.declared.Response.{Response}
 use Rattle.arrival.specs.declared.Response.TheVariants.{Refused}
-use Rattle.arrival.specs.Responses.{said}
-use Rattle.laws.specs.Tests.{never, by_test, by_size}
-use Rattle.calendar.specs.rules.Ranges.{worker}
-use Rattle.calendar.specs.rules.Reclaim.{in_progress}
-use Rattle.calendar.specs.rules.Operations.{Memory, Result, perform, actor, outcome}
-use Rattle.calendar.specs.rules.NarrowCalls.{turns_after, narrow_refusal, narrow_act, goes_on, narrow_call, narrow_made, narrow_run, narrow_responses}
-use Rattle.calendar.specs.facts.Untouched.{SameSize, SameBeyond}
+use Rattle.calendar.specs.rules.Operations.{Memory, actor}
+use Rattle.calendar.specs.rules.NarrowCalls.{goes_on, narrow_call, narrow_made, narrow_run, narrow_responses}
 
 -- ── one by one ──
 abbrev pub all_go_on : List Response → Bool

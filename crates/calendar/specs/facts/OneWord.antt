@@ -5,28 +5,15 @@
 --     SameSeen                                           two stores that agree on it; a turn does the same on both
 --     bookkeeping_at, OneWord, AllTo                      what a turn may write: its shared word and bookkeeping
 -- Assumes nothing.
-use Rattle.std.specs.Prelude.{◌≡◌, Bool, ◌≢◌, ◌⊎◌, ltb, get_or}
-use Rattle.std.proofs.Math.Path.{refl, ap}
-use Rattle.std.proofs.Common.{sym, ◌∙◌, subst, inl, inr, arith}
+use Rattle.std.specs.Prelude.{◌≡◌, ◌≢◌, ◌⊎◌, get_or}
 use mathlib.Core.List.{List, [], ◌∷◌, Memᴰ}
-use Rattle.std.proofs.Math.Bool.{true, false, cond}
-use Prim.Native.Nat.{ℕ, ◌+◌, ◌≤◌}
+use Rattle.std.proofs.Math.Bool.{cond}
+use Prim.Native.Nat.{ℕ, ◌≤◌}
 use Rattle.std.proofs.Math.Dec.{eqb}
-use Rattle.std.proofs.lemmas.Bool.{eqb-false}
 use Rattle.arrival.specs.declared.Shape.{Shape}
-use Rattle.arrival.specs.declared.Item.{Item}
 use Rattle.arrival.specs.declared.Worker.{Worker}
-use Rattle.arrival.specs.declared.Response.TheVariants.{Stored, Empty}
 use Rattle.arrival.specs.Keys.{key_of}
-use Rattle.arrival.proofs.Keys.{lower_by_key}
-use Rattle.arrival.specs.Queue.{taken}
-use Rattle.calendar.specs.rules.Layout.{Place, word, cell, field, Write, ◌≔◌, read, started, link_cell, item_at, epoch_at, successor, is_marked, unmarked}
-use Rattle.calendar.specs.rules.Layout.{unlinked_at, bucket_in, epoch_in}
-use Rattle.calendar.specs.rules.Outcome.{Outcome, on, answer, with_own, with_bucket, with_left, with_right, with_seen, with_current}
-use Rattle.calendar.specs.rules.SearchSteps.{found, settle, right_is_lower, unlink, step_1, step_2, step_3}
-use Rattle.calendar.specs.rules.EnqueueSteps.{link_own, renew_current, step_4, step_5, step_6, step_7}
-use Rattle.calendar.specs.rules.DequeueSteps.{walk, mark_node, this_current, next_current, step_8, step_9, step_10, step_11, step_12, step_13}
-use Rattle.calendar.specs.rules.Steps.{Rule, no_step, step}
+use Rattle.calendar.specs.rules.Layout.{Place, word, cell, field, Write, ◌≔◌, read, started, link_cell, item_at, epoch_at}
 
 -- ── the word ──
 -- current, the head of the worker's bucket, its left word, right's link

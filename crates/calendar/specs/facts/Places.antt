@@ -1,12 +1,8 @@
 -- The places of the store: a write changes the place that it names and no other, and the places that the rules write lie in the layout.
 --     same, valid                                two places are one; a place that there is
 -- Assumes nothing.
-use Rattle.std.specs.Prelude.{◌≡◌, refl, List, Bool, true, false, cond, ◌&&◌, ◌≢◌, ℕ, ◌+◌, ◌<◌, eqb, leb, ltb, length, get_or, set}
-use Rattle.std.proofs.Common.{sym, arith, length-set, get_or-set_same, get_or-set_other, eqb-true, eq-eqb, ltb-true}
-use Rattle.std.proofs.lemmas.Bool.{eqb-false}
-use Rattle.arrival.specs.declared.Shape.{Shape}
-use Rattle.laws.specs.Tests.{never, parts, within}
-use Rattle.calendar.specs.rules.Layout.{Place, word, cell, field, address, layout, read, write}
+use Rattle.std.specs.Prelude.{Bool, true, false, ◌&&◌, eqb, leb, ltb}
+use Rattle.calendar.specs.rules.Layout.{Place, word, cell, field}
 
 -- ── places ──
 -- one place, by computation

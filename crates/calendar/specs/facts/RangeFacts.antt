@@ -4,18 +4,12 @@
 --     WordRanges                                         the three first words alone, both ways
 --     RecordRanges                                           a record, both ways
 -- Assumes nothing.
-use Rattle.std.specs.Prelude.{◌≡◌, refl, List, Bool, true, false, ◌||◌, not, ◌⊎◌, ◌≢◌, ℕ, ◌+◌, ◌-◌, ◌/◌, ◌%◌, ◌<◌, ◌≤◌, eqb, leb}
-use Rattle.std.proofs.Common.{inl, inr, eqb-true, leb-true, ltb-true, le-leb, lt-ltb, eq-eqb}
+use Rattle.std.specs.Prelude.{◌≡◌, List, ◌⊎◌, ◌≢◌, ℕ, ◌+◌, ◌-◌, ◌/◌, ◌%◌, ◌<◌, ◌≤◌}
 use Rattle.arrival.specs.declared.Shape.{Shape}
 use Rattle.arrival.specs.declared.Worker.{Worker}
-use Rattle.laws.specs.Tests.{parts, never, both, either, or_left, or_right, inside, within, isnt, is_not}
-use Rattle.laws.proofs.Counting.{every_at, every_all}
-use Rattle.calendar.specs.rules.Layout.{current, started, last_node, head, link, time_at, ticket_at, path_at, order_at, distance_at, epoch_at, standing}
+use Rattle.calendar.specs.rules.Layout.{current, started, last_node, link, standing}
 use Rattle.calendar.specs.rules.Layout.{bucket_in}
-use Rattle.calendar.specs.rules.Ranges.{shape_in_range, head_in_range, node_in_range, store_in_range, table_in_range, worker, implies, between}
-use Rattle.calendar.specs.rules.Ranges.{call_in_range, place_in_range, words_held_in_range, record_in_range}
-use Rattle.calendar.specs.rules.Ranges.{words_in_range}
-use Rattle.calendar.specs.facts.Views.{View, view}
+use Rattle.calendar.specs.facts.Views.{View}
 
 -- ── the shape ──
 pub record Limits (sh : Shape) : Type 0 where

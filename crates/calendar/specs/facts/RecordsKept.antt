@@ -2,22 +2,10 @@
 -- and `seen`, can be out of range.
 --     links_in_range                        their test is then the test of the whole record
 -- Assumes nothing.
-use Rattle.std.specs.Prelude.{◌≡◌, refl, List, [], Bool, true, false, ◌&&◌, ◌≢◌, ℕ, ◌+◌, ◌-◌, ◌/◌, ◌%◌, ◌≤◌, ◌<◌, leb, length}
-use Rattle.std.proofs.Common.{sym, ◌∙◌, subst, arith, ltb-true, leb-true, le-leb, eq-eqb}
+use Rattle.std.specs.Prelude.{◌≡◌, Bool, ◌&&◌, leb}
 use Rattle.arrival.specs.declared.Shape.{Shape}
-use Rattle.arrival.specs.declared.Arrival.{Arrival}
 use Rattle.arrival.specs.declared.Worker.{Worker}
-use Rattle.arrival.proofs.Keys.{bucket_below}
-use Rattle.laws.specs.Tests.{never, parts, both}
-use Rattle.calendar.specs.rules.Layout.{Write, write_all, layout, link, started, current}
-use Rattle.calendar.specs.rules.Ranges.{link_in_range, record_in_range}
-use Rattle.calendar.specs.rules.Outcome.{Outcome, with_stage, with_seen, with_own, with_bucket, with_current}
-use Rattle.calendar.specs.rules.Starts.{enqueue_start, dequeue_start}
-use Rattle.calendar.specs.rules.EnqueueSteps.{current_holds}
-use Rattle.calendar.specs.rules.DequeueSteps.{next_current}
-use Rattle.calendar.specs.rules.Refusals.{no_epoch}
-use Rattle.calendar.specs.facts.Views.{View, view, updates, AllInside}
-use Rattle.calendar.specs.facts.RangeFacts.{WordRanges, RecordRanges}
+use Rattle.calendar.specs.rules.Ranges.{link_in_range}
 
 -- ── a turn ──
 -- what follows leaves `right` and `seen` as they were set

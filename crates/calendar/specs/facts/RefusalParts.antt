@@ -1,18 +1,12 @@
 -- An action's refusal in two parts, for all actions at once: the memory's tests, and behind them its own.
 --     own_of, tests_of                the tests of its own; all of them
 -- Assumes nothing.
-use Rattle.std.specs.Prelude.{◌≡◌, refl, List, ◌++◌, Bool, true, ◌≢◌, ℕ, length, drop}
-use Rattle.std.proofs.Common.{sym, ap, ◌∙◌}
+use Rattle.std.specs.Prelude.{List, ◌++◌, Bool, ℕ}
 use Rattle.arrival.specs.declared.Shape.{Shape}
-use Rattle.arrival.specs.declared.Worker.{Worker}
 use Rattle.arrival.specs.declared.Action.{Action}
-use Rattle.arrival.specs.declared.Action.TheVariants.{Enqueue, Dequeue, Step}
 use Rattle.calendar.specs.rules.Ranges.{worker}
-use Rattle.calendar.specs.rules.Refusals.{no_node, open_tests, memory_of, own_tests}
-use Rattle.calendar.specs.rules.Refusals.{open_refusal, enqueue_refusal, dequeue_refusal, step_refusal}
-use Rattle.calendar.specs.rules.Operations.{Memory, actor, refusal}
-use Rattle.laws.specs.FirstOf.{first_of, rises, first_parts, first_behind, first_front}
-use Rattle.calendar.specs.facts.Accepted.{Usable}
+use Rattle.calendar.specs.rules.Refusals.{no_node, memory_of, own_tests}
+use Rattle.calendar.specs.rules.Operations.{Memory, actor}
 
 abbrev pub own_of : Shape → Memory → Action → List (ℕ × Bool)
 own_of sh m a = own_tests sh m.store (no_node sh m.store m.table) a (worker m.table (actor a))

@@ -1,11 +1,10 @@
 -- The store as functions: a view. A write to one place updates one function of the view and leaves the others, by
 -- computation, the same functions. All invariants are over views. Assumes nothing.
-use Rattle.std.specs.Prelude.{◌≡◌, refl, List, [], ◌∷◌, true, cond, ℕ, ◌≤◌, ◌<◌, length}
-use Rattle.std.proofs.Common.{ap, ◌∙◌, arith}
+use Rattle.std.specs.Prelude.{◌≡◌, List, [], ◌∷◌, true, cond, ℕ, ◌<◌}
 use Rattle.arrival.specs.declared.Shape.{Shape}
 use Rattle.arrival.specs.declared.Item.{Item}
 use Rattle.arrival.specs.Keys.{lower}
-use Rattle.calendar.specs.rules.Layout.{Place, word, cell, field, Write, ◌≔◌, address, layout, read, write, write_all}
+use Rattle.calendar.specs.rules.Layout.{Place, word, cell, field, Write, ◌≔◌, address, layout, read}
 use Rattle.calendar.specs.facts.Places.{same, valid}
 
 pub record View : Type 0 where
