@@ -1,7 +1,6 @@
 -- What an operation that is not refused may count on.
 --     Lent, Usable                                          without refusals 1 and 2; and without 3 and 4
 --     EnqueueAccepted, DequeueAccepted, StepAccepted        and without those of a put, of a take, of a turn
---     lent                                                  an opening that is not refused has the first
 --     EnqueuePassed                                         without those of a put, whatever the memory's tests say
 -- Assumes nothing.
 use Rattle.std.specs.Prelude.{◌≡◌, List, false, ◌≢◌, ℕ, ◌<◌, ◌≤◌, length}
