@@ -10,7 +10,8 @@
 --     each_of                                a property of each element, by its number; of the one at n
 -- Assumes nothing.
 use Rattle.std.specs.Prelude.{◌≡◌, refl, List, [], ◌∷◌, Bool, true, false, cond, ◌&&◌, ℕ, zero, suc, ◌+◌, ◌*◌, ◌<◌, ◌≤◌, eqb, length, get_or, set}
-use Rattle.std.proofs.Common.{sym, ap, ◌∙◌, subst, ⊎_elim, get_or-set_same, get_or-set_other, eq-eqb, ne_eqb, add-zero, add-suc, suc-add, le_of_suc-le-suc, not-suc-le-zero, eq-or-lt_of_le, add-one, arith}
+use Rattle.std.proofs.Common.{sym, ap, ◌∙◌, subst, ⊎_elim, get_or-set_same, get_or-set_other, eq-eqb, ne_eqb, add-zero, add-suc, suc-add}
+use Rattle.std.proofs.Common.{le_of_suc-le-suc, not-suc-le-zero, eq-or-lt_of_le, add-one, arith}
 use Rattle.std.proofs.Math.Bool.{and-false}
 use Rattle.std.proofs.Math.Decide.{ℕ_discrete}
 use Rattle.laws.specs.Tests.{left_true, right_true, upd_same, upd_other}
@@ -96,7 +97,8 @@ tally_with f T i x (suc n) h = go (ℕ_discrete i n) (tally_with f T i x n)
     go (yes e) ih = omega (arith, ap f (upd_same i n x (T n) e), tally_out f T i x n (omega arith), ap (λ j. f (T j)) e)
     go (no u) ih = omega (arith, ap f (upd_other i n x (T n) u), ih (omega arith))
 
-pub sum_set : (xs : List ℕ) (i x : ℕ) → i < length xs → sum (λ k. get_or (set xs i x) k 0) (length xs) + get_or xs i 0 ≡ sum (λ k. get_or xs k 0) (length xs) + x
+pub sum_set : (xs : List ℕ) (i x : ℕ) → i < length xs → sum (λ k. get_or (set xs i x) k 0) (length xs) + get_or xs i 0
+    ≡ sum (λ k. get_or xs k 0) (length xs) + x
 sum_set xs i x h =
     omega (
       arith,

@@ -36,7 +36,8 @@ nothing_left : (x : Pool) → all_records [] x ≡ record { pool = x; lines = []
 unfolding records record_at
 nothing_left x = refl
 
-last_line_lem : (bytes : List ℕ) (k : ℕ) (x : Pool) → record_at bytes 0 ≡ Refused k → all_records bytes x ≡ record { pool = x; lines = line_of (response.Refused k) }
+last_line_lem : (bytes : List ℕ) (k : ℕ) (x : Pool) → record_at bytes 0 ≡ Refused k
+    → all_records bytes x ≡ record { pool = x; lines = line_of (response.Refused k) }
 unfolding records
 last_line_lem bytes k x e = rw e
 
@@ -163,7 +164,8 @@ pub all_rounds_lem : (n : ℕ) (reads : Reads) (h : Held) → 89 ≤ length h.ou
     → rounds n reads h ≡ all_records (h.bytes ++ ahead h.ended reads) h.pool
 unfolding rounds
 all_rounds_lem zero reads h big enough = absurd (omega arith)
-all_rounds_lem (suc n) reads h big enough = go (λ rs g. all_rounds_lem n rs g) (round_of h) (round_room h) (rest_less h) (round_of h).next (round_step h reads big)
+all_rounds_lem (suc n) reads h big enough = go (λ rs g. all_rounds_lem n rs g) (round_of h) (round_room h) (rest_less h) (round_of h).next
+    (round_step h reads big)
   where
     go : ((rs : Reads) (g : Held) → 89 ≤ length g.out → length g.bytes + weight g.ended rs < n
         → rounds n rs g ≡ all_records (g.bytes ++ ahead g.ended rs) g.pool)

@@ -21,7 +21,8 @@ nothing_written lines to = go (leb (to + 0) (length lines))
     )
     go false = (refl, refl)
 
-pub unclosed : (lines : List ℕ) (to : ℕ) (next : Next) → last_line next ≡ [] → (to ≡ after lines to (last_line next)) × (lines ≡ written lines to (last_line next))
+pub unclosed : (lines : List ℕ) (to : ℕ) (next : Next) → last_line next ≡ []
+    → (to ≡ after lines to (last_line next)) × (lines ≡ written lines to (last_line next))
 unclosed lines to next e = (sym (ap (after lines to) e ∙ (nothing_written lines to).0), sym (ap (written lines to) e ∙ (nothing_written lines to).1))
 
 pub last_at_end : (ended : Bool) (stop : Stop) (k : ℕ) → stop ≡ Halted k → ended ≡ true → Last k ≡ follows ended stop

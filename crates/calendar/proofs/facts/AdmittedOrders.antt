@@ -15,7 +15,8 @@ use Rattle.laws.specs.Lists.{mem_behind, Once, without, without_in, in_without, 
 use Rattle.laws.specs.Lists.{same_numbers_lem, all_true, gathered_in}
 use Rattle.calendar.specs.rules.Ledger.{Ledger}
 use Rattle.calendar.specs.rules.Linearizability.{Finished, EndedBefore, RespectsTime, pool_reply, Agree, MarkedAhead, Linearization}
-use Rattle.calendar.specs.facts.AdmittedOrders.{is_finished, ended_before, numbers, same_reply, marks_that, may_end, may_be_next, ended, next, orders_of, admitted}
+use Rattle.calendar.specs.facts.AdmittedOrders.{is_finished, ended_before, numbers, same_reply, marks_that, may_end, may_be_next, ended, next}
+use Rattle.calendar.specs.facts.AdmittedOrders.{orders_of, admitted}
 
 -- what the statement asks of a finished call's reply, and the test
 abbrev Same : Reply → Reply → Type 0

@@ -145,4 +145,5 @@ last_values (k ∷ ks) rs h = (at_values rs (k - 1) h, last_values ks (drop k rs
 -- whole calls, narrow ones and runs
 pub host_values : (sh : Shape) (m : Memory) (qs : List Request) → StaysInRange sh m → AllInRange (host_answers sh m qs)
 host_values sh m qs S =
-    subst⁻¹ AllInRange (host_answers_lem sh m qs S) (last_values (counts sh m qs) (responses sh m (one_by_one sh m qs)) (history_values sh m (one_by_one sh m qs)))
+    subst⁻¹ AllInRange (host_answers_lem sh m qs S) (last_values (counts sh m qs) (responses sh m (one_by_one sh m qs))
+    (history_values sh m (one_by_one sh m qs)))

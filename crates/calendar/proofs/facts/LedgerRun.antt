@@ -67,7 +67,9 @@ pub ledger_run :
     × (workers_with two_workers (run two_workers start half).table has_marked ≡ 1)
     × (workers_with two_workers (run two_workers start (put 1 (arrival 5 3) 3)).table has_linked ≡ 1)
 unfolding start half whole item after words two_workers arrival turns put take lent address read write every count blank store_in_range table_in_range is_free
-    first_free_of first_free words_from open_store open_table enqueue_start dequeue_start found settle step_1 step_2 step_3 step_4 step_5 step_6 step_7 walk step_8
-    step_9 step_10 step_11 step_12 step_13 no_step step open_refusal enqueue_refusal dequeue_refusal step_refusal open_pool act run ledger nodes_from unmarked_in
+    first_free_of first_free words_from open_store open_table enqueue_start dequeue_start found settle step_1 step_2 step_3 step_4 step_5 step_6
+    step_7 walk step_8
+    step_9 step_10 step_11 step_12 step_13 no_step step open_refusal enqueue_refusal dequeue_refusal step_refusal open_pool act run ledger nodes_from
+    unmarked_in
     unmarked_of lower bucket_of energy_of
 ledger_run = (refl, refl, refl, refl, refl, refl, refl, refl, refl, refl, refl, refl, refl, refl, refl, refl, refl, refl, refl, refl, refl, refl)

@@ -132,7 +132,8 @@ module _ (sh : Shape) (s s' : List ℕ) where
     same_12 : Same 12 step_12
     unfolding step_12
     same_12 q h =
-        ap (λ x. cond (eqb x (this_current w)) (on ((word 0 ≔ next_current w) ∷ []) 9 (with_bucket (w.bucket + 1) (with_current (next_current w) w))) (on [] 8 w))
+        ap (λ x. cond (eqb x (this_current w)) (on ((word 0 ≔ next_current w) ∷ []) 9 (with_bucket (w.bucket + 1) (with_current (next_current w) w)))
+        (on [] 8 w))
         (shared_at 12 q h)
 
     same_13 : Same 13 step_13

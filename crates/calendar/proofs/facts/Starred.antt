@@ -179,7 +179,8 @@ All (c ∷ cs) = Holds c × All cs
 
 pub starred_cases : All table
 unfolding All Holds table lent two_workers four_workers arrival turns ons put ends stored take four_begin four_begun address read write every blank
-    store_in_range table_in_range is_free first_free_of first_free words_from open_store open_table enqueue_start dequeue_start found settle step_1 step_2 step_3 step_4
+    store_in_range table_in_range is_free first_free_of first_free words_from open_store open_table enqueue_start dequeue_start found settle step_1
+    step_2 step_3 step_4
     step_5 step_6 step_7 walk step_8 step_9 step_10 step_11 step_12 step_13 no_step step open_refusal enqueue_refusal dequeue_refusal step_refusal open_pool act
     run responses lower bucket_of energy_of
 starred_cases = (
@@ -215,7 +216,9 @@ starred_cases = (
 -- started, its item and its marked link as they were.
 pub words_after : (run two_workers (open_pool two_workers lent).memory (put 0 (arrival 5 3) 5 ++ take 0 7)).store
     ≡ 1 ∷ 2 ∷ 0 ∷ 8 ∷ 8 ∷ 9 ∷ 5 ∷ 1 ∷ 7 ∷ 1 ∷ 3 ∷ 0 ∷ 4 ∷ (replicate 24 0 ++ (9 ∷ 9 ∷ 9 ∷ []))
-unfolding lent two_workers arrival turns put take address read write every blank store_in_range table_in_range is_free first_free_of first_free words_from open_store
-    open_table enqueue_start dequeue_start found settle step_1 step_2 step_3 step_4 step_5 step_6 step_7 walk step_8 step_9 step_10 step_11 step_12 step_13 no_step
+unfolding lent two_workers arrival turns put take address read write every blank store_in_range table_in_range is_free first_free_of first_free
+    words_from open_store
+    open_table enqueue_start dequeue_start found settle step_1 step_2 step_3 step_4 step_5 step_6 step_7 walk step_8 step_9 step_10 step_11 step_12
+    step_13 no_step
     step open_refusal enqueue_refusal dequeue_refusal step_refusal open_pool act run lower bucket_of energy_of
 words_after = refl

@@ -22,7 +22,8 @@ use Rattle.arrival.specs.declared.Response.TheVariants.{Opened, Refused}
 use Rattle.laws.proofs.Counting.{every_same, each_of}
 use Rattle.laws.specs.Lists.{words_from}
 use Rattle.calendar.specs.rules.Layout.{Place, word, cell, field, Write, ◌≔◌, address, layout, read, write, write_all, link_cell, item_at, standing}
-use Rattle.calendar.specs.rules.Ranges.{worker, small, current_in_range, link_in_range, path_in_range, order_in_range, head_in_range, node_in_range, store_in_range}
+use Rattle.calendar.specs.rules.Ranges.{worker, small, current_in_range, link_in_range, path_in_range, order_in_range, head_in_range, node_in_range}
+use Rattle.calendar.specs.rules.Ranges.{store_in_range}
 use Rattle.calendar.specs.rules.Reclaim.{is_free, node_after, first_free_of, first_free}
 use Rattle.calendar.specs.rules.Opening.{open_word, open_store, open_table}
 use Rattle.calendar.specs.rules.Outcome.{Outcome}

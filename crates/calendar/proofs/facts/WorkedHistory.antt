@@ -51,14 +51,18 @@ pub answers :
     × (seen.ended 3 ≡ some 3)
     × (seen.ended 4 ≡ some 4)
     × (seen.ended 5 ≡ some 5)
-unfolding one_bucket history start seen arrival turns put take lent address read write every blank store_in_range table_in_range is_free first_free_of first_free
-    words_from open_store open_table enqueue_start dequeue_start found settle step_1 step_2 step_3 step_4 step_5 step_6 step_7 walk step_8 step_9 step_10 step_11
+unfolding one_bucket history start seen arrival turns put take lent address read write every blank store_in_range table_in_range is_free first_free_of
+    first_free
+    words_from open_store open_table enqueue_start dequeue_start found settle step_1 step_2 step_3 step_4 step_5 step_6 step_7 walk step_8 step_9
+    step_10 step_11
     step_12 step_13 no_step step open_refusal enqueue_refusal dequeue_refusal step_refusal open_pool act run ledger lower bucket_of energy_of
 answers = (refl, refl, refl, refl, refl, refl, refl, refl, refl, refl, refl)
 
 -- THE ORDER IS FORCED
 pub order_forced : (X : Linearization seen) → X.order ≡ 1 ∷ 2 ∷ 3 ∷ 4 ∷ 5 ∷ []
-unfolding one_bucket history start seen arrival turns put take lent address read write every blank store_in_range table_in_range is_free first_free_of first_free
-    words_from open_store open_table enqueue_start dequeue_start found settle step_1 step_2 step_3 step_4 step_5 step_6 step_7 walk step_8 step_9 step_10 step_11
+unfolding one_bucket history start seen arrival turns put take lent address read write every blank store_in_range table_in_range is_free first_free_of
+    first_free
+    words_from open_store open_table enqueue_start dequeue_start found settle step_1 step_2 step_3 step_4 step_5 step_6 step_7 walk step_8 step_9
+    step_10 step_11
     step_12 step_13 no_step step open_refusal enqueue_refusal dequeue_refusal step_refusal open_pool act run ledger lower bucket_of energy_of orders_of below
 order_forced = forced seen _ refl

@@ -68,7 +68,8 @@ next t c os = cond t (map (λ (o : List ℕ). c ∷ o) os) []
 -- at most n calls more, out of the rest
 unfoldable pub orders_of : Ledger → ℕ → Items → List ℕ → List (List ℕ)
 orders_of L zero S rest = ended (may_end L rest)
-orders_of L (suc n) S rest = ended (may_end L rest) ++ gathered (λ c. next (may_be_next L S rest c) c (orders_of L n (after S (L.asked c)) (without c rest))) rest
+orders_of L (suc n) S rest = ended (may_end L rest) ++ gathered
+    (λ c. next (may_be_next L S rest c) c (orders_of L n (after S (L.asked c)) (without c rest))) rest
 
 abbrev pub admitted : Ledger → List (List ℕ)
 admitted L = orders_of L L.started [] (up_to L.started)

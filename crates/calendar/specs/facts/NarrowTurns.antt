@@ -27,4 +27,5 @@ pub record OneByOne (sh : Shape) (m : Memory) (a : Action) (n : ℕ) : Type 0 wh
   -- it stops before the limit only where nothing goes on
   pub stops : turns < n → goes_on (narrow_call sh m a n).response ≡ false
   -- a refusal leaves what those before it left
-  pub refused : (k : ℕ) → (narrow_call sh m a n).response ≡ Refused (suc k) → (narrow_call sh m a n).memory ≡ narrow_run sh m (take turns (narrow_made sh m a n))
+  pub refused : (k : ℕ) → (narrow_call sh m a n).response ≡ Refused (suc k)
+      → (narrow_call sh m a n).memory ≡ narrow_run sh m (take turns (narrow_made sh m a n))
