@@ -30,7 +30,7 @@ use Rattle.laws.specs.FirstOf.{first_of, None, first_append, first_parts, first_
 use Rattle.calendar.specs.facts.Accepted.{Lent, Usable}
 use Rattle.calendar.proofs.facts.Accepted.{lent, memory_accepted}
 use Rattle.calendar.proofs.facts.RefusalParts.{refusal_first}
-pub use Rattle.calendar.specs.facts.RefusalParts.{own_of}
+use Rattle.calendar.specs.facts.RefusalParts.{own_of}
 use Rattle.calendar.specs.rules.Operations.{Memory, actor, refusal, act}
 use Rattle.admission.specs.Watched.{Watched}
 use Rattle.admission.specs.Gate.{gate_of, open_gate, sound_of}

@@ -1,4 +1,5 @@
 -- Refusals 1 to 4 by the flag, before the worker's record is looked at: an action is refused by one of them, or by the first of its own.
+--     own_of                          an action's own refusals, handed on
 --     gate_of                         the first of 1 to 4; where there is none the flag is up and the worker exists
 --     open_gate                       the first of 1 and 2: an opening's refusal
 --     open_response                   its response, by that number

@@ -7,6 +7,7 @@ pub mod NeverSix
 pub mod OpeningRounds
 pub mod RecordsCounted
 pub mod RecordsNotHeld
+pub mod RecordsBeyond
 pub mod RoundArms
 pub mod Stopping
 pub mod WithinBuffers

@@ -1,7 +1,6 @@
 -- Records behind those that a batch holds are neither read nor changed: on any other table with the same held records it does the same, and keeps the rest.
 --     all_within                     no more records are held than count
 --     all_alike                      on two tables that are alike a batch does the same, and each keeps what is behind the held records
---     all_beyond                     records past the 64th do not matter, and stay
 -- Assumes nothing.
 use Rattle.std.specs.Prelude.{◌≡◌, Bool, ◌≢◌, ltb, length, take}
 use Rattle.std.proofs.Math.Path.{refl, ap, subst}
@@ -341,56 +340,3 @@ module _ (bytes : List ℕ) where
   pub all_alike : (p : Progress) (k : ℕ) (u : List Worker) → Alike k p.pool.memory.table u → Covers p.pool.shape (length p.pool.memory.table) k
       → worked_all bytes (on_table p u) ≡ keeping_from (held_all bytes k p) (worked_all bytes p) u
   all_alike p k u A covers = worked_alike (length bytes + 1) p k u A covers
-
-take_append_le : (k : ℕ) (t u : List Worker) → k ≤ length t → take k (t ++ u) ≡ take k t
-take_append_le zero t u h = refl
-take_append_le (suc k) [] u h = absurd (omega arith)
-take_append_le (suc k) (x ∷ t) u h = ap (λ (y : List Worker). x ∷ y) (take_append_le k t u (omega arith))
-
-all_64 : (n : ℕ) → 64 ≤ n → counted_of n ≡ 64
-all_64 n h = omega (arith, (counted_bound n).1, counts n 64 h (omega arith))
-
--- They do not matter, and stay.
-pub all_beyond : (bytes : List ℕ) (u : List Worker) (p : Progress) → 64 ≤ length p.pool.memory.table
-    → worked_all bytes (more p u) ≡ record { progress = more (worked_all bytes p).progress u; stop = (worked_all bytes p).stop }
-all_beyond bytes u p long =
-    all_alike bytes p 64 (t ++ u) longer covers
-    ∙ ap (λ (v : List Worker). record { progress = on_table (worked_all bytes p).progress v; stop = (worked_all bytes p).stop }) tables
-  where
-    t : List Worker
-    t = p.pool.memory.table
-
-    h : ℕ
-    h = held_all bytes 64 p
-
-    t' : List Worker
-    t' = (worked_all bytes p).progress.pool.memory.table
-
-    covers : Covers p.pool.shape (length p.pool.memory.table) 64
-    covers e w = (limits p.pool.shape e).workers
-
-    within : 64 ≤ counted_of (length p.pool.memory.table)
-    within = omega (arith, all_64 (length t) long)
-
-    itself_alike : Alike 64 p.pool.memory.table p.pool.memory.table
-    itself_alike = record { first = refl; counted = refl; within = within }
-
-    longer : Alike 64 p.pool.memory.table (p.pool.memory.table ++ u)
-    longer =
-        record {
-          first = take_append_le 64 t u long;
-          counted = all_64 (length (t ++ u)) (omega (arith, length-append t u)) ∙ sym (all_64 (length t) long);
-          within = within;
-        }
-
-    -- what is behind the held records stays
-    stays : (worked_all bytes p).progress.pool.memory.table
-        ≡ over (held_all bytes 64 p) (worked_all bytes p).progress.pool.memory.table p.pool.memory.table
-    stays = ap (λ (q : Stopped). q.progress.pool.memory.table) (all_alike bytes p 64 t itself_alike covers)
-
-    tables : over (held_all bytes 64 p) (worked_all bytes p).progress.pool.memory.table (p.pool.memory.table ++ u)
-        ≡ (worked_all bytes p).progress.pool.memory.table ++ u
-    tables =
-        ap (λ (v : List Worker). take h t' ++ v) (drop-append-le h t u (omega (arith, all_within bytes p 64 within, (counted_bound (length t)).0)))
-        ∙ sym (append_assoc (take h t') (drop h t) u)
-        ∙ ap (λ (v : List Worker). v ++ u) (sym stays)

@@ -1,4 +1,4 @@
-// The dealer of turns, for hosts: over lent memory, whatever it holds. An archive of its own.
+// The dealer of turns, for hosts: over lent memory, whatever it holds, exported by dealer_c.
 #![tactic(auto)]
 
 ghost use Rattle.std.specs.Prelude.{◌≡◌, true, false};

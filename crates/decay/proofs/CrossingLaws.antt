@@ -1,13 +1,13 @@
 -- The first slots at which so little is left: that there are such slots.
 --     crosses                                a test holds of a slot and of none before it; so of the first, if it holds where nothing is left
 --     early_crosses, square_crosses          so of the slots of early decay and of T20
---     t20_rises, t20_exact                   the slot at which less is left comes no earlier, so that the difference of T20 is never negative
+--     t20_rises                              the slot at which less is left comes no earlier, so that the difference of T20 is never negative
 -- Assumes nothing.
-use Rattle.std.specs.Prelude.{◌≡◌, List, Bool, true, ℕ, ◌+◌, ◌*◌, ◌≤◌, length}
+use Rattle.std.specs.Prelude.{◌≡◌, List, Bool, true, ℕ, ◌*◌, ◌≤◌, length}
 use Rattle.std.proofs.Common.{ap, ◌∙◌, mul-zero, arith, leb-true, le-leb}
 use Rattle.laws.specs.Tests.{by_size}
 use Rattle.laws.proofs.Searching.{first_holds, first_not_before, first_wider}
-use Rattle.decay.specs.Decay.{rest, first, early_fallen, square_fallen, t20}
+use Rattle.decay.specs.Decay.{rest, first, early_fallen, square_fallen}
 use Rattle.decay.proofs.Rest.{rest_past}
 use Rattle.decay.specs.Crossings.{Crosses}
 
@@ -31,8 +31,3 @@ t20_rises row =
     first_wider (length row) (square_fallen 10 row) (square_fallen 100000 row)
     (λ k e. le-leb (10 * (rest row k * rest row k)) (rest row 0 * rest row 0)
     (omega (arith, leb-true (100000 * (rest row k * rest row k)) (rest row 0 * rest row 0) e)))
-
--- so no more is taken off than there is
-pub t20_exact : (row : List ℕ) → 3 * first row (square_fallen 100000 row) ≡ t20 row + 3 * first row (square_fallen 10 row)
-unfolding t20
-t20_exact row = omega (arith, t20_rises row)

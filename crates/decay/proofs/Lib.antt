@@ -6,4 +6,5 @@ pub mod CrossingSearch
 pub mod Totals
 pub mod Curves
 pub mod CrossingLaws
+pub mod T20Exact
 pub mod LogLaws

@@ -1,4 +1,4 @@
-// How an echogram decays: early decay, T20 and levels of a row that is only read, for C and Rust to call.
+// How an echogram decays: early decay, T20 and levels of a row that is only read, exported by decay_c.
 #![tactic(auto)]
 
 ghost use Rattle.std.specs.Prelude.{◌≡◌};

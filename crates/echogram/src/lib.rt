@@ -1,4 +1,4 @@
-// The echogram: a lent row of slots to which taken arrivals are added up, for C and Rust to call. It knows nothing of the pool.
+// The echogram: a lent row of slots to which taken arrivals are added up, exported by echogram_c. It knows nothing of the pool.
 #![tactic(auto)]
 
 ghost use Rattle.std.specs.Prelude.{◌≡◌};

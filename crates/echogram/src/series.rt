@@ -46,7 +46,8 @@ pub fn record_each(
         let energy = energies[i];
         let answer = record_on(grid, times[i], energy, headroom, row);
         answers[i] = answer as u8;
-        if answer == 0 {
+        let was_recorded = answer == 0;
+        if was_recorded {
             headroom -= energy as u64;
         }
         i += 1;

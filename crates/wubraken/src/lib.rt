@@ -1,4 +1,4 @@
-// The library for hosts, single calls: entry points over lent memory, whatever it holds, for C and Rust to call. A start or turn copies one record out,
+// The library for hosts, single calls: entry points over lent memory, whatever it holds, which wubraken_c exports. A start or turn copies one record out,
 // calls a function by value, and stores the record back.
 #![tactic(auto)]
 

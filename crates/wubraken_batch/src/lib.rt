@@ -1,5 +1,5 @@
-// The library for hosts, batches: a piece of a turn file at once, over lent memory, whatever it holds. An archive of its own, so that the turn has one
-// caller and is compiled into the loop.
+// The library for hosts, batches: a piece of a turn file at once, over lent memory, whatever it holds. Its export, wubraken_batch_c, is an
+// archive of its own, so that the turn has one caller and is compiled into the loop.
 #![tactic(auto)]
 
 ghost use Rattle.std.specs.Prelude.{◌≡◌};
