@@ -23,7 +23,8 @@ use Rattle.calendar.specs.facts.Accepted.{Lent}
 use Rattle.calendar.proofs.facts.RangeFacts.{limits, word_ranges}
 use Rattle.words.specs.Laid.{Laid, laid}
 use Rattle.admission.specs.Gate.{gate_of, open_gate}
-use Rattle.admission.proofs.GateLaws.{own_of, gate_with, gate_passed, gate_opens, open_passed, lent_passes}
+use Rattle.admission.specs.Gate.{own_of}
+use Rattle.admission.proofs.GateLaws.{gate_with, gate_passed, gate_opens, open_passed, lent_passes}
 use Rattle.admission.specs.NarrowGate.{near_of, RecordsSeen, Near}
 
 pub near_opens : (sh : Shape) (s : List ℕ) (records : ℕ) (ok : Bool) → near_of sh s records ok ≡ true → open_gate sh (length s) records ≡ 0

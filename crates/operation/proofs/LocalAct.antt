@@ -27,7 +27,8 @@ use Rattle.starts.specs.FreeSearch.{first_free_is}
 use Rattle.starts.specs.LocalStart.{local_enqueue, local_dequeue}
 use Rattle.admission.specs.Watched.{Watched}
 use Rattle.admission.specs.Gate.{gate_of}
-use Rattle.admission.proofs.GateLaws.{own_of, usable, refusal_is}
+use Rattle.admission.specs.Gate.{own_of}
+use Rattle.admission.proofs.GateLaws.{usable, refusal_is}
 use Rattle.admission.specs.NarrowGate.{near_of, RecordsSeen}
 use Rattle.admission.proofs.NarrowGate.{near_passed, narrow_first}
 use Rattle.operation.specs.LocalAct.{local_act, Admitted, back, LowFor, TicketsFor}
