@@ -30,6 +30,6 @@ pub mod WorkedHistory
 pub mod TailHistory
 pub mod TieHistory
 pub mod OneWord
-pub mod LayoutEnough
+pub mod LayoutWords
 pub mod WordsBeyond
 pub mod AnswerRanges

@@ -135,6 +135,25 @@ fn read_more<R: Read>(from: &mut R, input: &mut [u8], have: usize) -> usize
     }
 }
 
+// Writes all of the bytes, or stops at the first write that takes nothing or fails.
+fn write_out<W: Write>(to: &mut W, bytes: &[u8]) -> bool {
+    let mut done: usize = 0;
+    while done < bytes.len() {
+        match to.write(&bytes[done..]) {
+            Ok(n) => {
+                if n == 0 {
+                    return false;
+                }
+                done += n;
+            }
+            Err(_) => {
+                return false;
+            }
+        }
+    }
+    true
+}
+
 // One round over the bytes from `at` to `have`: a batch, the last line behind it, and what follows.
 fn one_round(
     pool: HeldPool,
@@ -183,7 +202,7 @@ fn run<R: Read, W: Write>(
         left -= 1;
         let r = one_round(pool, ended, input, at, have, out, store);
         let n = r.to;
-        if to.write_all(&out[..n]).is_err() {
+        if !write_out(to, &out[..n]) {
             return Ended::Closed;
         }
         let after = r.pool;

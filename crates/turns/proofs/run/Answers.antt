@@ -25,8 +25,8 @@ loop-left-init g c =
     }
 
 -- the output is closed
-pub returns-then-is_err : goal.returns-then-is_err
-returns-then-is_err g c = closed (at_first lent c.args.out.now) _ _ c.loop-left.invariant.followed _ c.one_round-r.ensures.0 _ refl
+pub returns-then-not-write_out : goal.returns-then-not-write_out
+returns-then-not-write_out g c = closed (at_first lent c.args.out.now) _ _ c.loop-left.invariant.followed _ c.one_round-r.ensures.0 _ refl
 
 -- the round goes on with the bytes in hand
 pub loop-left-preserved-in-More : goal.loop-left-preserved-in-More
