@@ -9,7 +9,7 @@ ghost use Rattle.words.specs.Kept.{Kept};
 
 use arrival::{Item, Key, Shape};
 use field::Field;
-use store::Store;
+use store::{Store, View};
 use word::Word;
 
 pub mod field;
@@ -37,16 +37,16 @@ fn cell_address(buckets: u64, p: u64) -> usize
     }
 }
 
-#[tactic(auto, unfolding(calendar::specs::rules::Layout::read, calendar::specs::rules::Layout::write, calendar::specs::rules::Layout::address))]
-impl Store<'_> {
-    // The address of a word of node n.
-    fn field_address(&self, f: Field, n: u64) -> usize
-        requires { n < self.now.shape.nodes }
-        ensures { result ≡ address self.now.shape (field (field_number f) n) }
-    {
-        (word::HEADS + self.shape.buckets + word::NODE_WORDS * n + f.number()) as usize
-    }
+// The address of a word of node n.
+fn field_address(shape: Shape, f: Field, n: u64) -> usize
+    requires { (n < shape.nodes) × (shape.nodes ≤ 4096) × (shape.buckets ≤ 256) }
+    ensures { result ≡ 3 + shape.buckets + 8 * n + field_number f }
+{
+    (word::HEADS + shape.buckets + word::NODE_WORDS * n + f.number()) as usize
+}
 
+#[tactic(auto, unfolding(calendar::specs::rules::Layout::read, calendar::specs::rules::Layout::write, calendar::specs::rules::Layout::address))]
+impl View<'_> {
     // One of the first three words.
     pub fn word(&self, k: Word) -> u64
         ensures { result ≡ read self.now.shape self.now.words.now (word (word_number k)) }
@@ -67,30 +67,7 @@ impl Store<'_> {
         requires { n < self.now.shape.nodes }
         ensures { result ≡ read self.now.shape self.now.words.now (field (field_number f) n) }
     {
-        self.words[self.field_address(f, n)]
-    }
-
-    pub fn set_word(&mut self, k: Word, v: u64)
-        ensures kept { Kept self.old self.new }
-        ensures written { self.new.words.now ≡ write self.old.shape self.old.words.now (word (word_number k)) v }
-    {
-        self.words[k.number()] = v;
-    }
-
-    pub fn set_cell(&mut self, p: u64, v: u64)
-        requires { p < self.old.shape.buckets + self.old.shape.nodes }
-        ensures kept { Kept self.old self.new }
-        ensures written { self.new.words.now ≡ write self.old.shape self.old.words.now (cell p) v }
-    {
-        self.words[cell_address(self.shape.buckets, p)] = v;
-    }
-
-    pub fn set_field(&mut self, f: Field, n: u64, v: u64)
-        requires { n < self.old.shape.nodes }
-        ensures kept { Kept self.old self.new }
-        ensures written { self.new.words.now ≡ write self.old.shape self.old.words.now (field (field_number f) n) v }
-    {
-        self.words[self.field_address(f, n)] = v;
+        self.words[field_address(self.shape, f, n)]
     }
 
     // The key of the arrival in node n.
@@ -118,5 +95,41 @@ impl Store<'_> {
             distance: self.field(Field::Distance, n),
             ticket: key.ticket,
         }
+    }
+}
+
+#[tactic(auto, unfolding(calendar::specs::rules::Layout::read, calendar::specs::rules::Layout::write, calendar::specs::rules::Layout::address))]
+impl Store<'_> {
+    // To read from it.
+    pub fn view(&self) -> View<'_>
+        ensures { (result.shape ≡ self.now.shape) × (result.words.now ≡ self.now.words.now) }
+    {
+        View {
+            shape: self.shape,
+            words: self.words,
+        }
+    }
+
+    pub fn set_word(&mut self, k: Word, v: u64)
+        ensures kept { Kept self.old self.new }
+        ensures written { self.new.words.now ≡ write self.old.shape self.old.words.now (word (word_number k)) v }
+    {
+        self.words[k.number()] = v;
+    }
+
+    pub fn set_cell(&mut self, p: u64, v: u64)
+        requires { p < self.old.shape.buckets + self.old.shape.nodes }
+        ensures kept { Kept self.old self.new }
+        ensures written { self.new.words.now ≡ write self.old.shape self.old.words.now (cell p) v }
+    {
+        self.words[cell_address(self.shape.buckets, p)] = v;
+    }
+
+    pub fn set_field(&mut self, f: Field, n: u64, v: u64)
+        requires { n < self.old.shape.nodes }
+        ensures kept { Kept self.old self.new }
+        ensures written { self.new.words.now ≡ write self.old.shape self.old.words.now (field (field_number f) n) v }
+    {
+        self.words[field_address(self.shape, f, n)] = v;
     }
 }
