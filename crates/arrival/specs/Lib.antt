@@ -3,3 +3,4 @@ pub mod Energy
 pub mod Responses
 pub mod Queue
 pub mod QueueLaws
+pub mod Requests
