@@ -131,7 +131,7 @@ fn start_refusal(w: Worker, started: u64) -> Result<(), Refusal>
 
 // Those of a put before a node is looked for: 5, and then those of every start.
 fn enqueue_refusal(arrival: Arrival, w: Worker, started: u64) -> Result<(), Refusal>
-    ensures { refusal_of result ≡ early_refusal arrival w started }
+    ensures early { refusal_of result ≡ early_refusal arrival w started }
 {
     if is_bad(arrival) {
         return Err(Refusal::BadArrival);
