@@ -4,3 +4,4 @@ pub mod Responses
 pub mod Queue
 pub mod QueueLaws
 pub mod Refusals
+pub mod Requests

@@ -5,6 +5,7 @@ ghost use Rattle.std.specs.Prelude.{◌≡◌, ◌≤◌};
 ghost use Rattle.arrival.specs.Keys.{lower_key, bucket_of};
 
 pub mod refusals;
+pub mod requests;
 pub mod rounds;
 pub mod spreading;
 
@@ -30,6 +31,7 @@ pub struct Arrival {
 
 // A worker's record. `left` is a cell (heads first, then node links), `right` a node or the end, `seen` the link word
 // seen, `current` the current word seen, `ticket` the call's place among all calls. The default has no call in progress, as opening leaves it.
+// Kept as numbers: stage and kind lie in memory that C lends and that may hold any number, which refusal 3 tests.
 #[repr(C)]
 #[derive(Clone, Copy, Default)]
 pub struct Worker {
@@ -78,6 +80,7 @@ pub enum Request {
 }
 
 // What the pool answers. `Begun` and `Stored` carry the ticket, `Refused` the refusal's number.
+// Kept as a number: the rules number the refusals (calendar/rules/Refusals), and theorems on `Refused n` speak of every n (facts_hold).
 #[derive(Clone, Copy)]
 pub enum Response {
     Opened,
