@@ -140,7 +140,12 @@ fn enqueue_refusal(arrival: Arrival, w: Worker, started: u64) -> Result<(), Refu
 }
 
 // A put start with its refusals; low: the least ticket in progress.
-pub fn start_enqueue(low: u64, arrival: Arrival, w: Worker, store: &mut Store<'_>) -> Result<Reply, Refusal>
+pub fn start_enqueue(
+    low: u64,
+    arrival: Arrival,
+    w: Worker,
+    store: &mut Store<'_>,
+) -> Result<Reply, Refusal>
     requires { (started store.old.shape store.old.words.now < 4294967296) × (last_node store.old.shape store.old.words.now < store.old.shape.nodes)
         × (low ≤ 4294967296) × (1 ≤ store.old.shape.width) }
     ensures kept { Kept store.old store.new }

@@ -19,7 +19,7 @@ returns-in_err-n-clause-gives c =
     let p = err_from_is_err_and c.from_residual-in_err-n.result c.from_residual-in_err-n.ensures.1 in
     let e : p.0 ≡ NoNode = grind arith in
     let first : c.args.store.now.shape.nodes ≡ first_free_below c.args.store.now.shape c.args.store.now.words.now c.args.low =
-        rw (none, c.view-2.ensures.0, c.view-2.ensures.1) at c.first_free.ensures.first in
+    rw (none, c.view-2.ensures.0, c.view-2.ensures.1) at c.first_free.ensures.first in
     rw (p.1, e)
     (at_full _ _ _ _ _ _ 0 _ (rw (← c.view.ensures.0, ← c.view.ensures.1) c.word.ensures) c.in_ok-enqueue_refusal.ensures.early refl first refl)
 
@@ -27,7 +27,7 @@ pub returns-clause-gives : goal.returns-clause-gives
 returns-clause-gives c =
     let found : c.first_free.result ≡ Some c.in_ok-n.n = grind arith in
     let first : c.in_ok-n.n ≡ first_free_below c.args.store.now.shape c.args.store.now.words.now c.args.low =
-        rw (found, c.view-2.ensures.0, c.view-2.ensures.1) at c.first_free.ensures.first in
+    rw (found, c.view-2.ensures.0, c.view-2.ensures.1) at c.first_free.ensures.first in
     let inside : c.in_ok-n.n < c.args.store.now.shape.nodes = rw (found, c.view-2.ensures.0) at c.first_free.ensures.inside in
     let a_node : c.in_ok-n.n ≢ c.args.store.now.shape.nodes = λ z. omega (arith, inside) in
     c.begin_enqueue.ensures.begun

@@ -20,7 +20,7 @@ loop-preserved c =
     let less : c.args.view.now.shape.nodes - c.loop.counter - 1 ≡ c.args.view.now.shape.nodes - (c.loop.counter + 1) = omega arith in (
       omega (arith, c.after-n.ensures, next_below c.args.view.now.shape _ c.loop.invariant.0),
       rw (← less)
-      (sym (free_on _ _ _ _ _ _ _ _ some c.after-n.ensures c.field.ensures c.is_free.ensures c.if-is_free.false) ∙ c.loop.invariant.1),
+          (sym (free_on _ _ _ _ _ _ _ _ some c.after-n.ensures c.field.ensures c.is_free.ensures c.if-is_free.false) ∙ c.loop.invariant.1),
     )
 
 pub returns-clause-first : goal.returns-clause-first
