@@ -1,4 +1,5 @@
 pub mod Row
+pub mod Refusals
 pub mod Series
 pub mod AtSlot
 pub mod Recorded

@@ -4,11 +4,14 @@
 ghost use Rattle.std.specs.Prelude.{◌≡◌};
 ghost use Rattle.echogram.specs.Row.{record_answer, recorded, clear_answer, cleared};
 ghost use Rattle.echogram.specs.Series.{recording, SeriesEnd, series};
+ghost use Rattle.echogram.specs.Refusals.{outcome_number};
 
-use row::{add_energy, headroom_of, is_outside};
+use refusal::{RowRefusal, outcome_number};
+use row::{OpenRow, is_outside};
 use series::record_each;
 
 mod grid;
+pub mod refusal;
 pub mod row;
 mod series;
 
@@ -16,15 +19,17 @@ mod series;
 pub fn wubraken_clear_row(slot_length: u64, row: &mut [u32]) -> u64
     ensures { (result ≡ clear_answer slot_length row.old) × (row.new ≡ cleared slot_length row.old) }
 {
+    outcome_number(clear_row(slot_length, row))
+}
+
+fn clear_row(slot_length: u64, row: &mut [u32]) -> Result<(), RowRefusal>
+    ensures { (outcome_number result ≡ clear_answer slot_length row.old) × (row.new ≡ cleared slot_length row.old) }
+{
     if is_outside(slot_length, row.len()) {
-        return 13;
+        return Err(RowRefusal::BadRow);
     }
-    let mut k: usize = 0;
-    while k < row.len() {
-        row[k] = 0;
-        k += 1;
-    }
-    0
+    row.fill(0);
+    Ok(())
 }
 
 // Records a taken arrival: its energy is added to the slot of its time. The answer is 0, or the number of the refusal.
@@ -32,15 +37,21 @@ pub fn wubraken_record(slot_length: u64, time: u32, energy: u32, row: &mut [u32]
     ensures { (result ≡ record_answer row.old (recording slot_length time energy))
         × (row.new ≡ recorded row.old (recording slot_length time energy)) }
 {
+    outcome_number(record(slot_length, time, energy, row))
+}
+
+fn record(slot_length: u64, time: u32, energy: u32, row: &mut [u32]) -> Result<(), RowRefusal>
+    ensures { (outcome_number result ≡ record_answer row.old (recording slot_length time energy))
+        × (row.new ≡ recorded row.old (recording slot_length time energy)) }
+{
     if is_outside(slot_length, row.len()) {
-        return 13;
+        return Err(RowRefusal::BadRow);
     }
     let slot = (time / slot_length as u32) as usize;
     if row.len() <= slot {
-        return 14;
+        return Err(RowRefusal::PastRow);
     }
-    let headroom = headroom_of(row);
-    add_energy(slot, energy, headroom, row)
+    OpenRow::of(row).add(slot, energy)
 }
 
 // Records a series, with an answer for each recording. It adds the row up once. The answer is 0, or the number of what refuses the whole series.
@@ -54,13 +65,26 @@ pub fn wubraken_record_series(
     ensures { ◌≡◌ {A = SeriesEnd} (record { answer = result; answers = answers.new; row = row.new })
         (series slot_length times.now energies.now answers.old row.old) }
 {
+    outcome_number(record_series(slot_length, times, energies, answers, row))
+}
+
+fn record_series(
+    slot_length: u64,
+    times: &[u32],
+    energies: &[u32],
+    answers: &mut [u8],
+    row: &mut [u32],
+) -> Result<(), RowRefusal>
+    ensures { ◌≡◌ {A = SeriesEnd} (record { answer = outcome_number result; answers = answers.new; row = row.new })
+        (series slot_length times.now energies.now answers.old row.old) }
+{
     let n = times.len();
     if (energies.len() != n) | (answers.len() != n) {
-        return 2;
+        return Err(RowRefusal::UnevenSeries);
     }
     if is_outside(slot_length, row.len()) {
-        return 13;
+        return Err(RowRefusal::BadRow);
     }
     record_each(slot_length, times, energies, answers, row);
-    0
+    Ok(())
 }
