@@ -4,13 +4,14 @@
 ghost use Rattle.std.specs.Prelude.{◌≡◌};
 ghost use Rattle.echogram.specs.Row.{record_answer, recorded, clear_answer, cleared};
 ghost use Rattle.echogram.specs.Series.{recording, SeriesEnd, series};
-ghost use Rattle.echogram.specs.Refusals.{outcome_number};
 
-use refusal::{RowRefusal, outcome_number};
-use row::{OpenRow, is_outside};
-use series::record_each;
+use recording::record;
+use refusal::outcome_number;
+use row::clear;
+use series::record_series;
 
 mod grid;
+mod recording;
 pub mod refusal;
 pub mod row;
 mod series;
@@ -19,17 +20,7 @@ mod series;
 pub fn wubraken_clear_row(slot_length: u64, row: &mut [u32]) -> u64
     ensures { (result ≡ clear_answer slot_length row.old) × (row.new ≡ cleared slot_length row.old) }
 {
-    outcome_number(clear_row(slot_length, row))
-}
-
-fn clear_row(slot_length: u64, row: &mut [u32]) -> Result<(), RowRefusal>
-    ensures { (outcome_number result ≡ clear_answer slot_length row.old) × (row.new ≡ cleared slot_length row.old) }
-{
-    if is_outside(slot_length, row.len()) {
-        return Err(RowRefusal::BadRow);
-    }
-    row.fill(0);
-    Ok(())
+    outcome_number(clear(slot_length, row))
 }
 
 // Records a taken arrival: its energy is added to the slot of its time. The answer is 0, or the number of the refusal.
@@ -38,20 +29,6 @@ pub fn wubraken_record(slot_length: u64, time: u32, energy: u32, row: &mut [u32]
         × (row.new ≡ recorded row.old (recording slot_length time energy)) }
 {
     outcome_number(record(slot_length, time, energy, row))
-}
-
-fn record(slot_length: u64, time: u32, energy: u32, row: &mut [u32]) -> Result<(), RowRefusal>
-    ensures { (outcome_number result ≡ record_answer row.old (recording slot_length time energy))
-        × (row.new ≡ recorded row.old (recording slot_length time energy)) }
-{
-    if is_outside(slot_length, row.len()) {
-        return Err(RowRefusal::BadRow);
-    }
-    let slot = (time / slot_length as u32) as usize;
-    if row.len() <= slot {
-        return Err(RowRefusal::PastRow);
-    }
-    OpenRow::of(row).add(slot, energy)
 }
 
 // Records a series, with an answer for each recording. It adds the row up once. The answer is 0, or the number of what refuses the whole series.
@@ -66,25 +43,4 @@ pub fn wubraken_record_series(
         (series slot_length times.now energies.now answers.old row.old) }
 {
     outcome_number(record_series(slot_length, times, energies, answers, row))
-}
-
-fn record_series(
-    slot_length: u64,
-    times: &[u32],
-    energies: &[u32],
-    answers: &mut [u8],
-    row: &mut [u32],
-) -> Result<(), RowRefusal>
-    ensures { ◌≡◌ {A = SeriesEnd} (record { answer = outcome_number result; answers = answers.new; row = row.new })
-        (series slot_length times.now energies.now answers.old row.old) }
-{
-    let n = times.len();
-    if (energies.len() != n) | (answers.len() != n) {
-        return Err(RowRefusal::UnevenSeries);
-    }
-    if is_outside(slot_length, row.len()) {
-        return Err(RowRefusal::BadRow);
-    }
-    record_each(slot_length, times, energies, answers, row);
-    Ok(())
 }

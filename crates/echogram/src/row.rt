@@ -1,6 +1,6 @@
-// A row: whether it is within its limits, its sum, and energies added to its slots.
+// A row: whether it is within its limits, its sum, clearing, and energies added to its slots.
 ghost use Rattle.std.specs.Prelude.{◌≡◌, ◌≤◌, ◌<◌, length};
-ghost use Rattle.echogram.specs.Row.{slots_outside, outside, sum_of};
+ghost use Rattle.echogram.specs.Row.{slots_outside, outside, sum_of, clear_answer, cleared};
 ghost use Rattle.echogram.specs.AtSlot.{headroom_of, add_answer, added_to};
 ghost use Rattle.echogram.specs.Refusals.{outcome_number};
 
@@ -34,7 +34,23 @@ pub fn headroom_of(row: &[u32]) -> u64
     requires { length row.now ≤ 16384 }
     ensures { result ≡ headroom_of row.now }
 {
-    4294967296u64.saturating_sub(sum_of(row))
+    let sum = sum_of(row);
+    if sum < 4294967296 {
+        4294967296 - sum
+    } else {
+        0
+    }
+}
+
+// Leaves a row of zeros.
+pub fn clear(slot_length: u64, row: &mut [u32]) -> Result<(), RowRefusal>
+    ensures { (outcome_number result ≡ clear_answer slot_length row.old) × (row.new ≡ cleared slot_length row.old) }
+{
+    if is_outside(slot_length, row.len()) {
+        return Err(RowRefusal::BadRow);
+    }
+    row.fill(0);
+    Ok(())
 }
 
 // A row that energies are added to, with the headroom that its sum leaves: so it is added up once.

@@ -1,14 +1,37 @@
-// The loop over a series.
+// A series: what refuses it, and the loop over its recordings.
 ghost use Rattle.std.specs.Prelude.{◌≡◌, false, length};
 ghost use Rattle.laws.specs.Lists.{words_from};
 ghost use Rattle.echogram.specs.Row.{outside, record_answer, recorded, row_after, answer_at};
-ghost use Rattle.echogram.specs.Series.{recording, in_series};
+ghost use Rattle.echogram.specs.Series.{recording, in_series, SeriesEnd, series};
 ghost use Rattle.echogram.specs.Grid.{grid_of};
 ghost use Rattle.echogram.specs.Refusals.{outcome_number};
 
 use crate::grid::Grid;
 use crate::refusal::{RowRefusal, outcome_number};
-use crate::row::OpenRow;
+use crate::row::{OpenRow, is_outside};
+
+// A series, with an answer for each recording.
+pub fn record_series(
+    slot_length: u64,
+    times: &[u32],
+    energies: &[u32],
+    answers: &mut [u8],
+    row: &mut [u32],
+) -> Result<(), RowRefusal>
+    ensures { ◌≡◌ {A = SeriesEnd}
+        (record { answer = outcome_number result; answers = answers.new; row = row.new })
+        (series slot_length times.now energies.now answers.old row.old) }
+{
+    let n = times.len();
+    if (energies.len() != n) | (answers.len() != n) {
+        return Err(RowRefusal::UnevenSeries);
+    }
+    if is_outside(slot_length, row.len()) {
+        return Err(RowRefusal::BadRow);
+    }
+    record_each(slot_length, times, energies, answers, row);
+    Ok(())
+}
 
 // One recording, by the grid of the row.
 fn record_on(grid: Grid, time: u32, energy: u32, row: &mut OpenRow) -> Result<(), RowRefusal>
@@ -23,7 +46,7 @@ fn record_on(grid: Grid, time: u32, energy: u32, row: &mut OpenRow) -> Result<()
 }
 
 // The recordings one by one.
-pub fn record_each(
+fn record_each(
     slot_length: u64,
     times: &[u32],
     energies: &[u32],

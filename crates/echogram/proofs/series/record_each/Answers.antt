@@ -1,7 +1,5 @@
 -- `echogram::series::record_each` does the recordings of a series one by one. Assumes nothing.
-use Rattle.std.proofs.Common.{◌≡◌, ◌∙◌, refl, sym, ap, rules, arith}
-use Rattle.echogram.specs.Series.{in_series}
-use Rattle.echogram.specs.Row.{recorded}
+use Rattle.std.proofs.Common.{◌∙◌, refl, ap, arith}
 use Rattle.echogram.specs.AtSlot.{headroom_of}
 use Rattle.echogram.proofs.SeriesLoop.{along_none, along_more}
 use Rattle.echogram.proofs.series.record_each.Goals as goal

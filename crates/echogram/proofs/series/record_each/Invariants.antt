@@ -1,5 +1,5 @@
 -- `echogram::series::record_each` does the recordings of a series one by one. Assumes nothing.
-use Rattle.std.proofs.Common.{◌≡◌, ◌≤◌, length}
+use Rattle.std.proofs.Common.{◌≡◌}
 use Rattle.echogram.specs.Series.{in_series}
 use Rattle.echogram.specs.SeriesLoop.{Along}
 use Rattle.echogram.proofs.series.record_each.Given as goal

@@ -1,5 +1,5 @@
 -- `echogram::row::OpenRow::add` adds to one slot, or answers 15. Assumes nothing.
-use Rattle.std.proofs.Common.{sym, refl, arith}
+use Rattle.std.proofs.Common.{sym, arith}
 use Rattle.echogram.specs.AtSlot.{headroom_of}
 use Rattle.echogram.proofs.AtSlot.{add_large, add_fits, slot_fits, sum_added}
 use Rattle.echogram.proofs.row.OpenRow.add.Goals as goal

@@ -1,7 +1,7 @@
--- `echogram::record_series` is a series, or answers what refuses the whole. Assumes nothing.
+-- `echogram::series::record_series` is a series, or answers what refuses the whole. Assumes nothing.
 use Rattle.std.proofs.Common.{◌∙◌, sym, arith}
 use Rattle.echogram.proofs.WholeSeries.{series_2, series_13, series_0, series_refused, one_by_one}
-use Rattle.echogram.proofs.record_series.Goals as goal
+use Rattle.echogram.proofs.series.record_series.Goals as goal
 
 pub returns-then-energies-n : goal.returns-then-energies-n
 returns-then-energies-n c =

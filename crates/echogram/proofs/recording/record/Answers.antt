@@ -1,10 +1,10 @@
--- `echogram::record` is one recording. Assumes nothing.
+-- `echogram::recording::record` is one recording. Assumes nothing.
 use Rattle.std.proofs.Common.{◌∙◌, sym, ap, rules}
 use Rattle.echogram.specs.Row.{slot_of}
 use Rattle.echogram.specs.AtSlot.{add_answer, added_to}
 use Rattle.echogram.specs.Series.{recording}
 use Rattle.echogram.proofs.Recorded.{refused_13, refused_14, by_its_slot, slot_left}
-use Rattle.echogram.proofs.record.Goals as goal
+use Rattle.echogram.proofs.recording.record.Goals as goal
 
 pub returns-then-is_outside : goal.returns-then-is_outside
 returns-then-is_outside c =

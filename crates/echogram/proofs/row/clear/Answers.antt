@@ -1,7 +1,7 @@
--- `echogram::clear_row` leaves a row of zeros, or answers 13. Assumes nothing.
+-- `echogram::row::clear` leaves a row of zeros, or answers 13. Assumes nothing.
 use Rattle.std.proofs.Common.{◌∙◌, sym}
 use Rattle.echogram.proofs.Recorded.{clear_13, when_cleared}
-use Rattle.echogram.proofs.clear_row.Goals as goal
+use Rattle.echogram.proofs.row.clear.Goals as goal
 
 pub returns-then-is_outside : goal.returns-then-is_outside
 returns-then-is_outside c =
