@@ -1,4 +1,5 @@
 pub mod Row
+pub mod Outcomes
 pub mod Refusals
 pub mod Series
 pub mod AtSlot

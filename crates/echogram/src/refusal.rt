@@ -1,8 +1,24 @@
-// What refuses a clearing, a recording or a series.
-ghost use Rattle.std.specs.Prelude.{◌≡◌};
-ghost use Rattle.echogram.specs.Refusals.{number_of, outcome_number};
+// What refuses a clearing, a recording or a series, and the numbers that refusals are answered by.
+ghost use Rattle.std.specs.Prelude.{◌≡◌, ℕ};
+ghost use Rattle.echogram.specs.Refusals.{row_number};
+ghost use Rattle.echogram.specs.Outcomes.{outcome_number};
 
-// Each refusal has the number that it is answered by.
+// What is answered by a number.
+pub trait Numbered {
+    ghost number_of: { Self → ℕ };
+
+    fn number(self) -> u64
+        ensures { result ≡ number_of self };
+}
+
+// 0, or the number of the refusal.
+pub fn outcome_number<E: Numbered>(outcome: Result<(), E>) -> u64
+    ensures { result ≡ outcome_number E.number_of outcome }
+{
+    outcome.map_or_else(E::number, |()| 0)
+}
+
+// Each has the number that it is answered by.
 #[derive(Clone, Copy, Debug, PartialEq, Eq)]
 pub enum RowRefusal {
     UnevenSeries = 2,
@@ -11,17 +27,10 @@ pub enum RowRefusal {
     SumTooLarge = 15,
 }
 
-impl From<RowRefusal> for u64 {
-    ghost from_gives = { λ refusal number. number ≡ number_of refusal };
+impl Numbered for RowRefusal {
+    ghost number_of = { row_number };
 
-    fn from(refusal: RowRefusal) -> u64 {
-        refusal as u64
+    fn number(self) -> u64 {
+        self as u64
     }
-}
-
-// 0, or the number of the refusal.
-pub fn outcome_number(outcome: Result<(), RowRefusal>) -> u64
-    ensures { result ≡ outcome_number outcome }
-{
-    outcome.map_or_else(u64::from, |()| 0)
 }

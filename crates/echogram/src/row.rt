@@ -2,7 +2,7 @@
 ghost use Rattle.std.specs.Prelude.{◌≡◌, ◌≤◌, ◌<◌, length};
 ghost use Rattle.echogram.specs.Row.{slots_outside, outside, sum_of, clear_answer, cleared};
 ghost use Rattle.echogram.specs.AtSlot.{headroom_of, add_answer, added_to};
-ghost use Rattle.echogram.specs.Refusals.{outcome_number};
+ghost use Rattle.echogram.specs.Refusals.{answer_of};
 
 use crate::refusal::RowRefusal;
 
@@ -44,7 +44,7 @@ pub fn headroom_of(row: &[u32]) -> u64
 
 // Leaves a row of zeros.
 pub fn clear(slot_length: u64, row: &mut [u32]) -> Result<(), RowRefusal>
-    ensures { (outcome_number result ≡ clear_answer slot_length row.old) × (row.new ≡ cleared slot_length row.old) }
+    ensures { (answer_of result ≡ clear_answer slot_length row.old) × (row.new ≡ cleared slot_length row.old) }
 {
     if is_outside(slot_length, row.len()) {
         return Err(RowRefusal::BadRow);
@@ -75,7 +75,7 @@ impl<'a> OpenRow<'a> {
     pub fn add(&mut self, slot: usize, energy: u32) -> Result<(), RowRefusal>
         requires { slot < length self.old.slots.now }
         ensures same_reference { self.new.slots.ghost_name ≡ self.old.slots.ghost_name }
-        ensures answer { outcome_number result ≡ add_answer self.old.slots.now slot energy }
+        ensures answer { answer_of result ≡ add_answer self.old.slots.now slot energy }
         ensures row { self.new.slots.now ≡ added_to self.old.slots.now slot energy }
     {
         if self.headroom <= energy as u64 {

@@ -4,7 +4,7 @@ ghost use Rattle.laws.specs.Lists.{words_from};
 ghost use Rattle.echogram.specs.Row.{outside, record_answer, recorded, row_after, answer_at};
 ghost use Rattle.echogram.specs.Series.{recording, in_series, SeriesEnd, series};
 ghost use Rattle.echogram.specs.Grid.{grid_of};
-ghost use Rattle.echogram.specs.Refusals.{outcome_number};
+ghost use Rattle.echogram.specs.Refusals.{answer_of};
 
 use crate::grid::Grid;
 use crate::refusal::{RowRefusal, outcome_number};
@@ -19,7 +19,7 @@ pub fn record_series(
     row: &mut [u32],
 ) -> Result<(), RowRefusal>
     ensures { ◌≡◌ {A = SeriesEnd}
-        (record { answer = outcome_number result; answers = answers.new; row = row.new })
+        (record { answer = answer_of result; answers = answers.new; row = row.new })
         (series slot_length times.now energies.now answers.old row.old) }
 {
     let n = times.len();
@@ -38,7 +38,7 @@ fn record_on(grid: Grid, time: u32, energy: u32, row: &mut OpenRow) -> Result<()
     requires { (outside grid.samples (length row.old.slots.now) ≡ false)
         × (grid ≡ grid_of grid.samples (length row.old.slots.now)) }
     ensures same_reference { row.new.slots.ghost_name ≡ row.old.slots.ghost_name }
-    ensures answer { outcome_number result ≡ record_answer row.old.slots.now (recording grid.samples time energy) }
+    ensures answer { answer_of result ≡ record_answer row.old.slots.now (recording grid.samples time energy) }
     ensures row { row.new.slots.now ≡ recorded row.old.slots.now (recording grid.samples time energy) }
 {
     let slot = grid.slot(time as u64)?;

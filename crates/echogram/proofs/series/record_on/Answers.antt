@@ -2,7 +2,7 @@
 use Rattle.std.proofs.Common.{◌≡◌, ◌∙◌, sym, ap, length, rules, arith}
 use Rattle.echogram.specs.declared.grid.Grid.{Grid}
 use Rattle.echogram.specs.Row.{record_answer, recorded}
-use Rattle.echogram.specs.Refusals.{outcome_number}
+use Rattle.echogram.specs.Refusals.{answer_of}
 use Rattle.echogram.specs.Series.{recording}
 use Rattle.echogram.specs.AtSlot.{add_answer, added_to}
 use Rattle.echogram.proofs.Recorded.{limits_of, refused_14, by_its_slot, slot_left}
@@ -22,7 +22,7 @@ past c =
 
 pub returns-in_err-slot-clause-answer : goal.returns-in_err-slot-clause-answer
 returns-in_err-slot-clause-answer c =
-    let fourteen : outcome_number c.from_residual.result ≡ 14 = search rules in
+    let fourteen : answer_of c.from_residual.result ≡ 14 = search rules in
     fourteen ∙ sym (past c).0
 
 pub returns-in_err-slot-clause-row : goal.returns-in_err-slot-clause-row
