@@ -22,5 +22,8 @@ pub fn fall_to(row: &[u32], from: Point, limit: u64) -> Point
         }
         rest -= row[slot] as u64;
     }
-    Point { slot: row.len(), rest }
+    Point {
+        slot: row.len(),
+        rest,
+    }
 }

@@ -5,7 +5,8 @@ use Rattle.echogram.proofs.AtSlot.{add_large, add_fits, slot_fits, sum_added}
 use Rattle.echogram.proofs.row.OpenRow.add.Goals as goal
 
 pub returns-then-self-energy-clause-answer : goal.returns-then-self-energy-clause-answer
-returns-then-self-energy-clause-answer c = sym (add_large c.args.self.now.slots.now c.args.slot c.args.energy c.requires (omega (arith, c.args.self.now.known))).0
+returns-then-self-energy-clause-answer c =
+    sym (add_large c.args.self.now.slots.now c.args.slot c.args.energy c.requires (omega (arith, c.args.self.now.known))).0
 
 pub returns-then-self-energy-clause-row : goal.returns-then-self-energy-clause-row
 returns-then-self-energy-clause-row c = sym (add_large c.args.self.now.slots.now c.args.slot c.args.energy c.requires (omega (arith, c.args.self.now.known))).1
