@@ -1,5 +1,5 @@
 -- What is left from a slot on.
---     sum_first, sum_parts       a row's sum: by its first slot; by two parts
+--     sum_parts                  a row's sum by two parts; by its first slot it is echogram/RowSum
 --     rest_all                   from slot 0 on it is the sum
 --     rest_past                  past the last slot it is 0
 --     rest_next                  a slot has what is behind it, and itself
@@ -11,14 +11,11 @@ use Rattle.std.proofs.Math.Path.{refl, ap}
 use Rattle.std.proofs.Common.{◌∙◌, arith, drop_of_length-le, drop-cons, eqb-true, eq-eqb}
 use Rattle.std.proofs.lemmas.Bool.{eqb-false}
 use Rattle.laws.specs.Tests.{is_false}
-use Rattle.laws.proofs.Counting.{every_at, every_all, sum_front, tally_none}
+use Rattle.laws.proofs.Counting.{every_at, every_all, tally_none}
 use Rattle.echogram.specs.Row.{sum_of}
+use Rattle.echogram.proofs.RowSum.{sum_first}
 use Rattle.echogram.proofs.AtSlot.{slot_in_sum}
 use Rattle.decay.specs.Decay.{rest, silent}
-
-pub sum_first : (x : ℕ) (row : List ℕ) → sum_of (x ∷ row) ≡ x + sum_of row
-unfolding sum_of
-sum_first x row = sum_front (λ k. get_or (x ∷ row) k 0) (length row)
 
 sum_none : sum_of [] ≡ 0
 unfolding sum_of

@@ -1,4 +1,6 @@
 pub mod Decay
+pub mod Refusals
+pub mod Outcomes
 pub mod Crossings
 pub mod CrossingSearch
 pub mod Logs

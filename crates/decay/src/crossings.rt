@@ -15,14 +15,15 @@ pub fn fall_to(row: &[u32], from: Point, limit: u64) -> Point
     requires { Before row.now from limit }
     ensures { result ≡ point_at row.now (first row.now (square_at_most row.now limit)) }
 {
-    let mut slot = from.slot;
     let mut rest = from.rest;
-    while slot < row.len() {
+    for slot in from.slot..row.len() {
         if rest * rest <= limit {
             return Point { slot, rest };
         }
         rest -= row[slot] as u64;
-        slot += 1;
     }
-    Point { slot, rest }
+    Point {
+        slot: row.len(),
+        rest,
+    }
 }

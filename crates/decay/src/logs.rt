@@ -3,7 +3,7 @@ ghost use Rattle.std.specs.Prelude.{◌≡◌, ◌≤◌};
 ghost use Rattle.laws.specs.Lists.{words_from};
 ghost use Rattle.decay.specs.Decay.{log_of, level_of};
 
-const LOGS: [u16; 1024] = [
+static LOGS: [u16; 1024] = [
     0, 30, 47, 60, 69, 77, 84, 90, 95, 100, 104, 107, 111, 114, 117, 120, 123, 125, 127, 130, 132,
     134, 136, 138, 139, 141, 143, 144, 146, 147, 149, 150, 151, 153, 154, 155, 156, 157, 159, 160,
     161, 162, 163, 164, 165, 166, 167, 168, 169, 169, 170, 171, 172, 173, 174, 174, 175, 176, 177,
@@ -60,20 +60,20 @@ const LOGS: [u16; 1024] = [
     300, 300, 300, 300, 300, 300, 300, 300, 300, 300, 300, 300, 300, 300, 301,
 ];
 
-// The table, for those who look things up in it more than once: an array of constants is written to the stack at each use.
-pub fn log_table() -> [u16; 1024]
-    ensures { result ≡ words_from log_of 1 1024 }
+fn log_table() -> &'static [u16; 1024]
+    ensures { result.now ≡ words_from log_of 1 1024 }
 {
-    LOGS
+    &LOGS
 }
 
 // The level of a ratio.
-pub fn level_by(logs: &[u16; 1024], ratio: usize) -> u16
-    requires { (logs.now ≡ words_from log_of 1 1024) × (ratio ≤ 1024) }
+pub fn level_of(ratio: usize) -> u16
+    requires { ratio ≤ 1024 }
     ensures { result ≡ level_of ratio }
 {
     if ratio == 0 {
         return 65535;
     }
+    let logs = log_table();
     logs[1023] - logs[ratio - 1]
 }

@@ -1,57 +1,31 @@
-// What refuses a row; its sum, and what is left of it from a slot on.
+// The sum of a row that is not refused, and what is left of it from a slot on.
 ghost use Rattle.std.specs.Prelude.{◌≡◌};
-ghost use Rattle.decay.specs.Totals.{sum_refusal, total_of, cut_at};
+ghost use Rattle.decay.specs.Totals.{total_of};
 
+use crate::refusal::DecayRefusal;
 use echogram::row::{slots_outside, sum_of};
 
-// Of a row whose number of slots is outside its limits sum and rest are 0.
 #[derive(Clone, Copy)]
 pub struct Total {
-    pub number: u64,
     pub sum: u64,
     pub rest: u64,
 }
 
-// What refuses a row by its sum.
-fn refusal_of(sum: u64) -> u64
-    ensures { result ≡ sum_refusal sum }
-{
-    if 4294967295 < sum {
-        return 15;
-    }
-    if sum == 0 {
-        return 17;
-    }
-    0
-}
-
-// A slot of the row, or its end.
-fn cut_at(slot: usize, slots: usize) -> usize
-    ensures { result ≡ cut_at slot slots }
-{
-    if slot < slots {
-        return slot;
-    }
-    slots
-}
-
 // Adds up the part before the slot and that from it on: one pass.
-pub fn total_of(row: &[u32], slot: usize) -> Total
+pub fn total_of(row: &[u32], slot: usize) -> Result<Total, DecayRefusal>
     ensures { result ≡ total_of row.now slot }
 {
     if slots_outside(row.len()) {
-        return Total {
-            number: 13,
-            sum: 0,
-            rest: 0,
-        };
+        return Err(DecayRefusal::BadRow);
     }
-    let at = cut_at(slot, row.len());
+    let at = slot.min(row.len());
     let rest = sum_of(&row[at..]);
     let sum = sum_of(&row[..at]) + rest;
-    Total {
-        number: refusal_of(sum),
-        sum,
-        rest,
+    if 4294967295 < sum {
+        return Err(DecayRefusal::SumTooLarge);
     }
+    if sum == 0 {
+        return Err(DecayRefusal::SilentRow);
+    }
+    Ok(Total { sum, rest })
 }

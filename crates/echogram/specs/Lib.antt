@@ -1,4 +1,6 @@
 pub mod Row
+pub mod Outcomes
+pub mod Refusals
 pub mod Series
 pub mod AtSlot
 pub mod Recorded

@@ -1,11 +1,14 @@
 // Where the slots of a row lie in time. A series divides many times by one slot length, and a multiplication takes a fraction of a division's time.
-ghost use Rattle.std.specs.Prelude.{◌≡◌, ◌/◌, ◌≤◌, ◌<◌};
+ghost use Rattle.std.specs.Prelude.{◌≡◌, ◌/◌, ◌≤◌, ◌<◌, IfOk, IfErr};
 ghost use Rattle.echogram.specs.Grid.{grid_of, Drawn};
+
+use crate::refusal::RowRefusal;
 
 // 2^40: what a product is divided by.
 const SCALE: u64 = 1099511627776;
 
 // The samples of a slot, the first time past the row, and what a time is multiplied by: 2^40 / samples, rounded down, and 1.
+// Kept: no ghost field says `Drawn`, since `grid_of`, of which theorems speak, makes a grid of any numbers.
 #[derive(Clone, Copy)]
 pub struct Grid {
     pub samples: u64,
@@ -13,21 +16,27 @@ pub struct Grid {
     pub factor: u64,
 }
 
-pub fn grid_of(slot_length: u64, slots: usize) -> Grid
-    requires { (1 ≤ slot_length) × (slot_length ≤ 4800) × (slots ≤ 16384) }
-    ensures { result ≡ grid_of slot_length slots }
-{
-    Grid {
-        samples: slot_length,
-        end: slots as u64 * slot_length,
-        factor: SCALE / slot_length + 1,
+impl Grid {
+    pub fn of(slot_length: u64, slots: usize) -> Grid
+        requires { (1 ≤ slot_length) × (slot_length ≤ 4800) × (slots ≤ 16384) }
+        ensures { result ≡ grid_of slot_length slots }
+    {
+        Grid {
+            samples: slot_length,
+            end: slots as u64 * slot_length,
+            factor: SCALE / slot_length + 1,
+        }
     }
-}
 
-// The slot of a time in the row.
-pub fn slot_in(grid: Grid, time: u64) -> usize
-    requires { Drawn grid × (time < grid.end) }
-    ensures { result ≡ time / grid.samples }
-{
-    (time * grid.factor / SCALE) as usize
+    // The slot of a time.
+    pub fn slot(self, time: u64) -> Result<usize, RowRefusal>
+        requires { Drawn self }
+        ensures inside { IfOk result (λ slot. (time < self.end) × (slot ≡ time / self.samples)) }
+        ensures past { IfErr result (λ refusal. (self.end ≤ time) × (refusal ≡ RowRefusal.PastRow)) }
+    {
+        if self.end <= time {
+            return Err(RowRefusal::PastRow);
+        }
+        Ok((time * self.factor / SCALE) as usize)
+    }
 }

@@ -5,10 +5,14 @@ ghost use Rattle.std.specs.Prelude.{◌≡◌};
 ghost use Rattle.echogram.specs.Row.{record_answer, recorded, clear_answer, cleared};
 ghost use Rattle.echogram.specs.Series.{recording, SeriesEnd, series};
 
-use row::{add_energy, headroom_of, is_outside};
-use series::record_each;
+use recording::record;
+use refusal::outcome_number;
+use row::clear;
+use series::record_series;
 
 mod grid;
+mod recording;
+pub mod refusal;
 pub mod row;
 mod series;
 
@@ -16,15 +20,7 @@ mod series;
 pub fn wubraken_clear_row(slot_length: u64, row: &mut [u32]) -> u64
     ensures { (result ≡ clear_answer slot_length row.old) × (row.new ≡ cleared slot_length row.old) }
 {
-    if is_outside(slot_length, row.len()) {
-        return 13;
-    }
-    let mut k: usize = 0;
-    while k < row.len() {
-        row[k] = 0;
-        k += 1;
-    }
-    0
+    outcome_number(clear(slot_length, row))
 }
 
 // Records a taken arrival: its energy is added to the slot of its time. The answer is 0, or the number of the refusal.
@@ -32,15 +28,7 @@ pub fn wubraken_record(slot_length: u64, time: u32, energy: u32, row: &mut [u32]
     ensures { (result ≡ record_answer row.old (recording slot_length time energy))
         × (row.new ≡ recorded row.old (recording slot_length time energy)) }
 {
-    if is_outside(slot_length, row.len()) {
-        return 13;
-    }
-    let slot = (time / slot_length as u32) as usize;
-    if row.len() <= slot {
-        return 14;
-    }
-    let headroom = headroom_of(row);
-    add_energy(slot, energy, headroom, row)
+    outcome_number(record(slot_length, time, energy, row))
 }
 
 // Records a series, with an answer for each recording. It adds the row up once. The answer is 0, or the number of what refuses the whole series.
@@ -54,13 +42,5 @@ pub fn wubraken_record_series(
     ensures { ◌≡◌ {A = SeriesEnd} (record { answer = result; answers = answers.new; row = row.new })
         (series slot_length times.now energies.now answers.old row.old) }
 {
-    let n = times.len();
-    if (energies.len() != n) | (answers.len() != n) {
-        return 2;
-    }
-    if is_outside(slot_length, row.len()) {
-        return 13;
-    }
-    record_each(slot_length, times, energies, answers, row);
-    0
+    outcome_number(record_series(slot_length, times, energies, answers, row))
 }

@@ -1,31 +1,52 @@
-// The loop over a series.
+// A series: what refuses it, and the loop over its recordings.
 ghost use Rattle.std.specs.Prelude.{◌≡◌, false, length};
 ghost use Rattle.laws.specs.Lists.{words_from};
 ghost use Rattle.echogram.specs.Row.{outside, record_answer, recorded, row_after, answer_at};
-ghost use Rattle.echogram.specs.Series.{recording, in_series};
-ghost use Rattle.echogram.specs.AtSlot.{headroom_of};
+ghost use Rattle.echogram.specs.Series.{recording, in_series, SeriesEnd, series};
 ghost use Rattle.echogram.specs.Grid.{grid_of};
+ghost use Rattle.echogram.specs.Refusals.{answer_of};
 
-use crate::grid::{Grid, grid_of, slot_in};
-use crate::row::{add_energy, headroom_of};
+use crate::grid::Grid;
+use crate::refusal::{RowRefusal, outcome_number};
+use crate::row::{OpenRow, is_outside};
 
-// One recording, where grid and headroom of the row are known.
-fn record_on(grid: Grid, time: u32, energy: u32, headroom: u64, row: &mut [u32]) -> u64
-    requires { (outside grid.samples (length row.old) ≡ false) × (grid ≡ grid_of grid.samples (length row.old))
-        × (headroom ≡ headroom_of row.old) }
-    ensures { (result ≡ record_answer row.old (recording grid.samples time energy))
-        × (row.new ≡ recorded row.old (recording grid.samples time energy)) }
+// A series, with an answer for each recording.
+pub fn record_series(
+    slot_length: u64,
+    times: &[u32],
+    energies: &[u32],
+    answers: &mut [u8],
+    row: &mut [u32],
+) -> Result<(), RowRefusal>
+    ensures { ◌≡◌ {A = SeriesEnd}
+        (record { answer = answer_of result; answers = answers.new; row = row.new })
+        (series slot_length times.now energies.now answers.old row.old) }
 {
-    let t = time as u64;
-    if grid.end <= t {
-        return 14;
+    let n = times.len();
+    if (energies.len() != n) | (answers.len() != n) {
+        return Err(RowRefusal::UnevenSeries);
     }
-    let slot = slot_in(grid, t);
-    add_energy(slot, energy, headroom, row)
+    if is_outside(slot_length, row.len()) {
+        return Err(RowRefusal::BadRow);
+    }
+    record_each(slot_length, times, energies, answers, row);
+    Ok(())
 }
 
-// The recordings one by one. The headroom goes along, so the row is added up once.
-pub fn record_each(
+// One recording, by the grid of the row.
+fn record_on(grid: Grid, time: u32, energy: u32, row: &mut OpenRow) -> Result<(), RowRefusal>
+    requires { (outside grid.samples (length row.old.slots.now) ≡ false)
+        × (grid ≡ grid_of grid.samples (length row.old.slots.now)) }
+    ensures same_reference { row.new.slots.ghost_name ≡ row.old.slots.ghost_name }
+    ensures answer { answer_of result ≡ record_answer row.old.slots.now (recording grid.samples time energy) }
+    ensures row { row.new.slots.now ≡ recorded row.old.slots.now (recording grid.samples time energy) }
+{
+    let slot = grid.slot(time as u64)?;
+    row.add(slot, energy)
+}
+
+// The recordings one by one.
+fn record_each(
     slot_length: u64,
     times: &[u32],
     energies: &[u32],
@@ -39,17 +60,9 @@ pub fn record_each(
         × (answers.new
         ≡ words_from (answer_at row.old (in_series slot_length times.now energies.now)) 0 (length times.now)) }
 {
-    let grid = grid_of(slot_length, row.len());
-    let mut headroom = headroom_of(row);
-    let mut i: usize = 0;
-    while i < times.len() {
-        let energy = energies[i];
-        let answer = record_on(grid, times[i], energy, headroom, row);
-        answers[i] = answer as u8;
-        let was_recorded = answer == 0;
-        if was_recorded {
-            headroom -= energy as u64;
-        }
-        i += 1;
+    let grid = Grid::of(slot_length, row.len());
+    let mut open = OpenRow::of(row);
+    for (i, time) in times.iter().enumerate() {
+        answers[i] = outcome_number(record_on(grid, *time, energies[i], &mut open)) as u8;
     }
 }

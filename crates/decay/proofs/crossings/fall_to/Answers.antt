@@ -1,5 +1,5 @@
 -- `decay::crossings::fall_to` goes on slot by slot, with what is left. Assumes nothing.
-use Rattle.std.proofs.Common.{arith, mul-le-mul}
+use Rattle.std.proofs.Common.{◌≡◌, ◌∙◌, sym, ap, length, arith, mul-le-mul}
 use Rattle.decay.proofs.CrossingSearch.{left_most, one_more, slot_in_left, fallen}
 use Rattle.decay.proofs.crossings.fall_to.Goals as goal
 
@@ -16,4 +16,6 @@ pub loop-slot-preserved : goal.loop-slot-preserved
 loop-slot-preserved c = one_more c.loop-slot.invariant (omega arith) (omega arith)
 
 pub returns : goal.returns
-returns c = fallen c.loop-slot.invariant (λ l. absurd (omega arith))
+returns c =
+    let end : c.loop-slot.slot ≡ length c.args.row.now = omega (arith, c.loop-slot.invariant.in_row) in
+    ap (λ k. record { slot = k; rest = c.loop-slot.rest }) (sym end) ∙ fallen c.loop-slot.invariant (λ l. absurd (omega arith))

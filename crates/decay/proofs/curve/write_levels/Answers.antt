@@ -18,7 +18,7 @@ pub flat_at-flat-requires-then-flat-scaled : goal.flat_at-flat-requires-then-fla
 flat_at-flat-requires-then-flat-scaled c =
     let a = c.args in
     let more = more_fits a.row.now a.levels.now a.sum c.requires.0 c.loop-k.invariant (omega arith) in
-    (c.log_table-logs.ensures, c.requires.1, c.requires.2, more)
+    (c.requires.1, c.requires.2, more)
 
 pub loop-k-preserved : goal.loop-k-preserved
 loop-k-preserved c =

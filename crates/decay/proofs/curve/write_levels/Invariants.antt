@@ -4,6 +4,3 @@ use Rattle.decay.proofs.curve.write_levels.Given as goal
 
 abbrev pub invariant-loop-k : goal.invariant-loop-k
 invariant-loop-k l = Along l.row l.fn.levels l.sum l.k l.scaled l.flat l.levels
-
-abbrev pub decreases-loop-k : goal.decreases-loop-k
-decreases-loop-k l = l.k
