@@ -6,6 +6,7 @@ ghost use Rattle.arrival.specs.Keys.{lower_key, bucket_of};
 
 pub mod refusals;
 pub mod requests;
+pub mod rounds;
 pub mod spreading;
 
 // The shape of a pool: how many workers, nodes and buckets, and a bucket's width in samples.

@@ -1,18 +1,18 @@
 // The first free node, by the least ticket of a call in progress.
 ghost use Rattle.std.specs.Prelude.{◌≡◌, ◌<◌, ◌≤◌, unwrap_or, IfSome};
 ghost use Rattle.calendar.specs.rules.Layout.{last_node};
-ghost use Rattle.calendar.specs.rules.Reclaim.{node_after};
 ghost use Rattle.starts.specs.LeastTicket.{lower, free_below};
 ghost use Rattle.starts.specs.FreeSearch.{first_free_below};
 
-use arrival::{Shape, Worker};
+use arrival::Worker;
+use arrival::rounds::after;
 use words::field::Field;
 use words::store::View;
 use words::word;
 use words::word::Word;
 
 // The least ticket in progress, with one record more.
-// Kept: 2^32 where no call is in progress: batches compare tickets in their fastest loop, and is_free's test of a standing is one comparison below it.
+// Kept: 2^32 stands for none in progress, as in `least_ticket` and `free_is` (LeastTicket): of an Option, batches would test each ticket first.
 pub fn lower_ticket(low: u64, w: Worker) -> u64
     ensures { result ≡ lower low w }
 {
@@ -27,14 +27,6 @@ fn is_free(low: u64, standing: u64) -> bool
     (standing == 0) | (2 <= standing) & ((standing < 2 + low) | (low == word::COUNTS))
 }
 
-// The node after n, going round.
-fn node_after(shape: Shape, n: u64) -> u64
-    requires { (n < shape.nodes) × (shape.nodes ≤ 4096) }
-    ensures { result ≡ node_after shape n }
-{
-    if n + 1 < shape.nodes { n + 1 } else { 0 }
-}
-
 // The first free node after the one handed out last, going round.
 pub fn first_free(low: u64, view: &View<'_>) -> Option<u64>
     requires low_bound { (low ≤ 4294967296) × (last_node view.now.shape view.now.words.now < view.now.shape.nodes) }
@@ -43,7 +35,7 @@ pub fn first_free(low: u64, view: &View<'_>) -> Option<u64>
 {
     let mut n = view.word(Word::LastNode);
     for _ in 0..view.shape.nodes {
-        n = node_after(view.shape, n);
+        n = after(n, view.shape.nodes);
         if is_free(low, view.field(Field::Standing, n)) {
             return Some(n);
         }

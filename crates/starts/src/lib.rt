@@ -131,7 +131,7 @@ fn start_refusal(w: Worker, started: u64) -> Result<(), Refusal>
 
 // Those of a put before a node is looked for: 5, and then those of every start.
 fn enqueue_refusal(arrival: Arrival, w: Worker, started: u64) -> Result<(), Refusal>
-    ensures { refusal_of result ≡ early_refusal arrival w started }
+    ensures early { refusal_of result ≡ early_refusal arrival w started }
 {
     if is_bad(arrival) {
         return Err(Refusal::BadArrival);
@@ -140,7 +140,12 @@ fn enqueue_refusal(arrival: Arrival, w: Worker, started: u64) -> Result<(), Refu
 }
 
 // A put start with its refusals; low: the least ticket in progress.
-pub fn start_enqueue(low: u64, arrival: Arrival, w: Worker, store: &mut Store<'_>) -> Result<Reply, Refusal>
+pub fn start_enqueue(
+    low: u64,
+    arrival: Arrival,
+    w: Worker,
+    store: &mut Store<'_>,
+) -> Result<Reply, Refusal>
     requires { (started store.old.shape store.old.words.now < 4294967296) × (last_node store.old.shape store.old.words.now < store.old.shape.nodes)
         × (low ≤ 4294967296) × (1 ≤ store.old.shape.width) }
     ensures kept { Kept store.old store.new }

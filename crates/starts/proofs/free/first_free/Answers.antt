@@ -12,15 +12,15 @@ loop-init c =
 pub returns-then-is_free-clause-first : goal.returns-then-is_free-clause-first
 returns-then-is_free-clause-first c =
     let some : 0 < c.args.view.now.shape.nodes - c.loop.counter = omega (arith, c.loop-test.true) in
-    sym (free_here _ _ _ _ _ _ _ _ some c.node_after-n.ensures c.field.ensures c.is_free.ensures c.if-is_free.true) ∙ c.loop.invariant.1
+    sym (free_here _ _ _ _ _ _ _ _ some c.after-n.ensures c.field.ensures c.is_free.ensures c.if-is_free.true) ∙ c.loop.invariant.1
 
 pub loop-preserved : goal.loop-preserved
 loop-preserved c =
     let some : 0 < c.args.view.now.shape.nodes - c.loop.counter = omega (arith, c.loop-test.true) in
     let less : c.args.view.now.shape.nodes - c.loop.counter - 1 ≡ c.args.view.now.shape.nodes - (c.loop.counter + 1) = omega arith in (
-      omega (arith, c.node_after-n.ensures, next_below c.args.view.now.shape _ c.loop.invariant.0),
+      omega (arith, c.after-n.ensures, next_below c.args.view.now.shape _ c.loop.invariant.0),
       rw (← less)
-      (sym (free_on _ _ _ _ _ _ _ _ some c.node_after-n.ensures c.field.ensures c.is_free.ensures c.if-is_free.false) ∙ c.loop.invariant.1),
+          (sym (free_on _ _ _ _ _ _ _ _ some c.after-n.ensures c.field.ensures c.is_free.ensures c.if-is_free.false) ∙ c.loop.invariant.1),
     )
 
 pub returns-clause-first : goal.returns-clause-first

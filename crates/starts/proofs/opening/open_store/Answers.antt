@@ -15,7 +15,7 @@ loop-i-preserved c = (
     c.loop-i.invariant.1,
     c.open_word.ensures,
     words_more (open_word c.args.store.now.shape) c.loop-i.i c.args.store.now.words.now
-    (omega (arith, c.loop-i-test.true, c.layout_words-i-end.ensures, c.args.store.now.laid.fits)),
+        (omega (arith, c.loop-i-test.true, c.layout_words-i-end.ensures, c.args.store.now.laid.fits)),
   ),
 )
 
