@@ -67,6 +67,7 @@ fn log_table() -> &'static [u16; 1024]
 }
 
 // The level of a ratio.
+// Kept: 65,535 for none, and no Option, since C reads it in the buffer of a curve, and `level_of` has it.
 pub fn level_of(ratio: usize) -> u16
     requires { ratio ≤ 1024 }
     ensures { result ≡ level_of ratio }

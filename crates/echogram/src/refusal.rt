@@ -12,6 +12,7 @@ pub trait Numbered {
 }
 
 // 0, or the number of the refusal.
+// Kept: C is answered by a number; here an outcome becomes one, and nowhere else.
 pub fn outcome_number<E: Numbered>(outcome: Result<(), E>) -> u64
     ensures { result ≡ outcome_number E.number_of outcome }
 {

