@@ -20,7 +20,7 @@ use operation::{actor, open_lent, perform};
 use starts::free::lower_ticket;
 use table::{cleared, greater};
 use tickets::{low_for, tickets_of};
-use turn_file::{Read, read_record, write_line, write_opened, write_refusal};
+use turn_file::{Record, Unreadable, read_record, write_line, write_opened, write_refusal};
 use words::replies::{Reply, refuse};
 use words::word;
 
@@ -32,7 +32,7 @@ pub mod tickets;
 pub enum Stop {
     Drained,
     Full,
-    Halted(u64),
+    Halted(Unreadable),
 }
 
 // A pool between two batches: the shape so far, whether store and table are in range, the workers' records.
@@ -160,7 +160,7 @@ fn work(
     while has_room(out.len(), to) {
         let record = read_record(input, at);
         match record {
-            Read::Open(opened, next) => {
+            Ok(Some((Record::Open(opened), next))) => {
                 let k = open_lent(opened, records, store);
                 if k == 0 {
                     table = cleared(table, opened.workers as usize);
@@ -172,7 +172,7 @@ fn work(
                 to = write_opening(k, out, to);
                 at = next;
             }
-            Read::Act(action, next) => {
+            Ok(Some((Record::Act(action), next))) => {
                 let j = place_of(action);
                 let w = table[j];
                 let k = gate(shape, store.len(), records, actor(action), sound);
@@ -185,12 +185,12 @@ fn work(
                 tickets[j] = lower_ticket(word::COUNTS, worker);
                 at = next;
             }
-            Read::End => {
+            Ok(None) => {
                 stop = Stop::Drained;
                 break;
             }
-            Read::Refused(k) => {
-                stop = Stop::Halted(k);
+            Err(why) => {
+                stop = Stop::Halted(why);
                 break;
             }
         }

@@ -42,7 +42,7 @@ fn stop_number(stop: Stop) -> u64
     match stop {
         Stop::Drained => 0,
         Stop::Full => 1,
-        Stop::Halted(k) => k,
+        Stop::Halted(why) => u64::from(why),
     }
 }
 

@@ -1,27 +1,37 @@
 -- Each arm of the loop is a round of the definition, by its lemma in specs/OpeningRounds, specs/ActHeld and specs/Stopping.
-use Rattle.std.proofs.Common.{sym, ap, ◌∙◌, inl, inr}
+use Rattle.std.proofs.Common.{◌≡◌, Some, Ok, sym, ap, ◌∙◌, inl, inr}
 use Rattle.calendar.specs.rules.Ranges.{blank}
 use Rattle.operation.proofs.LocalAct.{ready}
+use Rattle.turn_file.specs.declared.Record.{Record}
+use Rattle.turn_file.specs.declared.Record.TheVariants.{Open, Act}
+use Rattle.turn_file.specs.Reading.{whole}
 use Rattle.batch.specs.Tickets.{tickets_of}
 use Rattle.batch.proofs.TicketLaws.{stored_ticket}
-use Rattle.batch.proofs.RoundArms.{lent_to_lem, settled, known_open, known_act, nearer_open, nearer_act}
+use Rattle.batch.proofs.RoundArms.{lent_to_lem, settled, known, nearer}
 use Rattle.batch.proofs.OpeningRounds.{opening_round}
 use Rattle.batch.proofs.ActHeld.{admits, held_round}
 use Rattle.batch.proofs.Stopping.{stopped}
 use Rattle.batch.proofs.work.Goals as goal
-use Rattle.batch.proofs.work.Goals.{then-k-eq0, else-k-eq0, else-loop-tickets-test, then-loop-tickets-test+in-End, then-loop-tickets-test+in-Refused}
+use Rattle.batch.proofs.work.Goals.{then-k-eq0, else-k-eq0, else-loop-tickets-test, then-loop-tickets-test+in-Ok-None, then-loop-tickets-test+in-Err}
 
 pub cleared-table-requires : goal.cleared-table-requires
 cleared-table-requires c = (lent_to_lem c.loop-tickets.invariant.round _ _ c.open_lent-k.ensures.0 c.if-k-eq0.true).limits.workers
 
-pub loop-tickets-smaller-in-Open : goal.loop-tickets-smaller-in-Open
-loop-tickets-smaller-in-Open c = nearer_open _ _ _ c.read_record-record.ensures _ _ c.in-Open.is
+pub loop-tickets-smaller-in-Ok-Some-Open-default : goal.loop-tickets-smaller-in-Ok-Some-Open-default
+loop-tickets-smaller-in-Ok-Some-Open-default c =
+    let found = rw c.in-Ok-Some-Open-default.is at c.in-Ok-Some-Open-default.field-0-is in
+    let is : c.read_record-record.result ≡ whole (Open c.in-Ok-Some-Open-default.opened) c.in-Ok-Some-Open-default.next =
+        c.in-Ok-Some-Open-default.is ∙ ap Ok (found ∙ ap (λ (r : Record). Some (r, c.in-Ok-Some-Open-default.next)) (rw (c.in-Ok-Some-Open-default.is, found) at c.in-Ok-Some-Open-default.field-0-0-0-is)) in
+    nearer _ _ _ c.read_record-record.ensures _ _ is
 
-pub loop-tickets-preserved-in-Open : goal.loop-tickets-preserved-in-Open
-loop-tickets-preserved-in-Open c =
+pub loop-tickets-preserved-in-Ok-Some-Open-default : goal.loop-tickets-preserved-in-Ok-Some-Open-default
+loop-tickets-preserved-in-Ok-Some-Open-default c =
     let inv = c.loop-tickets.invariant in
     let fits = sym c.has_room.ensures ∙ c.loop-tickets-test.true in
-    let read = known_open _ _ _ c.read_record-record.ensures _ _ c.in-Open.is in
+    let found = rw c.in-Ok-Some-Open-default.is at c.in-Ok-Some-Open-default.field-0-is in
+    let is : c.read_record-record.result ≡ whole (Open c.in-Ok-Some-Open-default.opened) c.in-Ok-Some-Open-default.next =
+        c.in-Ok-Some-Open-default.is ∙ ap Ok (found ∙ ap (λ (r : Record). Some (r, c.in-Ok-Some-Open-default.next)) (rw (c.in-Ok-Some-Open-default.is, found) at c.in-Ok-Some-Open-default.field-0-0-0-is)) in
+    let read = known _ _ _ c.read_record-record.ensures _ _ is in
     let opened = c.open_lent-k.ensures in
     let line = c.write_opening-to.ensures in
     elim c.if-k-eq0.branch [
@@ -47,22 +57,29 @@ loop-tickets-preserved-in-Open c =
 pub sound_after-sound-requires : goal.sound_after-sound-requires
 unfolding blank
 sound_after-sound-requires c =
-    λ z. ready _ _ _ (admits c.loop-tickets.invariant.round c.in-Act.action _ c.place_of-j.ensures.0 _ _ c.gate-k.ensures c.actor.ensures z)
+    λ z. ready _ _ _ (admits c.loop-tickets.invariant.round c.in-Ok-Some-Act-default.action _ c.place_of-j.ensures.0 _ _ c.gate-k.ensures c.actor.ensures z)
 
 pub act_held-reply-requires : goal.act_held-reply-requires
 unfolding blank
 act_held-reply-requires c =
-    admits c.loop-tickets.invariant.round c.in-Act.action _ c.place_of-j.ensures.0 _ _ c.gate-k.ensures c.actor.ensures
+    admits c.loop-tickets.invariant.round c.in-Ok-Some-Act-default.action _ c.place_of-j.ensures.0 _ _ c.gate-k.ensures c.actor.ensures
 
 pub loop-tickets-smaller : goal.loop-tickets-smaller
-loop-tickets-smaller c = nearer_act _ _ _ c.read_record-record.ensures _ _ c.in-Act.is
+loop-tickets-smaller c =
+    let found = rw c.in-Ok-Some-Act-default.is at c.in-Ok-Some-Act-default.field-0-is in
+    let is : c.read_record-record.result ≡ whole (Act c.in-Ok-Some-Act-default.action) c.in-Ok-Some-Act-default.next =
+        c.in-Ok-Some-Act-default.is ∙ ap Ok (found ∙ ap (λ (r : Record). Some (r, c.in-Ok-Some-Act-default.next)) (rw (c.in-Ok-Some-Act-default.is, found) at c.in-Ok-Some-Act-default.field-0-0-0-is)) in
+    nearer _ _ _ c.read_record-record.ensures _ _ is
 
 pub loop-tickets-preserved : goal.loop-tickets-preserved
 unfolding blank
 loop-tickets-preserved c =
     let inv = c.loop-tickets.invariant in
     let fits = sym c.has_room.ensures ∙ c.loop-tickets-test.true in
-    let read = known_act _ _ _ c.read_record-record.ensures _ _ c.in-Act.is in
+    let found = rw c.in-Ok-Some-Act-default.is at c.in-Ok-Some-Act-default.field-0-is in
+    let is : c.read_record-record.result ≡ whole (Act c.in-Ok-Some-Act-default.action) c.in-Ok-Some-Act-default.next =
+        c.in-Ok-Some-Act-default.is ∙ ap Ok (found ∙ ap (λ (r : Record). Some (r, c.in-Ok-Some-Act-default.next)) (rw (c.in-Ok-Some-Act-default.is, found) at c.in-Ok-Some-Act-default.field-0-0-0-is)) in
+    let read = known _ _ _ c.read_record-record.ensures _ _ is in
     let R = held_round inv.round _ _ c.place_of-j.ensures.0 _ _ c.gate-k.ensures c.actor.ensures fits _ read _ inv.tickets _ c.act_held-reply.result
     _ _ c.write_line-to.ensures c.act_held-reply.ensures _ c.sound_after-sound.ensures in
     record {
@@ -83,14 +100,14 @@ returns c =
           (λ x. absurd x)
           (λ x. absurd x)
           c.stopped_at.ensures
-      | then-loop-tickets-test+in-End w ↦ stopped inv.round {A = ⊥} {B = Unit {0}} {C = ⊥} (inr (inl tt))
+      | then-loop-tickets-test+in-Ok-None w ↦ stopped inv.round {A = ⊥} {B = Unit {0}} {C = ⊥} (inr (inl tt))
           (λ x. absurd x)
-          (λ x. (sym room ∙ w.loop-tickets-test.true, sym w.in-End.is ∙ w.read_record-record.ensures, w.stop-is))
+          (λ x. (sym room ∙ w.loop-tickets-test.true, sym (w.in-Ok-None.is ∙ ap Ok (rw w.in-Ok-None.is at w.in-Ok-None.field-0-is)) ∙ w.read_record-record.ensures, w.stop-is))
           (λ x. absurd x)
           c.stopped_at.ensures
-      | then-loop-tickets-test+in-Refused w ↦ stopped inv.round {A = ⊥} {B = ⊥} {C = Unit {0}} (inr (inr tt))
+      | then-loop-tickets-test+in-Err w ↦ stopped inv.round {A = ⊥} {B = ⊥} {C = Unit {0}} (inr (inr tt))
           (λ x. absurd x)
           (λ x. absurd x)
-          (λ x. (_, sym room ∙ w.loop-tickets-test.true, sym w.in-Refused.is ∙ w.read_record-record.ensures, w.stop-is))
+          (λ x. (_, sym room ∙ w.loop-tickets-test.true, sym w.in-Err.is ∙ w.read_record-record.ensures, w.stop-is))
           c.stopped_at.ensures
     ]
