@@ -32,7 +32,7 @@ use Rattle.admission.specs.NarrowGate.{near_of}
 use Rattle.admission.proofs.NarrowGate.{near_opens}
 use Rattle.wubraken.specs.Results.{lent}
 use Rattle.wubraken.proofs.Survey.{survey_ok_is}
-use Rattle.dealer.specs.Runs.{flag_of}
+use Rattle.dealer.specs.Looks.{flag_of}
 use Rattle.dealer.specs.Dealing.{
   all_idle,
   served_in_range,
