@@ -268,7 +268,7 @@ module _ (a : Ask) (s : List ℕ) (t : List Worker) where
     refused e = (
       tt,
       away whole_of a.shape (lent s t) a.dealer 0 a.turns k (eqb-false a.turns 0 some)
-      (away_at_first a.shape s t a.dealer whole_of k refl (eqb-false k 0 e)),
+          (away_at_first a.shape s t a.dealer whole_of k refl (eqb-false k 0 e)),
     )
 
     begins : eqb k 0 ≡ true → Good (Continue (started_at a a.dealer 0))

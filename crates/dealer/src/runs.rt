@@ -32,7 +32,8 @@ pub struct Ended {
 pub fn worker_after(shape: Shape, i: u64) -> u64
     ensures { result ≡ worker_after shape i }
 {
-    if i < shape.workers.saturating_sub(1) { i + 1 } else { 0 }
+    let next = i.wrapping_add(1);
+    if next < shape.workers { next } else { 0 }
 }
 
 impl Ask {

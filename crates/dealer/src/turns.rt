@@ -13,7 +13,11 @@ use std::ops::ControlFlow;
 use wubraken::table::survey_table;
 
 // From candidate to candidate, as long as the run goes on.
-pub fn deal_turns(start: ControlFlow<Ended, Going>, store: &mut [u64], table: &mut [Worker]) -> Ended
+pub fn deal_turns(
+    start: ControlFlow<Ended, Going>,
+    store: &mut [u64],
+    table: &mut [Worker],
+) -> Ended
     requires { Sound start store.old table.old }
     ensures { leaves_deal store.new table.new result ≡ wanted start store.old table.old }
 {
