@@ -6,8 +6,8 @@ use Rattle.std.specs.Prelude.{List, Bool, true, false, cond, ℕ}
 use Rattle.arrival.specs.declared.Shape.{Shape}
 use Rattle.admission.specs.Gate.{sound_of}
 use Rattle.admission.specs.NarrowGate.{near_of}
-use Rattle.dealer.specs.declared.looks.Look.{Look}
-use Rattle.dealer.specs.declared.looks.Look.TheVariants.{Whole, Narrow}
+use Rattle.dealer.specs.declared.asks.Look.{Look}
+use Rattle.dealer.specs.declared.asks.Look.TheVariants.{Whole, Narrow}
 
 abbrev pub is_whole : Look → Bool
 is_whole Whole = true

@@ -8,13 +8,11 @@ ghost use Rattle.dealer.specs.Answered.{hands, handed};
 
 use answers::Dealt;
 use arrival::{Shape, Worker};
-use asks::Ask;
-use looks::Look;
+use asks::{Ask, Look};
 use turns::deal_lent;
 
 pub mod answers;
 pub mod asks;
-pub mod looks;
 pub mod runs;
 pub mod turns;
 pub mod visits;

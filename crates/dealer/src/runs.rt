@@ -50,7 +50,7 @@ impl Ask {
         if self.turns == 0 {
             return ControlFlow::Break(idle);
         }
-        let flag = self.look.flag_of(self.shape, n, seen.ok, store);
+        let flag = self.flag_of(n, seen.ok, store);
         let k = gate(self.shape, store.len(), n, self.dealer, flag);
         if k != 0 {
             return ControlFlow::Break(Ended {

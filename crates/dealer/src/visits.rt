@@ -13,15 +13,14 @@ impl Going {
         requires { Visitable self store.old w.old }
         ensures { visits store.new w.new result ≡ visited self store.old w.old }
     {
-        let Going { ask, .. } = self;
         if w.stage == 0 {
             return self.passed_by();
         }
-        if !ask.look.may_turn(ask.shape, *w) {
+        if !self.ask.may_turn(*w) {
             return ControlFlow::Break(self.stopped_by(Response::Refused(3)));
         }
-        let leak = ask.look.leaks_of(ask.shape, *w, store);
-        let reply = step(ask.shape, *w, store);
+        let leak = self.ask.leaks_of(*w, store);
+        let reply = step(self.ask.shape, *w, store);
         *w = reply.worker;
         self.moved_on(leak, reply.response)
     }
