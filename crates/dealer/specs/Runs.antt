@@ -5,7 +5,7 @@
 --     Visited, visits, visited        run, record and store behind a look at a candidate: of what the code left, and by the rules
 --     Visitable                       what the look needs
 -- Assumes nothing.
-use Rattle.std.specs.Prelude.{◌≡◌, List, Bool, true, false, cond, not, ◌||◌, ℕ, ◌+◌, ◌-◌, ◌<◌, eqb, length}
+use Rattle.std.specs.Prelude.{◌≡◌, List, Bool, true, cond, not, ◌||◌, ℕ, ◌+◌, ◌-◌, ◌<◌, eqb, length}
 use Rattle.std.specs.declared.ops.ControlFlow.{ControlFlow}
 use Rattle.std.specs.declared.ops.ControlFlow.TheVariants.{Continue, Break}
 use Rattle.arrival.specs.declared.Worker.{Worker}

@@ -1,7 +1,7 @@
 -- `turns::deal_turns`: the look at the candidate may be made, and leaves a run that is sound, wants the same and has less to do. Assumes nothing.
 --     moved    what it leaves, of a run x that goes on as r
 use Rattle.std.proofs.Common.{◌≡◌, ℕ, ◌<◌, List, sym, ap, subst, ◌∙◌}
-use Rattle.std.specs.declared.ops.ControlFlow.TheVariants.{Continue, Break}
+use Rattle.std.specs.declared.ops.ControlFlow.TheVariants.{Continue}
 use Rattle.arrival.specs.declared.Worker.{Worker}
 use Rattle.calendar.specs.rules.Ranges.{blank, worker}
 use Rattle.dealer.specs.declared.runs.Going.{Going}
