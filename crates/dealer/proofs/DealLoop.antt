@@ -1,6 +1,7 @@
 -- The loop over dealt turns: what is still to be dealt gives what the whole run gives.
 --     flag_tight                      the flag for refusal 3 before the first turn is down where 1 or 2 applies
 --     passed_by_lem, away_at_first        what the gate lets pass may be dealt on; what it refuses no turn is dealt on
+--     over                            what does not go on stays as it is
 --     away, ended, on                 no turn is dealt; the last turn; one turn more
 --     none_dealt                      no turn was asked for
 -- Assumes nothing.
@@ -133,7 +134,7 @@ module _ (sh : Shape) (s : List ℕ) (t : List Worker) (last : ℕ) where
       let e = refusal_at_first whole (λ z. some (is ∙ z)) ∙ sym is in
       rw (e, ne_eqb k 0 some)
 
-over : (whole : Bool) (sh : Shape) (n : ℕ) (r : Deal) → goes_on r.response ≡ false → dealt_on whole sh n r ≡ r
+pub over : (whole : Bool) (sh : Shape) (n : ℕ) (r : Deal) → goes_on r.response ≡ false → dealt_on whole sh n r ≡ r
 unfolding dealt_on
 over whole sh zero r e = refl
 over whole sh (suc n) r e = rw e

@@ -1,4 +1,5 @@
 -- What refuses a dealt turn, and what it keeps, on any memory, with a look at all of it or a narrow one.
+--     passed                     no test applies to a turn that was dealt
 --     served_exists              who is served is a worker that had a call in progress
 --     only_11                    a turn that was dealt is refused by nothing but 11
 --     deal_lowest                 all that the host can get; of them the lowest is answered
@@ -44,14 +45,14 @@ use Rattle.dealer.specs.DealtRefusals.{all_tests, KeptBy}
 
 -- ── a turn that was dealt ──
 -- no test applies
-record Passed (whole : Bool) (sh : Shape) (m : Memory) (last : ℕ) : Type 0 where
-  shape : bad_shape sh ≡ false
-  long : too_short sh m.store m.table ≡ false
-  ranged : deal_out whole sh m last ≡ false
-  exists : no_worker sh last ≡ false
-  some : all_idle sh m.table last ≡ false
+pub record Passed (whole : Bool) (sh : Shape) (m : Memory) (last : ℕ) : Type 0 where
+  pub shape : bad_shape sh ≡ false
+  pub long : too_short sh m.store m.table ≡ false
+  pub ranged : deal_out whole sh m last ≡ false
+  pub exists : no_worker sh last ≡ false
+  pub some : all_idle sh m.table last ≡ false
 
-passed : (whole : Bool) (sh : Shape) (m : Memory) (last : ℕ) → deal_refusal whole sh m last ≡ 0 → Passed whole sh m last
+pub passed : (whole : Bool) (sh : Shape) (m : Memory) (last : ℕ) → deal_refusal whole sh m last ≡ 0 → Passed whole sh m last
 unfolding deal_refusal
 passed whole sh m last e =
     let (one, (two, (three, (four, (sixteen, rest))))) = first_none (deal_tests whole sh m last) refl e in
