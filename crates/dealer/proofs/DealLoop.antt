@@ -8,6 +8,7 @@
 use Rattle.std.specs.Prelude.{◌≡◌, List, Bool, cond, ◌&&◌, ◌||◌, ◌≢◌, eqb, length}
 use Rattle.std.proofs.Math.Path.{refl, sym, ap}
 use Rattle.std.proofs.Common.{◌∙◌, add-zero}
+use Rattle.std.proofs.lemmas.Bool.Decides.{nat_tests}
 use Rattle.std.proofs.Math.Bool.{true, false, not, or-false, and-false}
 use Prim.Native.Nat.{ℕ, zero, suc, ◌+◌, ◌-◌}
 use native.Mathlib.Omega.{arith}
@@ -121,11 +122,7 @@ module _ (sh : Shape) (s : List ℕ) (t : List Worker) (last : ℕ) where
       by : (a b f n i o : Bool) → (a ≡ false → b ≡ false → f ≡ false → o ≡ true) → (a ≡ false → b ≡ false → f ≡ true → n ≡ true → o ≡ false)
           → ◌≢◌ {A = ℕ} (cond a 1 (cond b 2 (cond (not f) 3 (cond n 4 0)))) 0
           → ◌≡◌ {A = ℕ} (cond a 1 (cond b 2 (cond o 3 (cond n 4 (cond i 16 0))))) (cond a 1 (cond b 2 (cond (not f) 3 (cond n 4 0))))
-      by true b f n i o down up some = refl
-      by false true f n i o down up some = refl
-      by false false false n i o down up some = rw (down refl refl refl)
-      by false false true true i o down up some = rw (up refl refl refl refl)
-      by false false true false i o down up some = absurd (some refl)
+      by a b f n i o down up some = grind (arith, nat_tests)
 
   pub away_at_first : (whole : Bool) (k : ℕ) → k ≡ gate_of sh (length s) (length t) last (flag_of whole sh s (length t) (ok_of whole sh t)) → k ≢ 0
       → dealt whole sh (lent s t) last ≡ turned_away k (lent s t) last
