@@ -5,15 +5,13 @@
 --     last_turn, lasts_less           the turn was the last; it was not, and fewer are left
 --     past_leak, next_round_lem           it led out of the ranges, and 3 ends the run; one round more
 -- Assumes nothing.
-use Rattle.std.specs.Prelude.{◌≡◌, refl, List, Bool, true, false, not, ◌||◌, ◌≢◌, ℕ, ◌+◌, ◌-◌, ◌<◌, eqb, length, set}
-use Rattle.std.proofs.Common.{sym, ap, subst, ◌∙◌, arith, eqb-true, eq-eqb, ne_eqb}
-use Rattle.std.proofs.lemmas.Bool.{eqb-false}
+use Rattle.std.specs.Prelude.{◌≡◌, List, Bool, true, false, not, ◌||◌, ◌≢◌, ℕ, ◌+◌, ◌-◌, ◌<◌, eqb, length, set}
+use Rattle.std.proofs.Common.{sym, ap, subst, ◌∙◌, arith, ne_eqb}
 use Rattle.std.proofs.lemmas.Bool.Decides.{nat_tests}
 use Rattle.arrival.specs.declared.Shape.{Shape}
 use Rattle.arrival.specs.declared.Worker.{Worker}
 use Rattle.arrival.specs.declared.Action.TheVariants.{Step}
 use Rattle.arrival.specs.declared.Response.TheVariants.{Refused}
-use Rattle.laws.specs.Tests.{never}
 use Rattle.calendar.specs.rules.Ranges.{worker, record_in_range}
 use Rattle.calendar.specs.rules.Operations.{Memory, Result}
 use Rattle.calendar.specs.rules.NarrowCalls.{goes_on}

@@ -16,6 +16,7 @@ use Rattle.std.specs.Prelude.{◌≡◌, refl, [], ◌∷◌, Bool, true, false,
 use Rattle.std.proofs.Common.{sym, ap, subst, ◌∙◌, arith, eqb-true, leb-false}
 use Rattle.std.proofs.Math.Decide.{ℕ_discrete}
 use Rattle.std.proofs.lemmas.Bool.{lt-leb, not-false}
+use Rattle.std.proofs.lemmas.Bool.Decides.{nat_tests}
 use Rattle.arrival.specs.declared.Shape.{Shape}
 use Rattle.arrival.specs.declared.Action.{Action}
 use Rattle.arrival.specs.declared.Action.TheVariants.{Step}
@@ -120,11 +121,9 @@ refused_number r k e = ap (λ (x : Response). (said x).number) e
 pub only_11 : (whole : Bool) (sh : Shape) (m : Memory) (last : ℕ) → deal_refusal whole sh m last ≡ 0
     → (k : ℕ) → (dealt whole sh m last).response ≡ Refused (suc k) → suc k ≡ 11
 only_11 whole sh m last e k q =
-    go (no_epoch sh m.store (worker m.table (next_served sh m.table last))) (sym (refused_number _ (suc k) q) ∙ dealt_number whole sh m last e)
-  where
-    go : (t : Bool) → suc k ≡ cond t 11 0 → suc k ≡ 11
-    go true z = z
-    go false z = absurd (omega arith)
+    let is : suc k ≡ cond (no_epoch sh m.store (worker m.table (next_served sh m.table last))) 11 0 =
+    sym (refused_number _ (suc k) q) ∙ dealt_number whole sh m last e in
+    grind (arith, nat_tests)
 
 -- behind 1 to 4 only 11 and 16 are left
 behind_4 : (idle spent : Bool) → first_of ((16, idle) ∷ []) ≢ 0 → first_of ((11, not idle && spent) ∷ (16, idle) ∷ []) ≡ first_of ((16, idle) ∷ [])
