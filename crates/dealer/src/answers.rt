@@ -3,7 +3,7 @@ ghost use Rattle.std.specs.Prelude.{◌≡◌};
 ghost use Rattle.dealer.specs.Answered.{dealt_of};
 
 use super::runs::Ended;
-use wubraken::answers::{Answer, answer_of};
+use wubraken::answers::Answer;
 
 // The worker served last, how many turns were dealt, and the answer.
 #[repr(C)]
@@ -21,7 +21,7 @@ impl From<Ended> for Dealt {
         Dealt {
             dealer: ended.last,
             turns: ended.made,
-            answer: answer_of(ended.response),
+            answer: Answer::from(ended.response),
         }
     }
 }

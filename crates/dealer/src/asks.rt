@@ -10,6 +10,7 @@ use admission::ranges::record_in_range;
 use admission::{is_near, is_sound};
 use arrival::{Action, Request, Shape, Worker};
 use operation::leaks::turn_leaks;
+use words::store::View;
 
 // The look before a turn: at the whole of the lent memory, or narrow, at no more than the turn needs.
 #[derive(Clone, Copy, PartialEq, Eq, Debug)]
@@ -53,10 +54,7 @@ impl Ask {
         requires { shape_in_range self.shape ≡ true }
         ensures { result ≡ (is_whole self.look || record_in_range self.shape w) }
     {
-        match self.look {
-            Look::Whole => true,
-            Look::Narrow => record_in_range(self.shape, w),
-        }
+        self.look == Look::Whole || record_in_range(self.shape, w)
     }
 
     // Whether the next turn, by a look at everything, finds something out of range.
@@ -64,9 +62,10 @@ impl Ask {
         requires { Ready self.shape store.now w }
         ensures { result ≡ leaks_of (is_whole self.look) self.shape store.now w }
     {
-        match self.look {
-            Look::Whole => turn_leaks(self.shape, w, store),
-            Look::Narrow => false,
-        }
+        let view = View {
+            shape: self.shape,
+            words: store,
+        };
+        self.look == Look::Whole && turn_leaks(w, &view)
     }
 }

@@ -1,14 +1,14 @@
 // A run of dealt turns, by value: how it begins, and how it moves on from candidate to candidate.
-ghost use Rattle.std.specs.Prelude.{◌≡◌, ◌<◌};
-ghost use Rattle.dealer.specs.Dealing.{worker_after};
+ghost use Rattle.std.specs.Prelude.{◌≡◌, ◌<◌, is_some};
 ghost use Rattle.dealer.specs.Runs.{stopped_by, started_at, begun, passed_by, moved_on};
 
 use super::asks::Ask;
 use admission::gate;
-use arrival::{Response, Shape};
+use arrival::Response;
+use arrival::refusals::Refusal;
+use arrival::rounds::after;
 use operation::goes_on;
 use std::ops::ControlFlow;
-use wubraken::table::Survey;
 
 // A run that goes on: the candidate to be looked at and how many are left with it, the worker served last, the turns made.
 #[derive(Clone, Copy)]
@@ -28,19 +28,11 @@ pub struct Ended {
     pub response: Response,
 }
 
-// The worker after i, going round.
-pub fn worker_after(shape: Shape, i: u64) -> u64
-    ensures { result ≡ worker_after shape i }
-{
-    let next = i.wrapping_add(1);
-    if next < shape.workers { next } else { 0 }
-}
-
 impl Ask {
     // Before the first turn: past refusals 1 to 4, or ended by one of them.
     #[tactic(auto, using(crate::proofs::DealLoop::flag_tight), unfolding(crate::specs::Runs::begun))]
-    pub fn begin(self, n: usize, seen: Survey, store: &[u64]) -> ControlFlow<Ended, Going>
-        ensures { result ≡ begun self store.now n seen.ok }
+    pub fn begin(self, n: usize, low: Option<u64>, store: &[u64]) -> ControlFlow<Ended, Going>
+        ensures { result ≡ begun self store.now n (is_some low) }
     {
         let idle = Ended {
             last: self.dealer,
@@ -50,15 +42,14 @@ impl Ask {
         if self.turns == 0 {
             return ControlFlow::Break(idle);
         }
-        let flag = self.flag_of(n, seen.ok, store);
-        let k = gate(self.shape, store.len(), n, self.dealer, flag);
-        if k != 0 {
-            return ControlFlow::Break(Ended {
-                response: Response::Refused(k),
+        let flag = self.flag_of(n, low.is_some(), store);
+        match gate(self.shape, store.len(), n, self.dealer, flag) {
+            Ok(()) => ControlFlow::Continue(Going::started_at(self, self.dealer, 0)),
+            Err(refusal) => ControlFlow::Break(Ended {
+                response: Response::from(refusal),
                 ..idle
-            });
+            }),
         }
-        ControlFlow::Continue(Going::started_at(self, self.dealer, 0))
     }
 }
 
@@ -69,7 +60,7 @@ impl Going {
     {
         Going {
             ask,
-            at: worker_after(ask.shape, last) as usize,
+            at: after(last, ask.shape.workers) as usize,
             rest: ask.shape.workers,
             last,
             made,
@@ -94,10 +85,10 @@ impl Going {
         ensures { result ≡ passed_by self }
     {
         if self.rest == 1 {
-            return ControlFlow::Break(self.stopped_by(Response::Refused(16)));
+            return ControlFlow::Break(self.stopped_by(Response::from(Refusal::AllIdle)));
         }
         ControlFlow::Continue(Going {
-            at: worker_after(self.ask.shape, self.at as u64) as usize,
+            at: after(self.at as u64, self.ask.shape.workers) as usize,
             rest: self.rest - 1,
             ..self
         })
@@ -114,7 +105,7 @@ impl Going {
             return ControlFlow::Break(next.stopped_by(response));
         }
         if leak {
-            return ControlFlow::Break(next.stopped_by(Response::Refused(3)));
+            return ControlFlow::Break(next.stopped_by(Response::from(Refusal::OutOfRange)));
         }
         ControlFlow::Continue(next)
     }

@@ -3,9 +3,11 @@ ghost use Rattle.std.specs.Prelude.{◌≡◌};
 ghost use Rattle.dealer.specs.Runs.{Visitable, visits, visited};
 
 use super::runs::{Ended, Going};
+use arrival::refusals::Refusal;
 use arrival::{Response, Worker};
 use stages::step;
 use std::ops::ControlFlow;
+use words::replies::Reply;
 
 impl Going {
     #[tactic(auto, unfolding(crate::specs::Runs::visited))]
@@ -17,10 +19,10 @@ impl Going {
             return self.passed_by();
         }
         if !self.ask.may_turn(*w) {
-            return ControlFlow::Break(self.stopped_by(Response::Refused(3)));
+            return ControlFlow::Break(self.stopped_by(Response::from(Refusal::OutOfRange)));
         }
         let leak = self.ask.leaks_of(*w, store);
-        let reply = step(self.ask.shape, *w, store);
+        let reply = Reply::of(*w, step(self.ask.shape, *w, store));
         *w = reply.worker;
         self.moved_on(leak, reply.response)
     }
