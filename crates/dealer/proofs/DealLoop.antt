@@ -1,12 +1,14 @@
 -- The loop over dealt turns: what is still to be dealt gives what the whole run gives.
 --     flag_tight                      the flag for refusal 3 before the first turn is down where 1 or 2 applies
 --     passed_by_lem, away_at_first        what the gate lets pass may be dealt on; what it refuses no turn is dealt on
+--     over                            what does not go on stays as it is
 --     away, ended, on                 no turn is dealt; the last turn; one turn more
 --     none_dealt                      no turn was asked for
 -- Assumes nothing.
 use Rattle.std.specs.Prelude.{◌≡◌, List, Bool, cond, ◌&&◌, ◌||◌, ◌≢◌, eqb, length}
 use Rattle.std.proofs.Math.Path.{refl, sym, ap}
 use Rattle.std.proofs.Common.{◌∙◌, add-zero}
+use Rattle.std.proofs.lemmas.Bool.Decides.{nat_tests}
 use Rattle.std.proofs.Math.Bool.{true, false, not, or-false, and-false}
 use Prim.Native.Nat.{ℕ, zero, suc, ◌+◌, ◌-◌}
 use native.Mathlib.Omega.{arith}
@@ -32,7 +34,7 @@ use Rattle.admission.specs.NarrowGate.{near_of}
 use Rattle.admission.proofs.NarrowGate.{near_opens}
 use Rattle.wubraken.specs.Results.{lent}
 use Rattle.wubraken.proofs.Survey.{survey_ok_is}
-use Rattle.dealer.specs.Runs.{flag_of}
+use Rattle.dealer.specs.Looks.{flag_of}
 use Rattle.dealer.specs.Dealing.{
   all_idle,
   served_in_range,
@@ -120,11 +122,7 @@ module _ (sh : Shape) (s : List ℕ) (t : List Worker) (last : ℕ) where
       by : (a b f n i o : Bool) → (a ≡ false → b ≡ false → f ≡ false → o ≡ true) → (a ≡ false → b ≡ false → f ≡ true → n ≡ true → o ≡ false)
           → ◌≢◌ {A = ℕ} (cond a 1 (cond b 2 (cond (not f) 3 (cond n 4 0)))) 0
           → ◌≡◌ {A = ℕ} (cond a 1 (cond b 2 (cond o 3 (cond n 4 (cond i 16 0))))) (cond a 1 (cond b 2 (cond (not f) 3 (cond n 4 0))))
-      by true b f n i o down up some = refl
-      by false true f n i o down up some = refl
-      by false false false n i o down up some = rw (down refl refl refl)
-      by false false true true i o down up some = rw (up refl refl refl refl)
-      by false false true false i o down up some = absurd (some refl)
+      by a b f n i o down up some = grind (arith, nat_tests)
 
   pub away_at_first : (whole : Bool) (k : ℕ) → k ≡ gate_of sh (length s) (length t) last (flag_of whole sh s (length t) (ok_of whole sh t)) → k ≢ 0
       → dealt whole sh (lent s t) last ≡ turned_away k (lent s t) last
@@ -133,7 +131,7 @@ module _ (sh : Shape) (s : List ℕ) (t : List Worker) (last : ℕ) where
       let e = refusal_at_first whole (λ z. some (is ∙ z)) ∙ sym is in
       rw (e, ne_eqb k 0 some)
 
-over : (whole : Bool) (sh : Shape) (n : ℕ) (r : Deal) → goes_on r.response ≡ false → dealt_on whole sh n r ≡ r
+pub over : (whole : Bool) (sh : Shape) (n : ℕ) (r : Deal) → goes_on r.response ≡ false → dealt_on whole sh n r ≡ r
 unfolding dealt_on
 over whole sh zero r e = refl
 over whole sh (suc n) r e = rw e

@@ -5,14 +5,13 @@
 --     last_turn, lasts_less           the turn was the last; it was not, and fewer are left
 --     past_leak, next_round_lem           it led out of the ranges, and 3 ends the run; one round more
 -- Assumes nothing.
-use Rattle.std.specs.Prelude.{◌≡◌, refl, List, Bool, true, false, not, ◌||◌, ◌≢◌, ℕ, ◌+◌, ◌-◌, ◌<◌, eqb, length, set}
-use Rattle.std.proofs.Common.{sym, ap, subst, ◌∙◌, arith, eqb-true, eq-eqb, ne_eqb}
-use Rattle.std.proofs.lemmas.Bool.{eqb-false}
+use Rattle.std.specs.Prelude.{◌≡◌, List, Bool, true, false, not, ◌||◌, ◌≢◌, ℕ, ◌+◌, ◌-◌, ◌<◌, eqb, length, set}
+use Rattle.std.proofs.Common.{sym, ap, subst, ◌∙◌, arith, ne_eqb}
+use Rattle.std.proofs.lemmas.Bool.Decides.{nat_tests}
 use Rattle.arrival.specs.declared.Shape.{Shape}
 use Rattle.arrival.specs.declared.Worker.{Worker}
 use Rattle.arrival.specs.declared.Action.TheVariants.{Step}
 use Rattle.arrival.specs.declared.Response.TheVariants.{Refused}
-use Rattle.laws.specs.Tests.{never}
 use Rattle.calendar.specs.rules.Ranges.{worker, record_in_range}
 use Rattle.calendar.specs.rules.Operations.{Memory, Result}
 use Rattle.calendar.specs.rules.NarrowCalls.{goes_on}
@@ -118,20 +117,11 @@ module _ {whole : Bool} {sh : Shape} {turns : ℕ} {goal : Deal} {s : List ℕ} 
                 ∙ ended whole sh m last made j result served (turns - made) some_left g goes (sym (ap (λ (b : Bool). b || not g) count) ∙ e) ∙ R.same
               where
                 count : eqb (made + 1) turns ≡ eqb (turns - made) 1
-                count = by (eqb (made + 1) turns) refl
-                  where
-                    by : (b : Bool) → eqb (made + 1) turns ≡ b → b ≡ eqb (turns - made) 1
-                    by true f = sym (eq-eqb (turns - made) 1 (omega (arith, eqb-true (made + 1) turns f)))
-                    by false f = sym (ne_eqb (turns - made) 1 (λ z. eqb-false (made + 1) turns f (omega (arith, z, R.more))))
+                count = let more : made < turns = R.more in grind (arith, nat_tests)
 
             module _ (not_last : (eqb (made + 1) turns || not g) ≡ false) where
               split : (made + 1 ≢ turns) × (g ≡ true)
-              split = go (eqb (made + 1) turns) refl g not_last
-                where
-                  go : (b : Bool) → eqb (made + 1) turns ≡ b → (g : Bool) → (b || not g) ≡ false → (made + 1 ≢ turns) × (g ≡ true)
-                  go true f g e = never (sym e)
-                  go false f true e = (eqb-false (made + 1) turns f, refl)
-                  go false f false e = never (sym e)
+              split = grind (arith, nat_tests)
 
               pub lasts_less : made + 1 < turns
               lasts_less = omega (arith, R.more, split.0)

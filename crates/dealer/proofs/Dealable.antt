@@ -8,6 +8,9 @@
 -- Assumes nothing.
 use Rattle.std.specs.Prelude.{◌≡◌, refl, Bool, true, false, cond, not, ◌||◌, ◌≢◌, ℕ, ◌<◌, length, set}
 use Rattle.std.proofs.Common.{sym, ap, subst, ◌∙◌, arith, length-set}
+use Rattle.std.proofs.Math.Bool.{or-false}
+use Rattle.std.proofs.lemmas.Bool.Decides.{nat_tests}
+use Rattle.laws.specs.Tests.{never}
 use borrow.Author.Tests.{eq-eqb, ne_eqb, lt-leb, le-ltb}
 use Rattle.arrival.specs.declared.Shape.{Shape}
 use Rattle.arrival.specs.declared.Worker.{Worker}
@@ -63,9 +66,7 @@ out_by false sh m last D = rw (word_tests sh m.store D.kept, lt-leb sh.workers l
 
 module _ (whole : Bool) (sh : Shape) (m : Memory) (last : ℕ) (D : Dealable whole sh m last) where
   idle_out : (w i r : Bool) → i ≡ true → not (w || i || r) ≡ false
-  idle_out true true r e = refl
-  idle_out false true r e = refl
-  idle_out w false r e = absurd (let z : ◌≡◌ {A = ℕ} 0 1 = cc in omega arith)
+  idle_out w i r e = grind (arith, nat_tests)
 
   pub none_served : next_served sh m.table last ≡ sh.workers → dealt whole sh m last ≡ turned_away 16 m last
   none_served e =
@@ -78,12 +79,7 @@ module _ (whole : Bool) (sh : Shape) (m : Memory) (last : ℕ) (D : Dealable who
     busy = ne_eqb (next_served sh m.table last) sh.workers some
 
     out_is : deal_out whole sh m last ≡ not (whole || record_in_range sh (worker m.table (next_served sh m.table last)))
-    out_is = out_by whole sh m last D ∙ rw busy (shorter whole)
-      where
-        shorter : (w : Bool) → not (w || false || record_in_range sh (worker m.table (next_served sh m.table last)))
-            ≡ not (w || record_in_range sh (worker m.table (next_served sh m.table last)))
-        shorter true = refl
-        shorter false = refl
+    out_is = out_by whole sh m last D ∙ simp (busy, or-false)
 
     pub record_out : (whole || record_in_range sh (worker m.table (next_served sh m.table last))) ≡ false → dealt whole sh m last ≡ turned_away 3 m last
     record_out e = away_by whole sh m last D 3 (λ z. omega (arith, z)) (refusal_is whole sh m last D ∙ rw (out_is, e))
@@ -223,7 +219,7 @@ leaked_by : (whole : Bool) (sh : Shape) (m : Memory) (i : ℕ) (L : Lent sh m.st
 leaked_by true sh m i L l kept after leak =
     out_of_all sh (back m.table i (local_act sh 0 m.store (Step i) (worker m.table i))).memory i after
     (sym (whole_after sh m i L l kept after) ∙ ap not leak)
-leaked_by false sh m i L l kept after leak = absurd (let z : ◌≡◌ {A = ℕ} 0 1 = cc in omega arith)
+leaked_by false sh m i L l kept after leak = never leak
 
 module _ (whole : Bool) (sh : Shape) (m : Memory) (last : ℕ) (D : Dealable whole sh m last)
     (exists : next_served sh m.table last < sh.workers) (may : MayTurn whole sh (worker m.table (next_served sh m.table last))) where

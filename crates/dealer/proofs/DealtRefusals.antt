@@ -1,4 +1,5 @@
 -- What refuses a dealt turn, and what it keeps, on any memory, with a look at all of it or a narrow one.
+--     passed                     no test applies to a turn that was dealt
 --     served_exists              who is served is a worker that had a call in progress
 --     only_11                    a turn that was dealt is refused by nothing but 11
 --     deal_lowest                 all that the host can get; of them the lowest is answered
@@ -15,6 +16,7 @@ use Rattle.std.specs.Prelude.{◌≡◌, refl, [], ◌∷◌, Bool, true, false,
 use Rattle.std.proofs.Common.{sym, ap, subst, ◌∙◌, arith, eqb-true, leb-false}
 use Rattle.std.proofs.Math.Decide.{ℕ_discrete}
 use Rattle.std.proofs.lemmas.Bool.{lt-leb, not-false}
+use Rattle.std.proofs.lemmas.Bool.Decides.{nat_tests}
 use Rattle.arrival.specs.declared.Shape.{Shape}
 use Rattle.arrival.specs.declared.Action.{Action}
 use Rattle.arrival.specs.declared.Action.TheVariants.{Step}
@@ -44,14 +46,14 @@ use Rattle.dealer.specs.DealtRefusals.{all_tests, KeptBy}
 
 -- ── a turn that was dealt ──
 -- no test applies
-record Passed (whole : Bool) (sh : Shape) (m : Memory) (last : ℕ) : Type 0 where
-  shape : bad_shape sh ≡ false
-  long : too_short sh m.store m.table ≡ false
-  ranged : deal_out whole sh m last ≡ false
-  exists : no_worker sh last ≡ false
-  some : all_idle sh m.table last ≡ false
+pub record Passed (whole : Bool) (sh : Shape) (m : Memory) (last : ℕ) : Type 0 where
+  pub shape : bad_shape sh ≡ false
+  pub long : too_short sh m.store m.table ≡ false
+  pub ranged : deal_out whole sh m last ≡ false
+  pub exists : no_worker sh last ≡ false
+  pub some : all_idle sh m.table last ≡ false
 
-passed : (whole : Bool) (sh : Shape) (m : Memory) (last : ℕ) → deal_refusal whole sh m last ≡ 0 → Passed whole sh m last
+pub passed : (whole : Bool) (sh : Shape) (m : Memory) (last : ℕ) → deal_refusal whole sh m last ≡ 0 → Passed whole sh m last
 unfolding deal_refusal
 passed whole sh m last e =
     let (one, (two, (three, (four, (sixteen, rest))))) = first_none (deal_tests whole sh m last) refl e in
@@ -119,11 +121,9 @@ refused_number r k e = ap (λ (x : Response). (said x).number) e
 pub only_11 : (whole : Bool) (sh : Shape) (m : Memory) (last : ℕ) → deal_refusal whole sh m last ≡ 0
     → (k : ℕ) → (dealt whole sh m last).response ≡ Refused (suc k) → suc k ≡ 11
 only_11 whole sh m last e k q =
-    go (no_epoch sh m.store (worker m.table (next_served sh m.table last))) (sym (refused_number _ (suc k) q) ∙ dealt_number whole sh m last e)
-  where
-    go : (t : Bool) → suc k ≡ cond t 11 0 → suc k ≡ 11
-    go true z = z
-    go false z = absurd (omega arith)
+    let is : suc k ≡ cond (no_epoch sh m.store (worker m.table (next_served sh m.table last))) 11 0 =
+    sym (refused_number _ (suc k) q) ∙ dealt_number whole sh m last e in
+    grind (arith, nat_tests)
 
 -- behind 1 to 4 only 11 and 16 are left
 behind_4 : (idle spent : Bool) → first_of ((16, idle) ∷ []) ≢ 0 → first_of ((11, not idle && spent) ∷ (16, idle) ∷ []) ≡ first_of ((16, idle) ∷ [])

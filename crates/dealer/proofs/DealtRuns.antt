@@ -16,6 +16,7 @@ use Rattle.calendar.specs.facts.HostRun.{StaysInRange}
 use Rattle.lists.specs.NodeReuse.{always_in_range}
 use Rattle.dealer.specs.Dealing.{Deal, dealt, undealt, behind, dealt_on, dealt_run}
 use Rattle.dealer.specs.DealtHistory.{Move, deals, moved, memory_after, dealer_after, answers_to, served_in}
+use Rattle.dealer.proofs.DealLoop.{over}
 use Rattle.dealer.proofs.DealtInRange.{stays_moved}
 use Rattle.dealer.proofs.DealtRefusals.{refused_kept, by_deal, narrow_deal_same}
 use Rattle.dealer.specs.DealtRuns.{run_moves, RunMoves}
@@ -60,10 +61,6 @@ behind_on whole sh (suc n) k r =
         all ∙ behind_both k r.turns (dealt_on whole sh n (dealt whole sh r.memory r.dealer)) ∙ ap (behind k) (sym rest)
     go false all rest = refl
 
-on_stops : (whole : Bool) (sh : Shape) (n : ℕ) (r : Deal) → goes_on r.response ≡ false → dealt_on whole sh (suc n) r ≡ r
-unfolding dealt_on
-on_stops whole sh n r e = rw e
-
 on_goes : (whole : Bool) (sh : Shape) (n : ℕ) (r : Deal) → goes_on r.response ≡ true
     → dealt_on whole sh (suc n) r ≡ dealt_on whole sh n (behind r.turns (dealt whole sh r.memory r.dealer))
 unfolding dealt_on
@@ -71,7 +68,7 @@ on_goes whole sh n r e = rw e
 
 module _ (whole : Bool) (sh : Shape) (n : ℕ) (m : Memory) (last : ℕ) where
   pub run_stops : goes_on (dealt whole sh m last).response ≡ false → dealt_run whole sh (suc (suc n)) m last ≡ dealt whole sh m last
-  run_stops e = run_first whole sh (suc n) m last ∙ on_stops whole sh n (dealt whole sh m last) e
+  run_stops e = run_first whole sh (suc n) m last ∙ over whole sh (suc n) (dealt whole sh m last) e
 
   pub run_on : goes_on (dealt whole sh m last).response ≡ true
       → let r = dealt whole sh m last in dealt_run whole sh (suc (suc n)) m last ≡ behind r.turns (dealt_run whole sh (suc n) r.memory r.dealer)

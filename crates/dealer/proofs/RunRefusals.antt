@@ -15,7 +15,6 @@ use Rattle.arrival.specs.declared.Response.{Response}
 use Rattle.arrival.specs.declared.Response.TheVariants.{Opened, Refused}
 use Rattle.arrival.specs.Responses.{said}
 use Rattle.laws.specs.Tests.{never, parts, by_test}
-use Rattle.laws.specs.FirstOf.{first_none}
 use Rattle.calendar.specs.rules.Ranges.{worker, store_in_range, table_in_range}
 use Rattle.calendar.specs.rules.Reclaim.{in_progress}
 use Rattle.calendar.specs.rules.Operations.{Memory, Result, open_pool, run}
@@ -25,13 +24,13 @@ use Rattle.calendar.proofs.facts.GoesOn.{narrow_goes}
 use Rattle.calendar.proofs.facts.Narrow.{narrow_same}
 use Rattle.calendar.specs.facts.HostRun.{StaysInRange}
 use Rattle.lists.specs.NodeReuse.{always_in_range}
-use Rattle.dealer.specs.Dealing.{Deal, next_served, all_idle, deal_out, deal_tests, deal_refusal, turn_of, dealt, dealt_on, dealt_run}
+use Rattle.dealer.specs.Dealing.{Deal, next_served, all_idle, deal_out, deal_refusal, turn_of, dealt, dealt_on, dealt_run}
 use Rattle.dealer.specs.DealtHistory.{Move, deals, memory_after, dealer_after}
 use Rattle.dealer.proofs.Served.{somebody}
 use Rattle.dealer.specs.DealtTurn.{Able}
 use Rattle.dealer.proofs.DealtTurn.{able_moved, dealt_unless_3}
 use Rattle.dealer.proofs.DealtInRange.{deal_not_3, stays_moved}
-use Rattle.dealer.proofs.DealtRefusals.{only_11, refused_kept, by_deal}
+use Rattle.dealer.proofs.DealtRefusals.{passed, only_11, refused_kept, by_deal}
 use Rattle.dealer.proofs.DealtRuns.{one_turn, run_stops, run_on, stays_along}
 
 -- ── a turn that goes on ──
@@ -54,10 +53,9 @@ turn_busy true sh m last i ranged =
 turn_busy false sh m last i ranged = narrow_busy sh m i
 
 passes : (whole : Bool) (sh : Shape) (m : Memory) (last : ℕ) → deal_refusal whole sh m last ≡ 0 → Able sh m last × (deal_out whole sh m last ≡ false)
-unfolding deal_refusal
 passes whole sh m last e =
-    let (one, (two, (three, (four, rest)))) = first_none (deal_tests whole sh m last) refl e in
-    (record { shape = one; long = two; exists = leb-false sh.workers last four }, three)
+    let p = passed whole sh m last e in
+    (record { shape = p.shape; long = p.long; exists = leb-false sh.workers last p.exists }, p.ranged)
 
 goes_dealt : (whole : Bool) (sh : Shape) (m : Memory) (last : ℕ) → goes_on (dealt whole sh m last).response ≡ true → deal_refusal whole sh m last ≡ 0
 goes_dealt whole sh m last =

@@ -12,6 +12,7 @@ use Rattle.std.proofs.Common.{sym, ap, subst, ◌∙◌, inl, inr, arith, ltb-tr
 use Prim.Native.Nat.{ℕ, zero, suc, ◌+◌, ◌<◌, ◌≤◌}
 use Rattle.std.proofs.Math.Decide.{dec_lt, ℕ_discrete}
 use Rattle.std.proofs.lemmas.Bool.{eqb-false}
+use Rattle.std.proofs.lemmas.Bool.Decides.{nat_tests}
 use Rattle.arrival.specs.declared.Shape.{Shape}
 use Rattle.arrival.specs.declared.Worker.{Worker}
 use Rattle.laws.specs.Tests.{never, is_false}
@@ -21,11 +22,7 @@ use Rattle.dealer.specs.Dealing.{worker_after, first_busy_of, next_served, all_i
 use Rattle.dealer.specs.Served.{nth_after, Round, FirstBusy, Ahead}
 
 pub after_below : (sh : Shape) (n : ℕ) → 1 ≤ sh.workers → worker_after sh n < sh.workers
-after_below sh n h = go (ltb (n + 1) sh.workers) refl
-  where
-    go : (t : Bool) → ltb (n + 1) sh.workers ≡ t → cond t (n + 1) 0 < sh.workers
-    go true e = ltb-true _ _ e
-    go false e = omega arith
+after_below sh n h = grind (arith, nat_tests)
 
 -- ── who is served ──
 busy_of : (sh : Shape) (t : List Worker) (k n : ℕ) → 1 ≤ sh.workers → first_busy_of sh t k n ≢ sh.workers

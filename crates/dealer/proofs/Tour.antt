@@ -4,6 +4,7 @@
 --     sound_start, wanted_start       the run that has just begun
 -- Assumes nothing.
 use Rattle.std.specs.Prelude.{◌≡◌, List, Bool, true, false, cond, not, ◌||◌, ◌≢◌, eqb, length, set}
+use Rattle.std.specs.declared.ops.ControlFlow.TheVariants.{Continue, Break}
 use Rattle.std.proofs.Math.Path.{refl, ap}
 use Rattle.std.proofs.Common.{sym, subst, ◌∙◌}
 use Prim.Native.Nat.{ℕ, zero, suc, ◌+◌, ◌-◌, ◌<◌}
@@ -13,8 +14,8 @@ use Rattle.std.proofs.lemmas.List.{set-get_or}
 use borrow.Author.Tests.{eqb-true, eqb-false}
 use Rattle.arrival.specs.declared.Shape.{Shape}
 use Rattle.arrival.specs.declared.Worker.{Worker}
-use Rattle.arrival.specs.declared.Response.TheVariants.{Refused}
-use Rattle.laws.specs.Tests.{never, by_test}
+use Rattle.arrival.specs.declared.Response.TheVariants.{On, Refused}
+use Rattle.laws.specs.Tests.{by_test}
 use Rattle.calendar.specs.rules.Ranges.{blank, worker, record_in_range}
 use Rattle.calendar.specs.rules.Reclaim.{in_progress}
 use Rattle.calendar.specs.rules.NarrowCalls.{goes_on}
@@ -25,22 +26,24 @@ use Rattle.stages.specs.LocalStep.{local_step}
 use Rattle.admission.specs.Gate.{gate_of}
 use Rattle.admission.proofs.GateLaws.{shape_tests}
 use Rattle.wubraken.specs.Results.{lent}
-use Rattle.dealer.specs.declared.runs.Run.{Run}
+use Rattle.dealer.specs.declared.asks.Ask.{Ask}
+use Rattle.dealer.specs.declared.runs.Going.{Going}
+use Rattle.dealer.specs.declared.runs.Ended.{Ended}
 use Rattle.dealer.specs.Dealing.{worker_after, first_busy_of, next_served, Deal, dealt_on, dealt_run}
 use Rattle.dealer.proofs.Served.{after_below}
 use Rattle.dealer.specs.Answered.{leaves_deal}
 use Rattle.dealer.specs.Dealable.{Dealable, leaks_of}
-use Rattle.dealer.specs.Runs.{flag_of, stopped_by, started_at, unbegun, begun, passed_by, moved_on, served, visited, Visitable}
+use Rattle.dealer.specs.Looks.{is_whole, flag_of}
+use Rattle.dealer.specs.Runs.{Run, stopped_by, started_at, unbegun, begun, passed_by, moved_on, served, visited, Visitable}
 use Rattle.dealer.specs.DealLoop.{ok_of, running}
 use Rattle.dealer.proofs.DealLoop.{passed_by_lem, away_at_first, away, none_dealt}
 use Rattle.dealer.specs.DealRound.{Round}
 use Rattle.dealer.proofs.DealRound.{none_in_progress, refused_record, is_ready, as_long, last_turn, past_leak, next_round_lem}
 use Rattle.dealer.specs.Tour.{Touring, Sound, wanted, todo, Moved}
 
-pub wanted_ended : (whole : Bool) (sh : Shape) (turns : ℕ) (r : Run) (s : List ℕ) (t : List Worker) → r.going ≡ false
-    → wanted whole sh turns r s t ≡ leaves_deal s t r
+pub wanted_ended : (e : Ended) (s : List ℕ) (t : List Worker) → wanted (Break e) s t ≡ leaves_deal s t e
 unfolding wanted
-wanted_ended whole sh turns r s t e = rw e
+wanted_ended e s t = refl
 
 next_of : (sh : Shape) (t : List Worker) (at n : ℕ) → 0 < n
     → first_busy_of sh t n at ≡ cond (in_progress (worker t (worker_after sh at))) (worker_after sh at) (first_busy_of sh t (n - 1) (worker_after sh at))
@@ -53,40 +56,48 @@ unfolding first_busy_of
 none_of sh t at n z = rw z
 
 -- behind the worker `last`, with all workers as candidates
-fresh : (whole : Bool) (sh : Shape) (turns : ℕ) (s : List ℕ) (t : List Worker) (last made : ℕ) → Dealable whole sh (lent s t) last → made < turns
-    → Touring whole sh turns (started_at sh last made) s t
-fresh whole sh turns s t last made D more = record {
+fresh : (a : Ask) (s : List ℕ) (t : List Worker) (last made : ℕ) → Dealable (is_whole a.look) a.shape (lent s t) last → made < a.turns
+    → Touring (started_at a last made) s t
+fresh a s t last made D more = record {
   able = D;
   more = more;
-  inside = after_below sh last D.lent.limits.some_worker;
+  inside = after_below a.shape last D.lent.limits.some_worker;
   some = D.lent.limits.some_worker;
   few = omega arith;
-  next = sym (next_of sh t last sh.workers D.lent.limits.some_worker);
+  next = sym (next_of a.shape t last a.shape.workers D.lent.limits.some_worker);
 }
 
-module _ (whole : Bool) (sh : Shape) (turns : ℕ) (r : Run) (s : List ℕ) (t : List Worker) (on : r.going ≡ true) (T : Touring whole sh turns r s t) where
+module _ (r : Going) (s : List ℕ) (t : List Worker) (T : Touring r s t) where
+  abbrev whole : Bool
+  whole = is_whole r.ask.look
+
+  abbrev sh : Shape
+  sh = r.ask.shape
+
+  abbrev turns : ℕ
+  turns = r.ask.turns
+
   abbrev w : Worker
   w = worker t r.at
 
   abbrev goal : Deal
-  goal = wanted whole sh turns r s t
+  goal = wanted (Continue r) s t
 
   round : Round whole sh turns goal s t r.last r.made
   unfolding wanted
-  round = record { able = T.able; more = T.more; same = rw on }
+  round = record { able = T.able; more = T.more; same = refl }
 
-  -- what is left, by whether the run goes on
-  ends_less : (x : Run) → x.going ≡ false → todo sh turns x < todo sh turns r
+  ends_less : (e : Ended) → todo (Break e) < todo (Continue r)
   unfolding todo
-  ends_less x e = rw (e, on) (omega arith)
+  ends_less e = omega arith
 
   -- where the run ends with what it wants
-  ends : (x : Run) (s' : List ℕ) (u : Worker) → x.going ≡ false → leaves_deal s' (set t r.at u) x ≡ goal → length s' ≡ length s
-      → Moved whole sh turns r s t (record { run = x; worker = u; store = s' })
-  ends x s' u e is long = record {
-    sound = λ up. never (sym e ∙ up);
-    same = wanted_ended whole sh turns x s' (set t r.at u) e ∙ is;
-    less = ends_less x e;
+  ends : (e : Ended) (s' : List ℕ) (u : Worker) → leaves_deal s' (set t r.at u) e ≡ goal → length s' ≡ length s
+      → Moved r s t (record { run = Break e; worker = u; store = s' })
+  ends e s' u is long = record {
+    sound = tt;
+    same = wanted_ended e s' (set t r.at u) ∙ is;
+    less = ends_less e;
     long = long;
   }
 
@@ -98,29 +109,29 @@ module _ (whole : Bool) (sh : Shape) (turns : ℕ) (r : Run) (s : List ℕ) (t :
     onward : first_busy_of sh t (r.rest - 1) r.at ≡ next_served sh t r.last
     onward = sym (ap (λ (b : Bool). cond b r.at (first_busy_of sh t (r.rest - 1) r.at)) idle) ∙ T.next
 
-    over : eqb r.rest 1 ≡ true → Moved whole sh turns r s t (record { run = stopped_by (Refused 16) r; worker = w; store = s })
+    over : eqb r.rest 1 ≡ true → Moved r s t (record { run = Break (stopped_by (Refused 16) r); worker = w; store = s })
     over e =
         let z : r.rest - 1 ≡ 0 = omega (arith, eqb-true r.rest 1 e) in
-        ends (stopped_by (Refused 16) r) s w refl
+        ends (stopped_by (Refused 16) r) s w
         (ap (λ (u : List Worker). leaves_deal s u (stopped_by (Refused 16) r)) as_it_was
         ∙ none_in_progress round (next_served sh t r.last) refl (sym onward ∙ none_of sh t r.at (r.rest - 1) z)) refl
 
-    abbrev ahead : Run
-    ahead = record { going = true; at = worker_after sh r.at; rest = r.rest - 1; last = r.last; made = r.made; response = r.response }
+    abbrev ahead : Going
+    ahead = record { ask = r.ask; at = worker_after sh r.at; rest = r.rest - 1; last = r.last; made = r.made }
 
-    ahead_less : todo sh turns ahead < todo sh turns r
+    ahead_less : todo (Continue ahead) < todo (Continue r)
     unfolding todo
-    ahead_less = rw on (omega (arith, T.some))
+    ahead_less = omega (arith, T.some)
 
-    ahead_same : wanted whole sh turns ahead s t ≡ wanted whole sh turns r s t
+    ahead_same : wanted (Continue ahead) s t ≡ wanted (Continue r) s t
     unfolding wanted
-    ahead_same = rw on
+    ahead_same = refl
 
-    beyond : eqb r.rest 1 ≡ false → Moved whole sh turns r s t (record { run = ahead; worker = w; store = s })
+    beyond : eqb r.rest 1 ≡ false → Moved r s t (record { run = Continue ahead; worker = w; store = s })
     beyond e =
         let more : 0 < r.rest - 1 = omega (arith, T.some, eqb-false r.rest 1 e) in
         record {
-          sound = λ up. subst (λ (u : List Worker). Touring whole sh turns ahead s u) (sym as_it_was) (record {
+          sound = subst (λ (u : List Worker). Touring ahead s u) (sym as_it_was) (record {
             able = T.able;
             more = T.more;
             inside = after_below sh r.at T.able.lent.limits.some_worker;
@@ -128,14 +139,14 @@ module _ (whole : Bool) (sh : Shape) (turns : ℕ) (r : Run) (s : List ℕ) (t :
             few = omega (arith, T.few);
             next = sym (next_of sh t r.at (r.rest - 1) more) ∙ onward;
           });
-          same = ap (λ (u : List Worker). wanted whole sh turns ahead s u) as_it_was ∙ ahead_same;
+          same = ap (λ (u : List Worker). wanted (Continue ahead) s u) as_it_was ∙ ahead_same;
           less = ahead_less;
           long = refl;
         }
 
-    moves_idle : Moved whole sh turns r s t (record { run = passed_by sh r; worker = w; store = s })
+    moves_idle : Moved r s t (record { run = passed_by r; worker = w; store = s })
     unfolding passed_by
-    moves_idle = by_test (λ (x : Run). Moved whole sh turns r s t (record { run = x; worker = w; store = s })) (eqb r.rest 1) over beyond
+    moves_idle = by_test (λ (x : Run). Moved r s t (record { run = x; worker = w; store = s })) (eqb r.rest 1) over beyond
 
   -- it has one
   module _ (busy : in_progress w ≡ true) where
@@ -148,9 +159,9 @@ module _ (whole : Bool) (sh : Shape) (turns : ℕ) (r : Run) (s : List ℕ) (t :
     abbrev may : Bool
     may = whole || record_in_range sh w
 
-    moves_refused : may ≡ false → Moved whole sh turns r s t (record { run = stopped_by (Refused 3) r; worker = w; store = s })
+    moves_refused : may ≡ false → Moved r s t (record { run = Break (stopped_by (Refused 3) r); worker = w; store = s })
     moves_refused e =
-        ends (stopped_by (Refused 3) r) s w refl
+        ends (stopped_by (Refused 3) r) s w
         (ap (λ (u : List Worker). leaves_deal s u (stopped_by (Refused 3) r)) as_it_was
         ∙ refused_record round r.at is exists w refl may refl e) refl
 
@@ -165,27 +176,27 @@ module _ (whole : Bool) (sh : Shape) (turns : ℕ) (r : Run) (s : List ℕ) (t :
         abbrev did : gives d.store reply ≡ local_step sh s w
         did = d-is
 
-        abbrev after : Run
-        after = started_at sh r.at (r.made + 1)
+        abbrev after : Going
+        after = started_at r.ask r.at (r.made + 1)
 
         long : length d.store ≡ length s
         long = sym (as_long round r.at is exists w refl may refl passed d.store reply did)
 
         abbrev At : Run → Type 0
-        At x = Moved whole sh turns r s t (record { run = x; worker = d.worker; store = d.store })
+        At x = Moved r s t (record { run = x; worker = d.worker; store = d.store })
 
         abbrev last_one : Bool
         last_one = eqb (r.made + 1) turns || not (goes_on d.response)
 
-        ends_there : last_one ≡ true → At (stopped_by d.response after)
+        ends_there : last_one ≡ true → At (Break (stopped_by d.response after))
         ends_there e =
-            ends (stopped_by d.response after) d.store d.worker refl
+            ends (stopped_by d.response after) d.store d.worker
             (last_turn round r.at is exists w refl may refl passed d.store reply did (goes_on d.response) refl e) long
 
         module _ (not_last : last_one ≡ false) where
-          leaks_there : leaks_of whole sh s w ≡ true → At (stopped_by (Refused 3) after)
+          leaks_there : leaks_of whole sh s w ≡ true → At (Break (stopped_by (Refused 3) after))
           leaks_there e =
-              ends (stopped_by (Refused 3) after) d.store d.worker refl
+              ends (stopped_by (Refused 3) after) d.store d.worker
               (past_leak round r.at is exists w refl may refl passed d.store reply did (goes_on d.response) refl not_last
               (leaks_of whole sh s w) refl e) long
 
@@ -195,30 +206,30 @@ module _ (whole : Bool) (sh : Shape) (turns : ℕ) (r : Run) (s : List ℕ) (t :
                 next_round_lem round r.at is exists w refl may refl passed d.store reply did (goes_on d.response) refl not_last
                 (leaks_of whole sh s w) refl tight
 
-            follows_same : wanted whole sh turns after d.store (set t r.at d.worker) ≡ goal
+            follows_same : wanted (Continue after) d.store (set t r.at d.worker) ≡ goal
             unfolding wanted
             follows_same = follows.same
 
-            follows_less : todo sh turns after < todo sh turns r
+            follows_less : todo (Continue after) < todo (Continue r)
             unfolding todo
             follows_less =
                 let e : turns - r.made ≡ suc (turns - (r.made + 1)) = omega (arith, T.more) in
-                rw (on, e, suc-mul (turns - (r.made + 1)) (suc sh.workers)) (omega (arith, T.some))
+                rw (e, suc-mul (turns - (r.made + 1)) (suc sh.workers)) (omega (arith, T.some))
 
-            goes_there : At after
+            goes_there : At (Continue after)
             goes_there = record {
-              sound = λ up. fresh whole sh turns d.store (set t r.at d.worker) r.at (r.made + 1) follows.able follows.more;
+              sound = fresh r.ask d.store (set t r.at d.worker) r.at (r.made + 1) follows.able follows.more;
               same = follows_same;
               less = follows_less;
               long = long;
             }
 
-        moves_served : Moved whole sh turns r s t (served whole sh turns r s w d)
+        moves_served : Moved r s t (served r s w d)
         unfolding moved_on
         moves_served =
             by_test At last_one ends_there (λ e. by_test At (leaks_of whole sh s w) (leaks_there e) (goes_there e))
 
-  pub visitable : Visitable whole sh turns r s (worker t r.at)
+  pub visitable : Visitable r s (worker t r.at)
   visitable = record {
     shape = shape_tests sh T.able.lent.limits;
     inside = T.inside;
@@ -227,52 +238,54 @@ module _ (whole : Bool) (sh : Shape) (turns : ℕ) (r : Run) (s : List ℕ) (t :
     ready = ready;
   }
 
-  pub moves : Moved whole sh turns r s t (visited whole sh turns r s (worker t r.at))
+  pub moves : Moved r s t (visited r s (worker t r.at))
   unfolding visited
   moves =
-      by_test (Moved whole sh turns r s t) (in_progress w)
-      (λ busy. by_test (Moved whole sh turns r s t) (whole || record_in_range sh w) (λ passed. moves_served busy passed (local_step sh s w) refl)
+      by_test (Moved r s t) (in_progress w)
+      (λ busy. by_test (Moved r s t) (whole || record_in_range sh w) (λ passed. moves_served busy passed (local_step sh s w) refl)
       (moves_refused busy))
       moves_idle
 
 -- ── the run that has just begun ──
-module _ (whole : Bool) (sh : Shape) (dealer turns : ℕ) (s : List ℕ) (t : List Worker) where
-  abbrev start : Run
-  start = begun whole sh dealer turns s (length t) (ok_of whole sh t)
+module _ (a : Ask) (s : List ℕ) (t : List Worker) where
+  abbrev whole_of : Bool
+  whole_of = is_whole a.look
 
   abbrev k : ℕ
-  k = gate_of sh (length s) (length t) dealer (flag_of whole sh s (length t) (ok_of whole sh t))
+  k = gate_of a.shape (length s) (length t) a.dealer (flag_of whole_of a.shape s (length t) (ok_of whole_of a.shape t))
 
   -- a run is sound, and wants the whole of it
   abbrev Good : Run → Type 0
-  Good r = Sound whole sh turns r s t × (wanted whole sh turns r s t ≡ dealt_run whole sh turns (lent s t) dealer)
+  Good r = Sound r s t × (wanted r s t ≡ dealt_run whole_of a.shape a.turns (lent s t) a.dealer)
 
-  none_asked : eqb turns 0 ≡ true → Good (unbegun dealer)
+  none_asked : eqb a.turns 0 ≡ true → Good (Break (unbegun On a.dealer))
   unfolding wanted
-  none_asked e = (λ up. never up, none_dealt whole sh turns (lent s t) dealer (eqb-true turns 0 e))
+  none_asked e = (tt, none_dealt whole_of a.shape a.turns (lent s t) a.dealer (eqb-true a.turns 0 e))
 
-  module _ (some : eqb turns 0 ≡ false) where
-    refused : eqb k 0 ≡ false → Good (stopped_by (Refused k) (unbegun dealer))
+  module _ (some : eqb a.turns 0 ≡ false) where
+    refused : eqb k 0 ≡ false → Good (Break (unbegun (Refused k) a.dealer))
     unfolding wanted
     refused e = (
-      λ up. never up,
-      away whole sh (lent s t) dealer 0 turns k (eqb-false turns 0 some) (away_at_first sh s t dealer whole k refl (eqb-false k 0 e)),
+      tt,
+      away whole_of a.shape (lent s t) a.dealer 0 a.turns k (eqb-false a.turns 0 some)
+          (away_at_first a.shape s t a.dealer whole_of k refl (eqb-false k 0 e)),
     )
 
-    begins : eqb k 0 ≡ true → Good (started_at sh dealer 0)
+    begins : eqb k 0 ≡ true → Good (Continue (started_at a a.dealer 0))
     unfolding wanted
     begins e =
-        let n : turns - 0 ≡ turns = omega arith in (
-          λ up. fresh whole sh turns s t dealer 0 (passed_by_lem sh s t dealer whole (eqb-true k 0 e)) (omega (arith, eqb-false turns 0 some)),
-          ap (λ (j : ℕ). dealt_on whole sh j (running (lent s t) dealer 0)) n,
+        let n : a.turns - 0 ≡ a.turns = omega arith in (
+          fresh a s t a.dealer 0 (passed_by_lem a.shape s t a.dealer whole_of (eqb-true k 0 e)) (omega (arith, eqb-false a.turns 0 some)),
+          ap (λ (j : ℕ). dealt_on whole_of a.shape j (running (lent s t) a.dealer 0)) n,
         )
 
-  good : Good start
+  good : Good (begun a s (length t) (ok_of whole_of a.shape t))
   unfolding begun
-  good = by_test Good (eqb turns 0) none_asked (λ some. by_test Good (eqb k 0) (begins some) (refused some))
+  good = by_test Good (eqb a.turns 0) none_asked (λ some. by_test Good (eqb k 0) (begins some) (refused some))
 
-  pub sound_start : Sound whole sh turns (begun whole sh dealer turns s (length t) (ok_of whole sh t)) s t
+  pub sound_start : Sound (begun a s (length t) (ok_of (is_whole a.look) a.shape t)) s t
   sound_start = good.0
 
-  pub wanted_start : wanted whole sh turns (begun whole sh dealer turns s (length t) (ok_of whole sh t)) s t ≡ dealt_run whole sh turns (lent s t) dealer
+  pub wanted_start : wanted (begun a s (length t) (ok_of (is_whole a.look) a.shape t)) s t
+      ≡ dealt_run (is_whole a.look) a.shape a.turns (lent s t) a.dealer
   wanted_start = good.1

@@ -1,5 +1,5 @@
--- What dealing hands back: to the host in numbers, and between functions as a run.
---     dealt_of                         of a run, in numbers
+-- What dealing hands back: to the host in numbers, and between functions as a run that has ended.
+--     dealt_of                         of a run that has ended, in numbers
 --     leaves_deal                      memory and what a run has, as a `Deal`
 --     Handed, hands, handed           the same in numbers: of what the code left, and of a `Deal`
 -- Assumes nothing.
@@ -8,14 +8,14 @@ use Rattle.wubraken.specs.Answers.{answer_of}
 use Rattle.wubraken.specs.Results.{lent, Told, leaves, told}
 use Rattle.arrival.specs.declared.Worker.{Worker}
 use Rattle.dealer.specs.declared.answers.Dealt.{Dealt}
-use Rattle.dealer.specs.declared.runs.Run.{Run}
+use Rattle.dealer.specs.declared.runs.Ended.{Ended}
 use Rattle.dealer.specs.Dealing.{Deal}
 
-abbrev pub dealt_of : Run → Dealt
+abbrev pub dealt_of : Ended → Dealt
 dealt_of r = record { dealer = r.last; turns = r.made; answer = answer_of r.response }
 
 -- store and table, and what the run has
-abbrev pub leaves_deal : List ℕ → List Worker → Run → Deal
+abbrev pub leaves_deal : List ℕ → List Worker → Ended → Deal
 leaves_deal s t r = record { memory = lent s t; dealer = r.last; turns = r.made; response = r.response }
 
 -- memory and answer, with the number and the values that it says; the dealer and the turns

@@ -13,5 +13,6 @@ pub mod Answered
 pub mod Dealable
 pub mod DealLoop
 pub mod DealRound
+pub mod Looks
 pub mod Runs
 pub mod Tour

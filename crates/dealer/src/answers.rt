@@ -2,8 +2,8 @@
 ghost use Rattle.std.specs.Prelude.{◌≡◌};
 ghost use Rattle.dealer.specs.Answered.{dealt_of};
 
-use super::runs::Run;
-use wubraken::answers::{Answer, answer_of};
+use super::runs::Ended;
+use wubraken::answers::Answer;
 
 // The worker served last, how many turns were dealt, and the answer.
 #[repr(C)]
@@ -14,14 +14,14 @@ pub struct Dealt {
     pub answer: Answer,
 }
 
-pub fn dealt_of(run: Run) -> Dealt
-    ensures { result ≡ dealt_of run }
-{
-    let response = run.response;
-    let answer = answer_of(response);
-    Dealt {
-        dealer: run.last,
-        turns: run.made,
-        answer,
+impl From<Ended> for Dealt {
+    ghost from_gives = { λ ended dealt. dealt ≡ dealt_of ended };
+
+    fn from(ended: Ended) -> Dealt {
+        Dealt {
+            dealer: ended.last,
+            turns: ended.made,
+            answer: Answer::from(ended.response),
+        }
     }
 }

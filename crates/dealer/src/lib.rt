@@ -6,9 +6,9 @@ ghost use Rattle.wubraken.specs.Results.{lent};
 ghost use Rattle.dealer.specs.Dealing.{new_dealer, dealt, dealt_run};
 ghost use Rattle.dealer.specs.Answered.{hands, handed};
 
-use answers::{Dealt, dealt_of};
+use answers::Dealt;
 use arrival::{Shape, Worker};
-use asks::{narrow_run, one_turn, whole_run};
+use asks::{Ask, Look};
 use turns::deal_lent;
 
 pub mod answers;
@@ -21,10 +21,7 @@ pub mod visits;
 pub fn wubraken_new_dealer(shape: Shape) -> u64
     ensures { result ≡ new_dealer shape }
 {
-    if shape.workers == 0 {
-        return 0;
-    }
-    shape.workers - 1
+    shape.workers.saturating_sub(1)
 }
 
 // One dealt turn, by a look at the whole of the lent memory.
@@ -32,7 +29,13 @@ pub fn wubraken_deal(shape: Shape, dealer: u64, store: &mut [u64], table: &mut [
     ensures { hands store.new table.new result ≡ handed (dealt true shape (lent store.old table.old)
         dealer) }
 {
-    dealt_of(deal_lent(shape, one_turn(dealer), store, table))
+    let ask = Ask {
+        shape,
+        look: Look::Whole,
+        dealer,
+        turns: 1,
+    };
+    Dealt::from(deal_lent(ask, store, table))
 }
 
 // At most so many dealt turns, until a call is answered or a turn is refused. The lent memory is looked at once, and not for every turn.
@@ -46,7 +49,13 @@ pub fn wubraken_deal_run(
     ensures { hands store.new table.new result ≡ handed (dealt_run true shape turns (lent store.old
         table.old) dealer) }
 {
-    dealt_of(deal_lent(shape, whole_run(dealer, turns), store, table))
+    let ask = Ask {
+        shape,
+        look: Look::Whole,
+        dealer,
+        turns,
+    };
+    Dealt::from(deal_lent(ask, store, table))
 }
 
 // The same by narrow turns, each of which looks only at what it needs.
@@ -60,5 +69,11 @@ pub fn wubraken_narrow_deal(
     ensures { hands store.new table.new result ≡ handed (dealt_run false shape turns (lent store.old
         table.old) dealer) }
 {
-    dealt_of(deal_lent(shape, narrow_run(dealer, turns), store, table))
+    let ask = Ask {
+        shape,
+        look: Look::Narrow,
+        dealer,
+        turns,
+    };
+    Dealt::from(deal_lent(ask, store, table))
 }

@@ -1,45 +1,41 @@
-// Turns dealt one after the other, over a lent table of records: each candidate's record is copied out, worked on by value, and stored back.
-ghost use Rattle.std.specs.Prelude.{◌≡◌, true, cond, not, ◌||◌};
+// Turns dealt one after the other, over a lent table of records.
+ghost use Rattle.std.specs.Prelude.{◌≡◌};
 ghost use Rattle.wubraken.specs.Results.{lent};
 ghost use Rattle.dealer.specs.Dealing.{dealt_run};
+ghost use Rattle.dealer.specs.Looks.{is_whole};
 ghost use Rattle.dealer.specs.Answered.{leaves_deal};
 ghost use Rattle.dealer.specs.Tour.{Sound, wanted};
 
 use super::asks::Ask;
-use super::runs::{Run, begin, look_of};
-use super::visits::look_at;
-use arrival::{Shape, Worker};
+use super::runs::{Ended, Going};
+use arrival::Worker;
+use std::ops::ControlFlow;
 use wubraken::table::survey_table;
 
 // From candidate to candidate, as long as the run goes on.
 pub fn deal_turns(
-    shape: Shape,
-    whole: bool,
-    turns: u64,
-    start: Run,
+    start: ControlFlow<Ended, Going>,
     store: &mut [u64],
     table: &mut [Worker],
-) -> Run
-    requires { Sound whole shape turns start store.old table.old }
-    ensures { leaves_deal store.new table.new result ≡ wanted whole shape turns start store.old table.old }
+) -> Ended
+    requires { Sound start store.old table.old }
+    ensures { leaves_deal store.new table.new result ≡ wanted start store.old table.old }
 {
     let mut run = start;
-    while run.going {
-        let w = table[run.at];
-        let v = look_at(shape, whole, turns, run, w, store);
-        table[run.at] = v.worker;
-        run = v.run;
+    loop {
+        match run {
+            ControlFlow::Break(ended) => return ended,
+            ControlFlow::Continue(going) => run = going.look_at(&mut table[going.at], store),
+        }
     }
-    run
 }
 
 // At most so many dealt turns as are asked for, over whatever is lent.
-pub fn deal_lent(shape: Shape, ask: Ask, store: &mut [u64], table: &mut [Worker]) -> Run
+pub fn deal_lent(ask: Ask, store: &mut [u64], table: &mut [Worker]) -> Ended
     ensures { leaves_deal store.new table.new result
-        ≡ dealt_run ask.whole shape ask.turns (lent store.old table.old) ask.dealer }
+        ≡ dealt_run (is_whole ask.look) ask.shape ask.turns (lent store.old table.old) ask.dealer }
 {
-    let n = table.len();
-    let seen = survey_table(shape, look_of(ask), table);
-    let start = begin(shape, ask, n, seen, store);
-    deal_turns(shape, ask.whole, ask.turns, start, store, table)
+    let low = survey_table(ask.shape, ask.request(), table);
+    let start = ask.begin(table.len(), low, store);
+    deal_turns(start, store, table)
 }

@@ -1,7 +1,7 @@
 -- `wubraken_deal`: a run of one turn is a dealt turn. Assumes nothing.
 use Rattle.std.proofs.Common.{◌∙◌, true}
 use Rattle.wubraken.specs.Results.{lent}
-use Rattle.dealer.specs.Dealing.{dealt, dealt_run}
+use Rattle.dealer.specs.Dealing.{dealt}
 use Rattle.dealer.proofs.DealtRuns.{one_turn}
 use Rattle.dealer.proofs.Answered.{handed_is}
 use Rattle.dealer.proofs.wubraken_deal.Goals as goal
@@ -10,8 +10,6 @@ pub returns : goal.returns
 returns c =
     let a = c.args in
     let m = lent a.store.now a.table.now in
-    let x = c.one_turn in
     let d = c.deal_lent in
-    handed_is d.new.store d.new.table d.result c.dealt_of.result (dealt true a.shape m a.dealer)
-    (d.ensures ∙ (λ j. dealt_run (x.ensures j).whole a.shape (x.ensures j).turns m (x.ensures j).dealer) ∙ one_turn true a.shape m a.dealer)
-    c.dealt_of.ensures
+    handed_is d.new.store d.new.table d.result c.from.result (dealt true a.shape m a.dealer) (d.ensures ∙ one_turn true a.shape m a.dealer)
+    c.from.ensures
