@@ -16,7 +16,7 @@ overflow_add-sum c =
     let fit = parts_fit row c.min-at.result few (λ i. (c.type_inv.row i).fits) in
     record { fits = omega (arith, c.sum_of.ensures, c.sum_of-rest.ensures) }
 
-pub returns-then-sum-gt-MOST : goal.returns-then-MOST-sum
+pub returns-then-sum-gt-MOST : goal.returns-then-sum-gt-MOST
 returns-then-sum-gt-MOST c =
     let row = c.args.row.now in
     total_large row c.args.slot (sym c.slots_outside.ensures ∙ c.if-slots_outside.false)
