@@ -5,6 +5,9 @@ ghost use Rattle.decay.specs.Totals.{total_of};
 use crate::refusal::DecayRefusal;
 use echogram::row::{slots_outside, sum_of};
 
+// 2^32 - 1: no sum above it is measured.
+const MOST: u64 = 4294967295;
+
 #[derive(Clone, Copy)]
 pub struct Total {
     pub sum: u64,
@@ -21,7 +24,7 @@ pub fn total_of(row: &[u32], slot: usize) -> Result<Total, DecayRefusal>
     let at = slot.min(row.len());
     let rest = sum_of(&row[at..]);
     let sum = sum_of(&row[..at]) + rest;
-    if 4294967295 < sum {
+    if MOST < sum {
         return Err(DecayRefusal::SumTooLarge);
     }
     if sum == 0 {

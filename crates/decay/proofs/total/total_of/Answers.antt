@@ -16,8 +16,8 @@ overflow_add-sum c =
     let fit = parts_fit row c.min-at.result few (λ i. (c.type_inv.row i).fits) in
     record { fits = omega (arith, c.sum_of.ensures, c.sum_of-rest.ensures) }
 
-pub returns-then-sum-gt4294967295 : goal.returns-then-sum-gt4294967295
-returns-then-sum-gt4294967295 c =
+pub returns-then-sum-gt-MOST : goal.returns-then-sum-gt-MOST
+returns-then-sum-gt-MOST c =
     let row = c.args.row.now in
     total_large row c.args.slot (sym c.slots_outside.ensures ∙ c.if-slots_outside.false)
     (omega (arith, c.sum_of.ensures, c.sum_of-rest.ensures, parts_add row c.min-at.result))
@@ -34,7 +34,7 @@ returns c =
     let row = c.args.row.now in
     let limits = sym c.slots_outside.ensures ∙ c.if-slots_outside.false in
     let sum = c.sum_of.result + c.sum_of-rest.result in
-    let none : sum_refusal sum ≡ 0 = rw (le-ltb most sum c.if-sum-gt4294967295.false, ne_eqb sum 0 c.if-sum-eq0.false) in
+    let none : sum_refusal sum ≡ 0 = rw (le-ltb most sum c.if-sum-gt-MOST.false, ne_eqb sum 0 c.if-sum-eq0.false) in
     let whole : sum ≡ sum_of row = omega (arith, c.sum_of.ensures, c.sum_of-rest.ensures, parts_add row c.min-at.result) in
     let cut = c.min-at.ensures ∙ cut_is c.args.slot (length row) in
     total_is row c.args.slot sum c.sum_of-rest.result limits none whole (c.sum_of-rest.ensures ∙ part_left row c.args.slot c.min-at.result cut)
