@@ -59,18 +59,22 @@ pub fn perform_turns(
     ensures gives { left store.new result ≡ local_turns store.old.shape turns (local_act store.old.shape low store.old.words.now action w) }
 {
     let step = Action::Step(action.worker());
-    let mut reply = Reply::of(w, perform(low, action, w, store));
-    for _ in 0..turns {
-        if !goes_on(reply.response) {
-            break;
+    let mut next = action;
+    let mut w = w;
+    let mut left = turns;
+    // Kept: one call of `perform`, so no `for` behind a first one: from two places it is not compiled in (DECISIONS, C10).
+    loop {
+        let reply = Reply::of(w, perform(low, next, w, store));
+        if (left == 0) | !goes_on(reply.response) {
+            return reply;
         }
-        let w = reply.worker;
+        w = reply.worker;
         if !links_in_range(store.shape, w) {
             return Reply::refused(w, Refusal::OutOfRange);
         }
-        reply = Reply::of(w, perform(low, step, w, store));
+        next = step;
+        left -= 1;
     }
-    reply
 }
 
 // Opens the store for a shape, unless the opening is refused.
