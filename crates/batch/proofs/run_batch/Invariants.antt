@@ -1,0 +1,16 @@
+-- Before each round the rest of the batch is as it was.
+use Rattle.std.proofs.Common.{◌≡◌, ◌-◌, length}
+use Rattle.batch.specs.BatchLoop.{Going}
+use Rattle.batch.specs.CodeView.{Sound, begins}
+use Rattle.batch.proofs.run_batch.Given as goal
+
+abbrev pub invariant-loop-at : goal.invariant-loop-at
+invariant-loop-at l = record {
+  going : Going l.input (begins l.initial.work.pool l.initial.store l.initial.at l.initial.out l.initial.to) l.initial.work.pool.held
+      (begins l.work.pool l.store l.at l.out l.to) l.work.pool.held l.work.pool.sound;
+  sound : Sound l.work.pool l.store;
+  records : l.work.pool.records ≡ l.initial.work.pool.records;
+}
+
+abbrev pub decreases-loop-at : goal.decreases-loop-at
+decreases-loop-at l = length l.input - l.at

@@ -1,0 +1,45 @@
+-- An opening is a record of the file: refused, or done to records and tickets.
+use Rattle.std.proofs.Common.{◌≡◌, ◌++◌, replicate, drop, sym, ap, ◌∙◌, ℕ, List, cond, eqb, rules, ne_eqb, eq-eqb}
+use Rattle.std.proofs.Math.Path.{subst⁻¹}
+use Rattle.calendar.specs.rules.Opening.{open_store}
+use Rattle.turn_file.specs.Records.{opens}
+use Rattle.arrival.specs.declared.Response.TheVariants.{Refused}
+use Rattle.batch.specs.Tickets.{tickets_of}
+use Rattle.batch.specs.OneRecord.{Does}
+use Rattle.batch.proofs.OneRecord.{small_shape, refused_open, did_open}
+use Rattle.batch.proofs.TicketLaws.{tickets_cleared, greater_max}
+use Rattle.batch.proofs.ticketed.TicketedPool.open.Goals as goal
+
+pub returns-then-k-ne0 : goal.returns-then-k-ne0
+returns-then-k-ne0 c =
+    let a = c.args in
+    let k = c.open_lent-k in
+    let none = ne_eqb k.result 0 c.if-k-ne0.true in
+    let same = k.ensures.1 ∙ ap (λ (m : ℕ). cond (eqb m 0) (open_store a.shape a.store.now) a.store.now) (sym k.ensures.0) ∙ rw none in
+    subst⁻¹ (λ (s : List ℕ). Does (opens a.shape) a.self.now.pool a.store.now (Refused k.result) a.self.now.pool s) same
+    (refused_open a.self.now.pool a.store.now c.requires a.shape k.result k.ensures.0 c.if-k-ne0.true)
+
+pub clear-requires : goal.clear-requires
+clear-requires c = small_shape c.args.self.now.pool c.args.store.now c.requires _ _ c.open_lent-k.ensures.0 c.if-k-ne0.false
+
+pub clear-requires-2 : goal.clear-requires-2
+clear-requires-2 c = small_shape c.args.self.now.pool c.args.store.now c.requires _ _ c.open_lent-k.ensures.0 c.if-k-ne0.false
+
+pub invariant_of-self : goal.invariant_of-self
+invariant_of-self c =
+    let d = c.args.self.now in
+    record {
+      beside = c.clear-2.ensures
+          ∙ ap (λ (ts : List ℕ). replicate c.args.shape.workers 4294967296 ++ drop c.args.shape.workers ts) d.beside
+          ∙ sym (tickets_cleared d.pool.table c.args.shape.workers)
+          ∙ ap tickets_of (sym c.clear.ensures);
+    }
+
+pub returns : goal.returns
+returns c =
+    let a = c.args in
+    let k = c.open_lent-k in
+    let all = eq-eqb k.result 0 c.if-k-ne0.false in
+    let opens = k.ensures.1 ∙ ap (λ (m : ℕ). cond (eqb m 0) (open_store a.shape a.store.now) a.store.now) (sym k.ensures.0) ∙ rw all in
+    did_open a.self.now.pool a.store.now c.requires a.shape _ k.ensures.0 c.if-k-ne0.false _ opens _ c.clear.ensures _
+    (c.max-self.ensures ∙ greater_max a.self.now.pool.held a.shape.workers)
