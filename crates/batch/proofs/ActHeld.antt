@@ -16,8 +16,8 @@ use Rattle.words.specs.declared.replies.Reply.{Reply}
 use Rattle.words.specs.Done.{Done, gives, refused}
 use Rattle.operation.specs.LocalAct.{local_act, Admitted}
 use Rattle.admission.specs.Gate.{gate_of}
-use Rattle.turn_file.specs.declared.Read.TheVariants.{Act}
-use Rattle.turn_file.specs.Reading.{record_at}
+use Rattle.turn_file.specs.declared.Record.TheVariants.{Act}
+use Rattle.turn_file.specs.Reading.{record_at, whole}
 use Rattle.batch.specs.Batch.{Progress}
 use Rattle.operation.specs.Leaks.{action_leaks}
 use Rattle.batch.specs.Tickets.{tickets_of, low_for}
@@ -49,7 +49,7 @@ module _ {bytes : List ℕ} {p₀ : Progress} {h₀ records space : ℕ} {sh : S
     pub admits : k ≡ 0 → Admitted sh s (worker t j)
     admits z = subst⁻¹ (λ (x : ℕ). Admitted sh s (worker t x)) (at_place z) (let_in R (actor a) k gates z)
 
-    module _ (fits : leb (to + 89) space ≡ true) (next : ℕ) (e : Act a next ≡ record_at bytes at) (ts : List ℕ) (is : ts ≡ tickets_of t) (s' : List ℕ)
+    module _ (fits : leb (to + 89) space ≡ true) (next : ℕ) (e : whole (Act a) next ≡ record_at bytes at) (ts : List ℕ) (is : ts ≡ tickets_of t) (s' : List ℕ)
         (r : Reply) (lines' : List ℕ) (to' : ℕ) (line : Line lines to r.response lines' to') where
       -- refused, and all stays
       away : k ≢ 0 → gives s' r ≡ refused s (worker t j) k → Round bytes p₀ h₀ (length s) records space sh s' (set t j r.worker) next lines' to' sound h

@@ -4,17 +4,16 @@
 --     drained, halted, full          what is left at the three ends
 --     room_from                      the test for room, as the code has it
 -- Assumes nothing.
-use Rattle.std.specs.Prelude.{◌≡◌, List, Bool, true, false, leb}
+use Rattle.std.specs.Prelude.{◌≡◌, List, Bool, true, false, leb, Some, None, Ok, Err}
 use Rattle.std.proofs.Math.Path.{refl, ap}
 use Rattle.std.proofs.Common.{sym, ◌∙◌, arith, leb-true, leb-false, le-leb}
 use Rattle.std.proofs.Math.Bool.{cond}
 use Prim.Native.Nat.{ℕ, zero, suc, ◌+◌, ◌-◌, ◌≤◌, ◌<◌}
 use Rattle.std.proofs.Math.ListN.{length}
 use Rattle.std.proofs.lemmas.Bool.{lt-leb}
-use Rattle.turn_file.specs.declared.Read.{Read}
-use Rattle.turn_file.specs.declared.Read.TheVariants.{Open, Act, End, Refused}
-use Rattle.turn_file.specs.Records.{Record, opens, acts}
-use Rattle.turn_file.specs.Reading.{record_at, whole}
+use Rattle.turn_file.specs.declared.Record.{Record}
+use Rattle.turn_file.specs.declared.Unreadable.{Unreadable}
+use Rattle.turn_file.specs.Reading.{Reading, record_at, whole}
 use Rattle.turn_file.proofs.OneReading.{read_on}
 use Rattle.batch.specs.declared.Stop.TheVariants.{Drained, Full, Halted}
 use Rattle.batch.specs.Held.{held_after, held, held_all}
@@ -32,20 +31,16 @@ module _ (bytes : List ℕ) where
   worked_enough (suc n) zero p h k = absurd (omega arith)
   worked_enough (suc n) (suc m) p h k = go (λ q l r. worked_enough n m q l r) (record_at bytes p.at) refl
     where
-      go : ((q : Progress) → length bytes - q.at < n → length bytes - q.at < m → worked n bytes q ≡ worked m bytes q) → (r : Read)
+      go : ((q : Progress) → length bytes - q.at < n → length bytes - q.at < m → worked n bytes q ≡ worked m bytes q) → (r : Reading)
           → record_at bytes p.at ≡ r
           → cond (has_room p.lines p.to) (onward (worked n bytes) p r) (record { progress = p; stop = Full })
           ≡ cond (has_room p.lines p.to) (onward (worked m bytes) p r) (record { progress = p; stop = Full })
-      go rest (Open sh next) e =
-          let (on, end) = read_on bytes p.at (opens sh) next e in
+      go rest (Ok (Some (r, next))) e =
+          let (on, end) = read_on bytes p.at r next e in
           ap (λ (q : Stopped). cond (has_room p.lines p.to) q (record { progress = p; stop = Full }))
-          (rest (wrote p (opens sh) next) (omega arith) (omega arith))
-      go rest (Act a next) e =
-          let (on, end) = read_on bytes p.at (acts a) next e in
-          ap (λ (q : Stopped). cond (has_room p.lines p.to) q (record { progress = p; stop = Full }))
-          (rest (wrote p (acts a) next) (omega arith) (omega arith))
-      go rest End e = refl
-      go rest (Refused k) e = refl
+          (rest (wrote p r next) (omega arith) (omega arith))
+      go rest (Ok None) e = refl
+      go rest (Err why) e = refl
 
   pub held_enough : (n m h : ℕ) (p : Progress) → length bytes - p.at < n → length bytes - p.at < m → held n bytes h p ≡ held m bytes h p
   unfolding held
@@ -53,18 +48,14 @@ module _ (bytes : List ℕ) where
   held_enough (suc n) zero h p l k = absurd (omega arith)
   held_enough (suc n) (suc m) h p l k = go (λ i q a b. held_enough n m i q a b) (record_at bytes p.at) refl
     where
-      go : ((i : ℕ) (q : Progress) → length bytes - q.at < n → length bytes - q.at < m → held n bytes i q ≡ held m bytes i q) → (r : Read)
+      go : ((i : ℕ) (q : Progress) → length bytes - q.at < n → length bytes - q.at < m → held n bytes i q ≡ held m bytes i q) → (r : Reading)
           → record_at bytes p.at ≡ r
           → cond (has_room p.lines p.to) (held_Onward (held n bytes) h p r) h ≡ cond (has_room p.lines p.to) (held_Onward (held m bytes) h p r) h
-      go rest (Open sh next) e =
-          let (on, end) = read_on bytes p.at (opens sh) next e in
-          ap (λ (i : ℕ). cond (has_room p.lines p.to) i h) (rest (held_after (opens sh) p.pool h) (wrote p (opens sh) next) (omega arith)
-          (omega arith))
-      go rest (Act a next) e =
-          let (on, end) = read_on bytes p.at (acts a) next e in
-          ap (λ (i : ℕ). cond (has_room p.lines p.to) i h) (rest h (wrote p (acts a) next) (omega arith) (omega arith))
-      go rest End e = refl
-      go rest (Refused k) e = refl
+      go rest (Ok (Some (r, next))) e =
+          let (on, end) = read_on bytes p.at r next e in
+          ap (λ (i : ℕ). cond (has_room p.lines p.to) i h) (rest (held_after r p.pool h) (wrote p r next) (omega arith) (omega arith))
+      go rest (Ok None) e = refl
+      go rest (Err why) e = refl
 
 pub going : (bytes : List ℕ) (p : Progress) (h : ℕ) (sound : Bool) → Watched p.pool.shape p.pool.memory sound → Going bytes p h p h sound
 going bytes p h sound w = record { same = refl; holds = refl; watched = w }
@@ -73,14 +64,12 @@ module _ (bytes : List ℕ) (p₀ : Progress) (h₀ : ℕ) (p : Progress) (h : �
   worked_on : (n : ℕ) → has_room p.lines p.to ≡ true → (r : Record) (next : ℕ) → whole r next ≡ record_at bytes p.at
       → worked (suc n) bytes p ≡ worked n bytes (wrote p r next)
   unfolding worked
-  worked_on n room (opens sh) next e = rw (room, ← e)
-  worked_on n room (acts a) next e = rw (room, ← e)
+  worked_on n room r next e = rw (room, ← e)
 
   held_on_lem : (n : ℕ) → has_room p.lines p.to ≡ true → (r : Record) (next : ℕ) → whole r next ≡ record_at bytes p.at
       → held (suc n) bytes h p ≡ held n bytes (held_after r p.pool h) (wrote p r next)
   unfolding held
-  held_on_lem n room (opens sh) next e = rw (room, ← e)
-  held_on_lem n room (acts a) next e = rw (room, ← e)
+  held_on_lem n room r next e = rw (room, ← e)
 
   -- one record more
   pub go_on : has_room p.lines p.to ≡ true → (r : Record) (next : ℕ) → whole r next ≡ record_at bytes p.at
@@ -111,15 +100,15 @@ module _ (bytes : List ℕ) (p₀ : Progress) (h₀ : ℕ) (p : Progress) (h : �
       let one : suc (length bytes) ≡ length bytes + 1 = omega arith in
       (f (length bytes) ∙ ap (λ (n : ℕ). worked n bytes p) one ∙ G.same, g (length bytes) ∙ ap (λ (n : ℕ). held n bytes h p) one ∙ G.holds)
 
-  pub drained : has_room p.lines p.to ≡ true → End ≡ record_at bytes p.at
+  pub drained : has_room p.lines p.to ≡ true → Ok None ≡ record_at bytes p.at
       → (record { progress = p; stop = Drained } ≡ worked_all bytes p₀) × (h ≡ held_all bytes h₀ p₀)
   unfolding worked held
   drained room e = from _ (λ n. rw (room, ← e)) (λ n. rw (room, ← e))
 
-  pub halted : has_room p.lines p.to ≡ true → (k : ℕ) → Refused k ≡ record_at bytes p.at
-      → (record { progress = p; stop = Halted k } ≡ worked_all bytes p₀) × (h ≡ held_all bytes h₀ p₀)
+  pub halted : has_room p.lines p.to ≡ true → (why : Unreadable) → Err why ≡ record_at bytes p.at
+      → (record { progress = p; stop = Halted why } ≡ worked_all bytes p₀) × (h ≡ held_all bytes h₀ p₀)
   unfolding worked held
-  halted room k e = from _ (λ n. rw (room, ← e)) (λ n. rw (room, ← e))
+  halted room why e = from _ (λ n. rw (room, ← e)) (λ n. rw (room, ← e))
 
   pub full : has_room p.lines p.to ≡ false → (record { progress = p; stop = Full } ≡ worked_all bytes p₀) × (h ≡ held_all bytes h₀ p₀)
   unfolding worked held

@@ -11,7 +11,8 @@ use Rattle.calendar.specs.facts.AnswerRanges.{ValuesInRange}
 use Rattle.calendar.proofs.facts.AnswerRanges.{act_values, open_values}
 use Rattle.turn_file.specs.Lines.{Words}
 use Rattle.turn_file.proofs.LineLaws.{line_most}
-use Rattle.turn_file.specs.Records.{Record, opens, acts}
+use Rattle.turn_file.specs.declared.Record.{Record}
+use Rattle.turn_file.specs.declared.Record.TheVariants.{Open, Act}
 use Rattle.batch.specs.Batch.{Pool, line_for}
 
 words_of : (r : Response) → ValuesInRange r → Words r
@@ -25,6 +26,6 @@ words_of (Refused number) h = omega arith
 
 -- A RECORD'S LINE FITS
 pub line_fits : (r : Record) (x : Pool) → length (line_for r x) ≤ 89
-line_fits (opens sh) x = let r = (open_pool sh x.memory).response in line_most r (words_of r (open_values sh x.memory))
-line_fits (acts a) x =
+line_fits (Open sh) x = let r = (open_pool sh x.memory).response in line_most r (words_of r (open_values sh x.memory))
+line_fits (Act a) x =
     let r = (act x.shape x.memory a).response in line_most r (words_of r (act_values x.shape x.memory a))

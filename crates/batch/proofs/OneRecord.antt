@@ -34,7 +34,8 @@ use Rattle.admission.proofs.GateLaws.{gate_opens, open_gate_is, usable, refused_
 use Rattle.laws.specs.Storing.{over_taken}
 use Rattle.turn_file.specs.Lines.{line_of}
 use Rattle.turn_file.specs.Buffer.{written, after}
-use Rattle.turn_file.specs.Records.{Record, opens, acts}
+use Rattle.turn_file.specs.declared.Record.{Record}
+use Rattle.turn_file.specs.declared.Record.TheVariants.{Open, Act}
 use Rattle.turn_file.specs.Reading.{record_at, whole}
 use Rattle.batch.specs.declared.HeldPool.{HeldPool}
 use Rattle.batch.specs.Batch.{Progress, shape_after}
@@ -59,7 +60,7 @@ module _ (d : HeldPool) (s : List ℕ) (S : Sound d s) where
   open_gate_here sh = ap (open_gate sh (length s)) counted ∙ open_gate_is sh (lent_to d s)
 
   -- ── a start or turn ──
-  pub refused_act : (a : Action) (k : ℕ) → k ≡ gate_of d.shape (length s) d.records (actor a) d.sound → k ≢ 0 → Does (acts a) d s (Refused k) d s
+  pub refused_act : (a : Action) (k : ℕ) → k ≡ gate_of d.shape (length s) d.records (actor a) d.sound → k ≢ 0 → Does (Act a) d s (Refused k) d s
   refused_act a k is n =
       let g = is ∙ gate_here (actor a) in
       let r : record { memory = lent_to d s; response = Refused k } ≡ act d.shape (lent_to d s) a =
@@ -107,7 +108,7 @@ module _ (d : HeldPool) (s : List ℕ) (S : Sound d s) where
 
     pub did_act : (ts : List ℕ) → ts ≡ tickets_of d.table → (s' : List ℕ) (w' : Worker) (l : Response)
         → record { store = s'; worker = w'; response = l } ≡ local_act d.shape (low_for a ts d.shape.workers) s a (worker d.table (actor a))
-        → Does (acts a) d s l
+        → Does (Act a) d s l
         (record {
           shape = d.shape;
           sound = not (action_leaks d.shape s a (worker d.table (actor a)));
@@ -148,7 +149,7 @@ module _ (d : HeldPool) (s : List ℕ) (S : Sound d s) where
         same_length = ap (λ (x : Result). length x.memory.store) r ∙ (act_same_size d.shape m a).store
 
   -- ── an opening ──
-  pub refused_open : (sh : Shape) (k : ℕ) → k ≡ open_gate sh (length s) d.records → k ≢ 0 → Does (opens sh) d s (Refused k) d s
+  pub refused_open : (sh : Shape) (k : ℕ) → k ≡ open_gate sh (length s) d.records → k ≢ 0 → Does (Open sh) d s (Refused k) d s
   unfolding open_pool
   refused_open sh k is n =
       let g = is ∙ open_gate_here sh in
@@ -164,7 +165,7 @@ module _ (d : HeldPool) (s : List ℕ) (S : Sound d s) where
 
     pub did_open : (s' : List ℕ) → s' ≡ open_store sh s → (t' : List Worker) → t' ≡ replicate sh.workers blank ++ drop sh.workers d.table
         → (h' : ℕ) → h' ≡ greater d.held sh.workers
-        → Does (opens sh) d s Opened (record { shape = sh; sound = true; records = d.records; held = h'; table = t' }) s'
+        → Does (Open sh) d s Opened (record { shape = sh; sound = true; records = d.records; held = h'; table = t' }) s'
     unfolding open_pool open_table
     did_open s' store t' table h' held = record {
       pool = λ j. record { shape = shape j; memory = (r j).memory };
@@ -186,7 +187,7 @@ module _ (d : HeldPool) (s : List ℕ) (S : Sound d s) where
         first = ap (take d.records) table
             ∙ over_taken blank d.records d.table sh.workers (omega (arith, fits.table, counted)) (omega (arith, S.0, S.1))
 
-        shape : sh ≡ shape_after (opens sh) (pool_of d s)
+        shape : sh ≡ shape_after (Open sh) (pool_of d s)
         shape = rw all
 
         r : record { memory = record { store = s'; table = take d.records t' }; response = Opened } ≡ open_pool sh (lent_to d s)

@@ -7,8 +7,8 @@ use Rattle.arrival.specs.declared.Shape.{Shape}
 use Rattle.arrival.specs.declared.Worker.{Worker}
 use Rattle.calendar.specs.rules.Ranges.{blank}
 use Rattle.calendar.specs.rules.Opening.{open_store}
-use Rattle.turn_file.specs.declared.Read.TheVariants.{Open}
-use Rattle.turn_file.specs.Reading.{record_at}
+use Rattle.turn_file.specs.declared.Record.TheVariants.{Open}
+use Rattle.turn_file.specs.Reading.{record_at, whole}
 use Rattle.admission.specs.Gate.{open_gate, open_response}
 use Rattle.batch.specs.Batch.{Progress}
 use Rattle.batch.specs.Held.{greater}
@@ -19,7 +19,7 @@ use Rattle.batch.proofs.RoundArms.{opened, not_opened}
 module _ {bytes : List ℕ} {p₀ : Progress} {h₀ records space : ℕ} {sh : Shape} {s : List ℕ} {t : List Worker} {at : ℕ} {lines : List ℕ} {to : ℕ} {sound : Bool}
     {h : ℕ}
     (R : Round bytes p₀ h₀ (length s) records space sh s t at lines to sound h) (fits : leb (to + 89) space ≡ true) (next : ℕ) (lines' : List ℕ) (to' k : ℕ)
-    (sh' : Shape) (e : Open sh' next ≡ record_at bytes at) (is : k ≡ open_gate sh' (length s) records)
+    (sh' : Shape) (e : whole (Open sh') next ≡ record_at bytes at) (is : k ≡ open_gate sh' (length s) records)
     (s' : List ℕ) (store : s' ≡ cond (eqb (open_gate sh' (length s) records) 0) (open_store sh' s) s) (line : Line lines to (open_response k) lines' to') where
   refused_round : k ≢ 0 → Round bytes p₀ h₀ (length s) records space sh s' t next lines' to' sound h
   refused_round n =

@@ -5,7 +5,7 @@
 --     Reason, PartOf                  why a batch stopped; what a part of the file is: its lines, where it stopped, and that it got on
 --     part_of_file                    a batch is a part of its file
 -- Assumes nothing.
-use Rattle.std.specs.Prelude.{◌≡◌, Bool, false, cond, List, [], ◌++◌, ◌⊎◌, take, drop}
+use Rattle.std.specs.Prelude.{◌≡◌, Bool, false, cond, List, [], ◌++◌, ◌⊎◌, take, drop, Some, None, Ok, Err}
 use Rattle.std.proofs.Math.Path.{refl, ap}
 use Rattle.std.proofs.Common.{sym, ◌∙◌, append_assoc, append-nil, inl, inr, arith, length-append, length-drop, drop-drop, take_at, length-take-le}
 use Rattle.std.proofs.Common.{leb-true, leb-false}
@@ -13,10 +13,9 @@ use Rattle.std.proofs.Math.Bool.{true}
 use Prim.Native.Nat.{ℕ, zero, suc, ◌+◌, ◌-◌, ◌≤◌, ◌<◌}
 use Rattle.std.proofs.Math.ListN.{length}
 use Rattle.std.proofs.lemmas.List.{drop-append-le}
-use Rattle.turn_file.specs.declared.Read.{Read}
-use Rattle.turn_file.specs.declared.Read.TheVariants.{Open, Act, End, Refused}
-use Rattle.turn_file.specs.Records.{Record, opens, acts}
-use Rattle.turn_file.specs.Reading.{record_at, whole}
+use Rattle.turn_file.specs.declared.Record.{Record}
+use Rattle.turn_file.specs.declared.Record.TheVariants.{Open, Act}
+use Rattle.turn_file.specs.Reading.{Reading, record_at, whole}
 use Rattle.turn_file.proofs.OneReading.{read_on}
 use Rattle.turn_file.proofs.MoreBytes.{read_rest}
 use Rattle.turn_file.specs.Buffer.{written, after}
@@ -43,11 +42,10 @@ same_records (suc n) (suc m) bytes x h k = go (λ b y. same_records n m b y) (re
         (omega (arith, on.0, on.1, length-drop next bytes)))
 
     go : ((b : List ℕ) (y : Pool) → length b < n → length b < m → records n b y ≡ records m b y)
-        → (r : Read) → record_at bytes 0 ≡ r → from_first (λ next. records n (drop next bytes)) x r ≡ from_first (λ next. records m (drop next bytes)) x r
-    go same (Open sh next) e = one same (opens sh) next e
-    go same (Act a next) e = one same (acts a) next e
-    go same End e = refl
-    go same (Refused k) e = refl
+        → (r : Reading) → record_at bytes 0 ≡ r → from_first (λ next. records n (drop next bytes)) x r ≡ from_first (λ next. records m (drop next bytes)) x r
+    go same (Ok (Some (r, next))) e = one same r next e
+    go same (Ok None) e = refl
+    go same (Err why) e = refl
 
 pub behind_behind : (l m : List ℕ) (r : Ran) → behind (l ++ m) r ≡ behind l (behind m r)
 behind_behind l m r = ap (λ (t : List ℕ). record { pool = r.pool; lines = t }) (append_assoc l m r.lines)
@@ -81,8 +79,8 @@ module _ (bytes more : List ℕ) where
       rest k = records (length (drop at bytes ++ more)) (drop k (drop at bytes ++ more))
 
       first : (r : Record) → from_first rest x (whole r (next - at)) ≡ behind (line_for r x) (rest (next - at) (pool_after r x))
-      first (opens sh) = refl
-      first (acts a) = refl
+      first (Open sh) = refl
+      first (Act a) = refl
 
 -- ── the batch ──
 -- the lines that a buffer holds
@@ -102,9 +100,9 @@ line_behind lines line to fits room =
 
 -- why it stopped there; where a reading is refused there is still room for a line
 abbrev pub Reason : List ℕ → Progress → Stop → Type 0
-Reason bytes p Drained = record_at bytes p.at ≡ End
+Reason bytes p Drained = record_at bytes p.at ≡ Ok None
 Reason bytes p Full = length p.lines < p.to + 89
-Reason bytes p (Halted k) = (record_at bytes p.at ≡ Refused k) × (p.to + 89 ≤ length p.lines)
+Reason bytes p (Halted why) = (record_at bytes p.at ≡ Err why) × (p.to + 89 ≤ length p.lines)
 
 pub record PartOf (bytes more : List ℕ) (p : Progress) (q : Stopped) : Type 0 where
   pub new : List ℕ
@@ -147,11 +145,10 @@ module _ (bytes more : List ℕ) where
           (leb-true (p.to + 89) (length p.lines) room))
           (record_first bytes more p.at p.pool r next e) (rest (wrote p r next) (omega (arith, on.0, on.1)))
 
-      go : ((q : Progress) → length bytes - q.at < n → PartOf bytes more q (worked n bytes q)) → (b : Bool) → has_room p.lines p.to ≡ b → (r : Read)
+      go : ((q : Progress) → length bytes - q.at < n → PartOf bytes more q (worked n bytes q)) → (b : Bool) → has_room p.lines p.to ≡ b → (r : Reading)
           → record_at bytes p.at ≡ r
           → PartOf bytes more p (cond b (onward (worked n bytes) p r) (record { progress = p; stop = Full }))
       go rest false full r e = stays p Full (leb-false (p.to + 89) (length p.lines) full)
-      go rest true room (Open sh next) e = past rest room (opens sh) next e
-      go rest true room (Act a next) e = past rest room (acts a) next e
-      go rest true room End e = stays p Drained e
-      go rest true room (Refused k) e = stays p (Halted k) (e, leb-true (p.to + 89) (length p.lines) room)
+      go rest true room (Ok (Some (r, next))) e = past rest room r next e
+      go rest true room (Ok None) e = stays p Drained e
+      go rest true room (Err why) e = stays p (Halted why) (e, leb-true (p.to + 89) (length p.lines) room)

@@ -27,9 +27,8 @@ use Rattle.calendar.proofs.facts.Untouched.{act_same_size, open_same_size}
 use Rattle.calendar.specs.facts.RecordsBeyond.{keeping}
 use Rattle.calendar.proofs.facts.RecordsBeyond.{act_same}
 use Rattle.admission.proofs.GateLaws.{shape_tests}
-use Rattle.turn_file.specs.declared.Read.{Read}
-use Rattle.turn_file.specs.declared.Read.TheVariants.{Open, Act, End, Refused}
-use Rattle.turn_file.specs.Records.{Record, opens, acts}
+use Rattle.turn_file.specs.declared.Record.{Record}
+use Rattle.turn_file.specs.declared.Record.TheVariants.{Open, Act}
 use Rattle.turn_file.specs.Reading.{record_at}
 use Rattle.turn_file.specs.Lines.{line_of}
 use Rattle.turn_file.specs.Buffer.{written, after}

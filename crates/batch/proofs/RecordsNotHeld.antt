@@ -2,7 +2,7 @@
 --     all_within                     no more records are held than count
 --     all_alike                      on two tables that are alike a batch does the same, and each keeps what is behind the held records
 -- Assumes nothing.
-use Rattle.std.specs.Prelude.{◌≡◌, Bool, ◌≢◌, ltb, length, take}
+use Rattle.std.specs.Prelude.{◌≡◌, Bool, ◌≢◌, ltb, length, take, Some, None, Ok, Err}
 use Rattle.std.proofs.Math.Path.{refl, ap, subst}
 use Rattle.std.proofs.Common.{sym, ◌∙◌, length-append, length-drop, take-append-drop, length-take-le, take_at}
 use Rattle.std.proofs.Math.Bool.{true, false, cond}
@@ -28,10 +28,9 @@ use Rattle.calendar.proofs.facts.Untouched.{act_same_size, open_same_size}
 use Rattle.calendar.specs.facts.RecordsBeyond.{keeping}
 use Rattle.calendar.proofs.facts.RecordsBeyond.{act_same}
 use Rattle.admission.proofs.GateLaws.{shape_tests}
-use Rattle.turn_file.specs.declared.Read.{Read}
-use Rattle.turn_file.specs.declared.Read.TheVariants.{Open, Act, End, Refused}
-use Rattle.turn_file.specs.Records.{Record, opens, acts}
-use Rattle.turn_file.specs.Reading.{record_at}
+use Rattle.turn_file.specs.declared.Record.{Record}
+use Rattle.turn_file.specs.declared.Record.TheVariants.{Open, Act}
+use Rattle.turn_file.specs.Reading.{Reading, record_at}
 use Rattle.turn_file.specs.Lines.{line_of}
 use Rattle.turn_file.specs.Buffer.{written, after}
 use Rattle.batch.specs.declared.Stop.{Stop}
@@ -168,8 +167,8 @@ module _ {k : ℕ} {t u : List Worker} (A : Alike k t u) (sh : Shape) (s : List 
 
 -- ── how many are held ──
 same_long : (x : Pool) (r : Record) → length (result_of r x).memory.table ≡ length x.memory.table
-same_long x (opens sh) = (open_same_size sh x.memory).table
-same_long x (acts a) = (act_same_size x.shape x.memory a).table
+same_long x (Open sh) = (open_same_size sh x.memory).table
+same_long x (Act a) = (act_same_size x.shape x.memory a).table
 
 greater_left : (a b : ℕ) → a ≤ greater a b
 greater_left a b = go (ltb a b) refl
@@ -193,15 +192,15 @@ greater_within a b c h k = go (ltb a b)
     go false = h
 
 after_more : (x : Pool) (k : ℕ) (r : Record) → k ≤ held_after r x k
-after_more x k (opens sh) = go (eqb (open_refusal sh x.memory.store x.memory.table) 0)
+after_more x k (Open sh) = go (eqb (open_refusal sh x.memory.store x.memory.table) 0)
   where
     go : (b : Bool) → k ≤ cond b (greater k sh.workers) k
     go true = greater_left k sh.workers
     go false = omega arith
-after_more x k (acts a) = omega arith
+after_more x k (Act a) = omega arith
 
 after_within : (x : Pool) (k : ℕ) (r : Record) → k ≤ counted_of (length x.memory.table) → held_after r x k ≤ counted_of (length x.memory.table)
-after_within x k (opens sh) h = go (eqb (open_refusal sh x.memory.store x.memory.table) 0) refl
+after_within x k (Open sh) h = go (eqb (open_refusal sh x.memory.store x.memory.table) 0) refl
   where
     go : (b : Bool) → eqb (open_refusal sh x.memory.store x.memory.table) 0 ≡ b
         → cond b (greater k sh.workers) k ≤ counted_of (length x.memory.table)
@@ -210,7 +209,7 @@ after_within x k (opens sh) h = go (eqb (open_refusal sh x.memory.store x.memory
         greater_within k sh.workers (counted_of (length x.memory.table)) h
         (counts (length x.memory.table) sh.workers L.table L.limits.workers)
     go false e = h
-after_within x k (acts a) h = h
+after_within x k (Act a) h = h
 
 module _ (bytes : List ℕ) where
   held_more : (n : ℕ) (p : Progress) (k : ℕ) → k ≤ held n bytes k p
@@ -218,12 +217,11 @@ module _ (bytes : List ℕ) where
   held_more zero p k = omega arith
   held_more (suc n) p k = go (λ q h. held_more n q h) (has_room p.lines p.to) (record_at bytes p.at)
     where
-      go : ((q : Progress) (h : ℕ) → h ≤ held n bytes h q) → (b : Bool) (r : Read) → k ≤ cond b (holding.onward (held n bytes) k p r) k
+      go : ((q : Progress) (h : ℕ) → h ≤ held n bytes h q) → (b : Bool) (r : Reading) → k ≤ cond b (holding.onward (held n bytes) k p r) k
       go rest false r = omega arith
-      go rest true (Open sh next) = omega (arith, after_more p.pool k (opens sh), rest (wrote p (opens sh) next) (held_after (opens sh) p.pool k))
-      go rest true (Act a next) = rest (wrote p (acts a) next) k
-      go rest true End = omega arith
-      go rest true (Refused i) = omega arith
+      go rest true (Ok (Some (r, next))) = omega (arith, after_more p.pool k r, rest (wrote p r next) (held_after r p.pool k))
+      go rest true (Ok None) = omega arith
+      go rest true (Err why) = omega arith
 
   held_within : (n : ℕ) (p : Progress) (k : ℕ) → k ≤ counted_of (length p.pool.memory.table)
       → held n bytes k p ≤ counted_of (length p.pool.memory.table)
@@ -238,13 +236,12 @@ module _ (bytes : List ℕ) where
           (same_long p.pool r) (rest (wrote p r next) (held_after r p.pool k)) (after_within p.pool k r h)
 
       go : ((q : Progress) (i : ℕ) → i ≤ counted_of (length q.pool.memory.table) → held n bytes i q ≤ counted_of (length q.pool.memory.table))
-          → (b : Bool) (r : Read)
+          → (b : Bool) (r : Reading)
           → cond b (holding.onward (held n bytes) k p r) k ≤ counted_of (length p.pool.memory.table)
       go rest false r = h
-      go rest true (Open sh next) = past rest (opens sh) next
-      go rest true (Act a next) = past rest (acts a) next
-      go rest true End = h
-      go rest true (Refused i) = h
+      go rest true (Ok (Some (r, next))) = past rest r next
+      go rest true (Ok None) = h
+      go rest true (Err why) = h
 
   -- no more than there are
   pub all_within : (p : Progress) (k : ℕ) → k ≤ counted_of (length p.pool.memory.table) → held_all bytes k p ≤ counted_of (length p.pool.memory.table)
@@ -259,12 +256,12 @@ module _ {k : ℕ} {u : List Worker} (x : Pool) (A : Alike k x.memory.table u) (
   next_alike h t same within = put_together h t u (subst (λ n. h ≤ counted_of n) (sym same) within) (A.counted ∙ ap counted_of (sym same))
 
   result_alike : (r : Record) → result_of r (on x u) ≡ keeps A x.shape x.memory.store (held_after r x k) (result_of r x)
-  result_alike (opens sh) = open_alike A sh x.memory.store
-  result_alike (acts a) = act_alike A x.shape x.memory.store a covers
+  result_alike (Open sh) = open_alike A sh x.memory.store
+  result_alike (Act a) = act_alike A x.shape x.memory.store a covers
 
   shape_alike : (r : Record) → shape_after r (on x u) ≡ shape_after r x
-  shape_alike (opens sh) = ap (λ (n : ℕ). cond (eqb n 0) sh x.shape) (open_refusal_alike A sh x.memory.store)
-  shape_alike (acts a) = refl
+  shape_alike (Open sh) = ap (λ (n : ℕ). cond (eqb n 0) sh x.shape) (open_refusal_alike A sh x.memory.store)
+  shape_alike (Act a) = refl
 
   after_covers : (r : Record) → Covers (shape_after r x) (length (result_of r x).memory.table) (held_after r x k)
   after_covers r = subst (λ n. Covers (shape_after r x) n (held_after r x k)) (sym (same_long x r)) (still r)
@@ -274,8 +271,8 @@ module _ {k : ℕ} {u : List Worker} (x : Pool) (A : Alike k x.memory.table u) (
       go sh false = covers
 
       still : (r : Record) → Covers (shape_after r x) (length x.memory.table) (held_after r x k)
-      still (opens sh) = go sh (eqb (open_refusal sh x.memory.store x.memory.table) 0)
-      still (acts a) = covers
+      still (Open sh) = go sh (eqb (open_refusal sh x.memory.store x.memory.table) 0)
+      still (Act a) = covers
 
 -- what was kept by a record of the file is what was there before
 kept_through : (h : ℕ) (q : Stopped) (k : ℕ) (t u : List Worker) → k ≤ length t → k ≤ length u → k ≤ h → keeping_from h q (over k t u) ≡ keeping_from h q u
@@ -326,14 +323,13 @@ module _ (bytes : List ℕ) where
 
       go : ((q : Progress) (h : ℕ) (v : List Worker) → Alike h q.pool.memory.table v → Covers q.pool.shape (length q.pool.memory.table) h
           → worked n bytes (on_table q v) ≡ keeping_from (held n bytes h q) (worked n bytes q) v)
-          → (b : Bool) (r : Read)
+          → (b : Bool) (r : Reading)
           → cond b (onward (worked n bytes) (on_table p u) r) (record { progress = on_table p u; stop = Full })
           ≡ keeping_from (cond b (holding.onward (held n bytes) k p r) k) (cond b (onward (worked n bytes) p r) (record { progress = p; stop = Full })) u
       go rest false r = there Full
-      go rest true (Open sh next) = past rest (opens sh) next
-      go rest true (Act a next) = past rest (acts a) next
-      go rest true End = there Drained
-      go rest true (Refused i) = there (Halted i)
+      go rest true (Ok (Some (r, next))) = past rest r next
+      go rest true (Ok None) = there Drained
+      go rest true (Err why) = there (Halted why)
 
   -- A batch on two tables that are alike: the same store, lines, shape and stop, the same held records, and each table's own behind them.
   -- (With u the table itself: what is behind the held records stays.)

@@ -5,11 +5,11 @@
 --     not_opened, opened                    an opening is a round
 --     kept, at_drained, at_halted, at_full  what holds at every end; the three ends
 --     settled                               a round, of the lengths as they are then
---     known_open, known_act                 what was read, by its kind
---     nearer_open, nearer_act               the next record is nearer to the end
+--     known                                 what was read
+--     nearer                                the next record is nearer to the end
 --     first_round                           before the loop
 -- Assumes nothing.
-use Rattle.std.specs.Prelude.{◌≡◌, refl, List, ◌++◌, Bool, false, cond, not, ◌≢◌, ℕ, ◌+◌, ◌-◌, ◌≤◌, ◌<◌, eqb, leb, length, take, set, drop, replicate}
+use Rattle.std.specs.Prelude.{◌≡◌, refl, List, ◌++◌, Bool, false, cond, not, ◌≢◌, ℕ, ◌+◌, ◌-◌, ◌≤◌, ◌<◌, eqb, leb, length, take, set, drop, replicate, None, Ok, Err}
 use Rattle.std.proofs.Math.Path.{sym, ap, subst⁻¹}
 use Rattle.std.proofs.Common.{◌∙◌, subst, arith, length-set, length-take-le, get_or-take}
 use Rattle.std.proofs.Math.Bool.{true}
@@ -31,11 +31,10 @@ use Rattle.calendar.proofs.facts.Untouched.{act_same_size, open_same_size}
 use Rattle.words.specs.Done.{Done}
 use Rattle.operation.specs.LocalAct.{Admitted, local_act, LowFor, back}
 use Rattle.operation.proofs.LocalAct.{admitted, act_is}
-use Rattle.turn_file.specs.declared.Read.{Read}
-use Rattle.turn_file.specs.declared.Read.TheVariants.{Open, Act, End}
-use Rattle.turn_file.specs.declared.Read.TheVariants as variants
-use Rattle.turn_file.specs.Records.{Record, opens, acts}
-use Rattle.turn_file.specs.Reading.{record_at, whole}
+use Rattle.turn_file.specs.declared.Record.{Record}
+use Rattle.turn_file.specs.declared.Record.TheVariants.{Open, Act}
+use Rattle.turn_file.specs.declared.Unreadable.{Unreadable}
+use Rattle.turn_file.specs.Reading.{Reading, record_at, whole}
 use Rattle.turn_file.proofs.OneReading.{read_on}
 use Rattle.batch.specs.declared.Stop.{Stop}
 use Rattle.batch.specs.declared.Stop.TheVariants.{Drained, Full, Halted}
@@ -121,13 +120,13 @@ module _ {bytes : List ℕ} {p₀ : Progress} {h₀ words records space : ℕ} {
     length_kept = R.buffer ∙ sym (ap length line.1 ∙ written_length lines to (line_of l))
 
     -- an action a with what it leaves
-    acted : (a : Action) → Act a next ≡ record_at bytes at → (s' : List ℕ) (t' : List Worker) → length t' ≡ 64
+    acted : (a : Action) → whole (Act a) next ≡ record_at bytes at → (s' : List ℕ) (t' : List Worker) → length t' ≡ 64
         → record { memory = record { store = s'; table = take records t' }; response = l } ≡ act sh (record { store = s; table = take records t }) a
         → (sound' : Bool) → Watched sh (act sh (record { store = s; table = take records t }) a).memory sound' → Tight sh words records sound'
         → Round bytes p₀ h₀ words records space sh s' t' next lines' to' sound' h
     acted a e s' t' array is sound' w tight = record {
       going =
-          go_on bytes p₀ h₀ (at_work sh s (take records t) at lines to) h sound R.going room (acts a) next e
+          go_on bytes p₀ h₀ (at_work sh s (take records t) at lines to) h sound R.going room (Act a) next e
           (at_work sh s' (take records t') next lines' to') there h refl sound'
           (subst⁻¹ (λ (r : Result). Watched sh r.memory sound') is w);
       store = R.store ∙ sym (ap (λ (r : Result). length r.memory.store) is ∙ (act_same_size sh m a).store);
@@ -138,7 +137,7 @@ module _ {bytes : List ℕ} {p₀ : Progress} {h₀ words records space : ℕ} {
     }
       where
         there : at_work sh s' (take records t') next lines' to'
-            ≡ wrote (at_work sh s (take records t) at lines to) (acts a) next
+            ≡ wrote (at_work sh s (take records t) at lines to) (Act a) next
         there = λ j. record {
           pool = record { shape = sh; memory = (is j).memory };
           at = next;
@@ -147,7 +146,7 @@ module _ {bytes : List ℕ} {p₀ : Progress} {h₀ words records space : ℕ} {
         }
 
     -- refused by 1 to 4
-    pub turned_away_lem : (a : Action) → Act a next ≡ record_at bytes at → (k : ℕ) → k ≡ gate_of sh words records (actor a) sound → k ≢ 0 → l ≡ Refused k
+    pub turned_away_lem : (a : Action) → whole (Act a) next ≡ record_at bytes at → (k : ℕ) → k ≡ gate_of sh words records (actor a) sound → k ≢ 0 → l ≡ Refused k
         → Round bytes p₀ h₀ words records space sh s t next lines' to' sound h
     turned_away_lem a e k is n said =
         let g = is ∙ gate_here (actor a) in
@@ -156,7 +155,7 @@ module _ {bytes : List ℕ} {p₀ : Progress} {h₀ words records space : ℕ} {
         (subst (λ (x : Result). Watched sh x.memory sound) r W) R.tight
 
     -- let in, and done to worker i's record, which goes back into the array
-    module _ (a : Action) (e : Act a next ≡ record_at bytes at) (k : ℕ) (is : k ≡ gate_of sh words records (actor a) sound) (z : k ≡ 0) (s' : List ℕ)
+    module _ (a : Action) (e : whole (Act a) next ≡ record_at bytes at) (k : ℕ) (is : k ≡ gate_of sh words records (actor a) sound) (z : k ≡ 0) (s' : List ℕ)
         (w' : Worker) where
       stored : (d : Done) → record { store = s'; worker = w'; response = l } ≡ d
           → record { memory = record { store = s'; table = take records (set t (actor a) w') }; response = l } ≡ back (take records t) (actor a) d
@@ -179,14 +178,14 @@ module _ {bytes : List ℕ} {p₀ : Progress} {h₀ words records space : ℕ} {
           (λ _. gate_opens sh words records i sound (sym is ∙ z))
 
     -- an opening with what it leaves
-    opened_with : (sh' : Shape) → Open sh' next ≡ record_at bytes at → (sh'' : Shape) (s' : List ℕ) (t' : List Worker) → length t' ≡ 64
+    opened_with : (sh' : Shape) → whole (Open sh') next ≡ record_at bytes at → (sh'' : Shape) (s' : List ℕ) (t' : List Worker) → length t' ≡ 64
         → sh'' ≡ cond (eqb (open_refusal sh' s (take records t)) 0) sh' sh
         → (h' : ℕ) → h' ≡ cond (eqb (open_refusal sh' s (take records t)) 0) (greater h sh'.workers) h
         → record { memory = record { store = s'; table = take records t' }; response = l } ≡ open_pool sh' (record { store = s; table = take records t })
         → (sound' : Bool) → Watched sh'' (record { store = s'; table = take records t' }) sound' → Tight sh'' words records sound'
         → Round bytes p₀ h₀ words records space sh'' s' t' next lines' to' sound' h'
     opened_with sh' e sh'' s' t' array shape h' holds is sound' w tight = record {
-      going = go_on bytes p₀ h₀ (at_work sh s (take records t) at lines to) h sound R.going room (opens sh') next e
+      going = go_on bytes p₀ h₀ (at_work sh s (take records t) at lines to) h sound R.going room (Open sh') next e
           (at_work sh'' s' (take records t') next lines' to') there h' holds sound' w;
       store = R.store ∙ sym (ap (λ (r : Result). length r.memory.store) is ∙ (open_same_size sh' m).store);
       array = array;
@@ -195,7 +194,7 @@ module _ {bytes : List ℕ} {p₀ : Progress} {h₀ words records space : ℕ} {
       tight = tight;
     }
       where
-        there : at_work sh'' s' (take records t') next lines' to' ≡ wrote (at_work sh s (take records t) at lines to) (opens sh') next
+        there : at_work sh'' s' (take records t') next lines' to' ≡ wrote (at_work sh s (take records t) at lines to) (Open sh') next
         there = λ j. record {
           pool = record { shape = shape j; memory = (is j).memory };
           at = next;
@@ -203,7 +202,7 @@ module _ {bytes : List ℕ} {p₀ : Progress} {h₀ words records space : ℕ} {
           to = (line.0 ∙ ap (λ (r : Result). after lines to (line_of r.response)) is) j;
         }
 
-    pub not_opened : (sh' : Shape) → Open sh' next ≡ record_at bytes at → (k : ℕ) → k ≡ open_gate sh' words records → k ≢ 0 → l ≡ Refused k
+    pub not_opened : (sh' : Shape) → whole (Open sh') next ≡ record_at bytes at → (k : ℕ) → k ≡ open_gate sh' words records → k ≢ 0 → l ≡ Refused k
         → Round bytes p₀ h₀ words records space sh s t next lines' to' sound h
     unfolding open_pool
     not_opened sh' e k is n said =
@@ -211,7 +210,7 @@ module _ {bytes : List ℕ} {p₀ : Progress} {h₀ words records space : ℕ} {
         let none = ne_eqb (open_refusal sh' s (take records t)) 0 (λ z. n (g ∙ z)) in
         opened_with sh' e sh s t R.array (rw none) h (rw none) (rw (none, said, g)) sound W R.tight
 
-    pub opened : (sh' : Shape) → Open sh' next ≡ record_at bytes at → (k : ℕ) → k ≡ open_gate sh' words records → k ≡ 0 → l ≡ Opened → (s' : List ℕ)
+    pub opened : (sh' : Shape) → whole (Open sh') next ≡ record_at bytes at → (k : ℕ) → k ≡ open_gate sh' words records → k ≡ 0 → l ≡ Opened → (s' : List ℕ)
         → s' ≡ open_store sh' s
         → (t' : List Worker) → t' ≡ replicate sh'.workers blank ++ drop sh'.workers t → (h' : ℕ) → h' ≡ greater h sh'.workers
         → Round bytes p₀ h₀ words records space sh' s' t' next lines' to' true h'
@@ -227,13 +226,13 @@ module _ {bytes : List ℕ} {p₀ : Progress} {h₀ words records space : ℕ} {
   pub kept : (length t ≡ 64) × (records ≤ 64) × Watched sh (record { store = s; table = take records t }) sound × Tight sh (length s) records sound
   kept = (R.array, R.lent, W, λ up. sym (ap (λ n. open_gate sh n records) R.store) ∙ R.tight up)
 
-  pub at_drained : leb (to + 89) space ≡ true → End ≡ record_at bytes at
+  pub at_drained : leb (to + 89) space ≡ true → Ok None ≡ record_at bytes at
       → (record { progress = at_work sh s (take records t) at lines to; stop = Drained } ≡ worked_all bytes p₀) × (h ≡ held_all bytes h₀ p₀)
   at_drained fits e = drained bytes p₀ h₀ (at_work sh s (take records t) at lines to) h sound R.going (ap (leb (to + 89)) (sym R.buffer) ∙ fits) e
 
-  pub at_halted : leb (to + 89) space ≡ true → (k : ℕ) → variants.Refused k ≡ record_at bytes at
-      → (record { progress = at_work sh s (take records t) at lines to; stop = Halted k } ≡ worked_all bytes p₀) × (h ≡ held_all bytes h₀ p₀)
-  at_halted fits k e = halted bytes p₀ h₀ (at_work sh s (take records t) at lines to) h sound R.going (ap (leb (to + 89)) (sym R.buffer) ∙ fits) k e
+  pub at_halted : leb (to + 89) space ≡ true → (why : Unreadable) → Err why ≡ record_at bytes at
+      → (record { progress = at_work sh s (take records t) at lines to; stop = Halted why } ≡ worked_all bytes p₀) × (h ≡ held_all bytes h₀ p₀)
+  at_halted fits why e = halted bytes p₀ h₀ (at_work sh s (take records t) at lines to) h sound R.going (ap (leb (to + 89)) (sym R.buffer) ∙ fits) why e
 
   pub at_full : leb (to + 89) space ≡ false → (stop : Stop) → stop ≡ Full
       → (record { progress = at_work sh s (take records t) at lines to; stop = stop } ≡ worked_all bytes p₀) × (h ≡ held_all bytes h₀ p₀)
@@ -256,21 +255,12 @@ pub settled : {bytes : List ℕ} {p₀ : Progress} {h₀ words records space : �
 settled R = round_of_lem _ _ _ _ _ _ _ _ _ R.going R.array R.lent (kept R).3
 
 -- ── what was read ──
-module _ (bytes : List ℕ) (at : ℕ) (r : Read) (read : r ≡ record_at bytes at) where
-  pub known_open : (sh : Shape) (next : ℕ) → r ≡ Open sh next → Open sh next ≡ record_at bytes at
-  known_open sh next e = sym e ∙ read
+module _ (bytes : List ℕ) (at : ℕ) (r : Reading) (read : r ≡ record_at bytes at) where
+  pub known : (x : Record) (next : ℕ) → r ≡ whole x next → whole x next ≡ record_at bytes at
+  known x next e = sym e ∙ read
 
-  pub known_act : (a : Action) (next : ℕ) → r ≡ Act a next → Act a next ≡ record_at bytes at
-  known_act a next e = sym e ∙ read
-
-  nearer : (x : Record) (next : ℕ) → r ≡ whole x next → length bytes - next < length bytes - at
+  pub nearer : (x : Record) (next : ℕ) → r ≡ whole x next → length bytes - next < length bytes - at
   nearer x next e = let (on, end) = read_on bytes at x next (sym read ∙ e) in omega arith
-
-  pub nearer_open : (sh : Shape) (next : ℕ) → r ≡ Open sh next → length bytes - next < length bytes - at
-  nearer_open sh next e = nearer (opens sh) next e
-
-  pub nearer_act : (a : Action) (next : ℕ) → r ≡ Act a next → length bytes - next < length bytes - at
-  nearer_act a next e = nearer (acts a) next e
 
 -- ── before the loop ──
 pub first_round : (bytes : List ℕ) (sh : Shape) (s : List ℕ) (records : ℕ) (t : List Worker) (at : ℕ) (lines : List ℕ) (to : ℕ) (sound : Bool) (h : ℕ)

@@ -1,10 +1,10 @@
 -- Why a batch is left, as the code has it: no room for a line, every byte worked through, or what follows refused. Assumes nothing.
-use Rattle.std.specs.Prelude.{◌≡◌, refl, List, Bool, true, false, ◌⊎◌, ℕ, ◌+◌, leb, length, take}
+use Rattle.std.specs.Prelude.{◌≡◌, refl, List, Bool, true, false, ◌⊎◌, ℕ, ◌+◌, leb, length, take, None, Ok, Err}
 use Rattle.std.proofs.Common.{ap, ◌∙◌, inl, inr}
 use Rattle.std.proofs.Math.Path.{subst⁻¹}
 use Rattle.arrival.specs.declared.Shape.{Shape}
 use Rattle.arrival.specs.declared.Worker.{Worker}
-use Rattle.turn_file.specs.declared.Read.TheVariants.{End, Refused}
+use Rattle.turn_file.specs.declared.Unreadable.{Unreadable}
 use Rattle.turn_file.specs.Reading.{record_at}
 use Rattle.batch.specs.declared.Progress as declared
 use Rattle.batch.specs.declared.Stop.{Stop}
@@ -24,8 +24,8 @@ module _ {bytes : List ℕ} {p₀ : Progress} {h₀ records : ℕ} {sh : Shape} 
   -- what the loop's three ways out tell, whatever they are told in
   pub stopped : {A B C : Type 0} {stop : Stop} {r : declared.Progress} → A ⊎ (B ⊎ C)
       → (A → (leb (to + 89) (length lines) ≡ false) × (stop ≡ Full))
-      → (B → (leb (to + 89) (length lines) ≡ true) × (End ≡ record_at bytes at) × (stop ≡ Drained))
-      → (C → (k : ℕ) × (leb (to + 89) (length lines) ≡ true) × (Refused k ≡ record_at bytes at) × (stop ≡ Halted k))
+      → (B → (leb (to + 89) (length lines) ≡ true) × (Ok None ≡ record_at bytes at) × (stop ≡ Drained))
+      → (C → (why : Unreadable) × (leb (to + 89) (length lines) ≡ true) × (Err why ≡ record_at bytes at) × (stop ≡ Halted why))
       → r ≡ stopped_of sh sound records h t at to stop
       → (ends s lines r ≡ worked_all bytes p₀) × Sound r.pool s × (r.pool.records ≡ records) × (r.pool.held ≡ held_all bytes h₀ p₀)
   stopped {A = A} {B = B} {C = C} {stop = stop} came full drained halted is =

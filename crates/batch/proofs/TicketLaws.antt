@@ -10,7 +10,7 @@ use Rattle.std.proofs.Common.{sym, ap, ◌∙◌, append-nil, arith, add-one, ta
 use Rattle.std.specs.List.{fold}
 use Rattle.std.proofs.lemmas.List.{same_lists, get_or_default}
 use Rattle.std.proofs.lemmas.List.Sums.{fold-append}
-use Rattle.std.proofs.Math.Seq.{drop-length, drop-nil, take-suc}
+use Rattle.std.proofs.Math.Seq.{drop-length, take-suc}
 use Rattle.laws.specs.Storing.{store_next}
 use Rattle.arrival.specs.declared.Shape.{Shape}
 use Rattle.arrival.specs.declared.Worker.{Worker}
@@ -93,10 +93,15 @@ pub tickets_all : (t : List Worker) (k : ℕ) (ts : List ℕ) → length t ≡ k
 tickets_all t k ts e f = rw (take_all k (tickets_of t) (omega (arith, tickets_length t)), ← f, drop-length ts) (append-nil (tickets_of t))
 
 -- cleared records, cleared tickets
+none_cleared : (n : ℕ) → tickets_of (replicate n blank ++ []) ≡ replicate n 4294967296 ++ []
+unfolding tickets_of blank
+none_cleared zero = refl
+none_cleared (suc n) = ap (λ (ts : List ℕ). 4294967296 ∷ ts) (none_cleared n)
+
 pub tickets_cleared : (t : List Worker) (n : ℕ) → tickets_of (replicate n blank ++ drop n t) ≡ replicate n 4294967296 ++ drop n (tickets_of t)
 unfolding tickets_of blank
 tickets_cleared t zero = refl
-tickets_cleared [] (suc n) = ap (λ (ts : List ℕ). 4294967296 ∷ ts) (simp append-nil at (rw drop-nil at (tickets_cleared [] n)))
+tickets_cleared [] (suc n) = ap (λ (ts : List ℕ). 4294967296 ∷ ts) (none_cleared n)
 tickets_cleared (w ∷ t) (suc n) = ap (λ (ts : List ℕ). 4294967296 ∷ ts) (tickets_cleared t n)
 
 -- the least by a fold over the first n

@@ -1,13 +1,11 @@
 -- A batch stays within its bytes and its buffer. Assumes nothing.
-use Rattle.std.specs.Prelude.{◌≡◌, Bool, cond, List, length}
+use Rattle.std.specs.Prelude.{◌≡◌, Bool, cond, List, length, Some, None, Ok, Err}
 use Rattle.std.proofs.Math.Path.{refl}
 use Rattle.std.proofs.Common.{◌∙◌}
 use Rattle.std.proofs.Math.Bool.{true, false}
 use Prim.Native.Nat.{ℕ, zero, suc, ◌+◌, ◌≤◌}
-use Rattle.turn_file.specs.declared.Read.{Read}
-use Rattle.turn_file.specs.declared.Read.TheVariants.{Open, Act, End, Refused}
-use Rattle.turn_file.specs.Records.{Record, opens, acts}
-use Rattle.turn_file.specs.Reading.{record_at}
+use Rattle.turn_file.specs.declared.Record.{Record}
+use Rattle.turn_file.specs.Reading.{Reading, record_at}
 use Rattle.turn_file.proofs.OneReading.{read_on}
 use Rattle.turn_file.proofs.Buffer.{after_within, written_length}
 use Rattle.batch.specs.declared.Stop.TheVariants.{Full}
@@ -27,15 +25,12 @@ module _ (bytes : List ℕ) (size : ℕ) where
   worked_within zero p w = w
   worked_within (suc n) p w = go (λ q v. worked_within n q v) (has_room p.lines p.to) (record_at bytes p.at) refl
     where
-      go : ((q : Progress) → Within bytes size q → Within bytes size (worked n bytes q).progress) → (b : Bool) (r : Read) → record_at bytes p.at ≡ r
+      go : ((q : Progress) → Within bytes size q → Within bytes size (worked n bytes q).progress) → (b : Bool) (r : Reading) → record_at bytes p.at ≡ r
           → Within bytes size (cond b (onward (worked n bytes) p r) (record { progress = p; stop = Full })).progress
       go rest false r e = w
-      go rest true (Open sh next) e =
-          rest (wrote p (opens sh) next) (wrote_within p (opens sh) next w (read_on bytes p.at (opens sh) next e).1)
-      go rest true (Act a next) e =
-          rest (wrote p (acts a) next) (wrote_within p (acts a) next w (read_on bytes p.at (acts a) next e).1)
-      go rest true End e = w
-      go rest true (Refused k) e = w
+      go rest true (Ok (Some (r, next))) e = rest (wrote p r next) (wrote_within p r next w (read_on bytes p.at r next e).1)
+      go rest true (Ok None) e = w
+      go rest true (Err why) e = w
 
 -- what a caller has of it
 pub within : (bytes : List ℕ) (p : Progress) (q : Stopped) → q ≡ worked_all bytes p → p.at ≤ length bytes → p.to ≤ length p.lines

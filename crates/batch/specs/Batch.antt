@@ -1,12 +1,11 @@
 -- A batch of a turn file, record by record: what each record does, its line, and where it stops. Assumes nothing.
-use Rattle.std.specs.Prelude.{Bool, cond, List, ℕ, zero, suc, ◌+◌, eqb, leb, length}
+use Rattle.std.specs.Prelude.{Bool, cond, List, ℕ, zero, suc, ◌+◌, eqb, leb, length, Some, None, Ok, Err}
 use Rattle.arrival.specs.declared.Shape.{Shape}
 use Rattle.calendar.specs.rules.Refusals.{open_refusal}
 use Rattle.calendar.specs.rules.Operations.{Memory, Result, open_pool, act}
-use Rattle.turn_file.specs.declared.Read.{Read}
-use Rattle.turn_file.specs.declared.Read.TheVariants.{Open, Act, End, Refused}
-use Rattle.turn_file.specs.Records.{Record, opens, acts}
-use Rattle.turn_file.specs.Reading.{record_at}
+use Rattle.turn_file.specs.declared.Record.{Record}
+use Rattle.turn_file.specs.declared.Record.TheVariants.{Open, Act}
+use Rattle.turn_file.specs.Reading.{Reading, record_at}
 use Rattle.turn_file.specs.Lines.{line_of}
 use Rattle.turn_file.specs.Buffer.{written, after}
 use Rattle.batch.specs.declared.Stop.{Stop}
@@ -19,13 +18,13 @@ pub record Pool : Type 0 where
 
 -- what a record of the file does; a start or turn is handed the shape so far
 abbrev pub result_of : Record → Pool → Result
-result_of (opens sh) x = open_pool sh x.memory
-result_of (acts a) x = act x.shape x.memory a
+result_of (Open sh) x = open_pool sh x.memory
+result_of (Act a) x = act x.shape x.memory a
 
 -- An opening sets the shape, unless it is refused.
 abbrev pub shape_after : Record → Pool → Shape
-shape_after (opens sh) x = cond (eqb (open_refusal sh x.memory.store x.memory.table) 0) sh x.shape
-shape_after (acts a) x = x.shape
+shape_after (Open sh) x = cond (eqb (open_refusal sh x.memory.store x.memory.table) 0) sh x.shape
+shape_after (Act a) x = x.shape
 
 abbrev pub pool_after : Record → Pool → Pool
 pool_after r x = record { shape = shape_after r x; memory = (result_of r x).memory }
@@ -57,11 +56,10 @@ wrote p r next = record {
   to = after p.lines p.to (line_for r p.pool);
 }
 
-abbrev pub onward : (Progress → Stopped) → Progress → Read → Stopped
-onward rest p (Open sh next) = rest (wrote p (opens sh) next)
-onward rest p (Act a next) = rest (wrote p (acts a) next)
-onward rest p End = record { progress = p; stop = Drained }
-onward rest p (Refused k) = record { progress = p; stop = Halted k }
+abbrev pub onward : (Progress → Stopped) → Progress → Reading → Stopped
+onward rest p (Ok (Some (r, next))) = rest (wrote p r next)
+onward rest p (Ok None) = record { progress = p; stop = Drained }
+onward rest p (Err why) = record { progress = p; stop = Halted why }
 
 -- at most n records
 unfoldable pub worked : ℕ → List ℕ → Progress → Stopped

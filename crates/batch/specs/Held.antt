@@ -1,11 +1,10 @@
 -- How many records a batch holds: those held at first, and all that an opening in it clears. Others it neither reads nor changes (RecordsNotHeld).
 -- Assumes nothing.
-use Rattle.std.specs.Prelude.{cond, List, ℕ, zero, suc, ◌+◌, eqb, ltb, length}
+use Rattle.std.specs.Prelude.{cond, List, ℕ, zero, suc, ◌+◌, eqb, ltb, length, Some, None, Ok, Err}
 use Rattle.calendar.specs.rules.Refusals.{open_refusal}
-use Rattle.turn_file.specs.declared.Read.{Read}
-use Rattle.turn_file.specs.declared.Read.TheVariants.{Open, Act, End, Refused}
-use Rattle.turn_file.specs.Records.{Record, opens, acts}
-use Rattle.turn_file.specs.Reading.{record_at}
+use Rattle.turn_file.specs.declared.Record.{Record}
+use Rattle.turn_file.specs.declared.Record.TheVariants.{Open, Act}
+use Rattle.turn_file.specs.Reading.{Reading, record_at}
 use Rattle.batch.specs.Batch.{Pool, Progress, has_room, wrote}
 
 abbrev pub greater : ℕ → ℕ → ℕ
@@ -13,14 +12,13 @@ greater a b = cond (ltb a b) b a
 
 -- past a record of the file: those of an opening's workers too, unless it is refused
 abbrev pub held_after : Record → Pool → ℕ → ℕ
-held_after (opens sh) x h = cond (eqb (open_refusal sh x.memory.store x.memory.table) 0) (greater h sh.workers) h
-held_after (acts a) x h = h
+held_after (Open sh) x h = cond (eqb (open_refusal sh x.memory.store x.memory.table) 0) (greater h sh.workers) h
+held_after (Act a) x h = h
 
-abbrev pub onward : (ℕ → Progress → ℕ) → ℕ → Progress → Read → ℕ
-onward rest h p (Open sh next) = rest (held_after (opens sh) p.pool h) (wrote p (opens sh) next)
-onward rest h p (Act a next) = rest (held_after (acts a) p.pool h) (wrote p (acts a) next)
-onward rest h p End = h
-onward rest h p (Refused k) = h
+abbrev pub onward : (ℕ → Progress → ℕ) → ℕ → Progress → Reading → ℕ
+onward rest h p (Ok (Some (r, next))) = rest (held_after r p.pool h) (wrote p r next)
+onward rest h p (Ok None) = h
+onward rest h p (Err why) = h
 
 -- past at most n records of the file
 unfoldable pub held : ℕ → List ℕ → ℕ → Progress → ℕ

@@ -3,7 +3,7 @@
 --     Does          what a record does to a held pool and the store, and its response
 use Rattle.std.specs.Prelude.{◌≡◌, List, ℕ}
 use Rattle.arrival.specs.declared.Response.{Response}
-use Rattle.turn_file.specs.Records.{Record}
+use Rattle.turn_file.specs.declared.Record.{Record}
 use Rattle.batch.specs.declared.HeldPool.{HeldPool}
 use Rattle.batch.specs.Batch.{Pool, result_of, pool_after}
 use Rattle.batch.specs.Held.{held_after}

@@ -1,12 +1,9 @@
 -- A whole turn file: the lines that it prints and the memory and shape that it leaves. Assumes nothing.
-use Rattle.std.specs.Prelude.{List, [], ◌++◌, ℕ, zero, suc, length, drop}
+use Rattle.std.specs.Prelude.{List, [], ◌++◌, ℕ, zero, suc, length, drop, Some, None, Ok, Err}
 use Rattle.arrival.specs.declared.Shape.{Shape}
 use Rattle.arrival.specs.declared.Response.TheVariants as response
 use Rattle.calendar.specs.rules.Operations.{Memory}
-use Rattle.turn_file.specs.declared.Read.{Read}
-use Rattle.turn_file.specs.declared.Read.TheVariants.{Open, Act, End, Refused}
-use Rattle.turn_file.specs.Records.{opens, acts}
-use Rattle.turn_file.specs.Reading.{record_at}
+use Rattle.turn_file.specs.Reading.{Reading, number_of, record_at}
 use Rattle.turn_file.specs.Lines.{line_of}
 use Rattle.batch.specs.Batch.{Pool, pool_after, line_for}
 
@@ -20,11 +17,10 @@ abbrev pub behind : List ℕ → Ran → Ran
 behind lines r = record { pool = r.pool; lines = lines ++ r.lines }
 
 -- One line a record; a reading that is refused has its line, which is the last.
-abbrev pub from_first : (ℕ → Pool → Ran) → Pool → Read → Ran
-from_first rest x (Open sh next) = behind (line_for (opens sh) x) (rest next (pool_after (opens sh) x))
-from_first rest x (Act a next) = behind (line_for (acts a) x) (rest next (pool_after (acts a) x))
-from_first rest x End = record { pool = x; lines = [] }
-from_first rest x (Refused k) = record { pool = x; lines = line_of (response.Refused k) }
+abbrev pub from_first : (ℕ → Pool → Ran) → Pool → Reading → Ran
+from_first rest x (Ok (Some (r, next))) = behind (line_for r x) (rest next (pool_after r x))
+from_first rest x (Ok None) = record { pool = x; lines = [] }
+from_first rest x (Err why) = record { pool = x; lines = line_of (response.Refused (number_of why)) }
 
 -- at most n records
 unfoldable pub records : ℕ → List ℕ → Pool → Ran

@@ -8,18 +8,18 @@ ghost use Rattle.batch.specs.CodeView.{begins, ends, Sound};
 
 use arrival::{Shape, Worker};
 use ticketed::TicketedPool;
-use turn_file::{Read, read_record, write_line};
+use turn_file::{Unreadable, read_record, write_line};
 
 pub mod table;
 mod ticketed;
 pub mod tickets;
 
-// Why a batch was left: every byte is worked through, the next line may not fit, or what follows is refused by 7 or 8.
+// Why a batch was left: every byte is worked through, the next line may not fit, or what follows cannot be read.
 #[derive(Clone, Copy, PartialEq, Eq, Debug)]
 pub enum Stop {
     Drained,
     Full,
-    Halted(u64),
+    Halted(Unreadable),
 }
 
 // A pool between two batches: the shape so far, whether store and table are in range, the workers' records.
@@ -71,14 +71,15 @@ pub fn run_batch(
         if !has_room(out.len(), to) {
             break Stop::Full;
         }
-        let (response, next) = match read_record(input, at) {
-            Read::Open(shape, next) => (work.open(shape, store), next),
-            Read::Act(action, next) => (work.act(action, store), next),
-            Read::End => break Stop::Drained,
-            Read::Refused(k) => break Stop::Halted(k),
-        };
-        to = write_line(response, out, to);
-        at = next;
+        match read_record(input, at) {
+            Ok(Some((found, next))) => {
+                let response = work.answer(found, store);
+                to = write_line(response, out, to);
+                at = next;
+            }
+            Ok(None) => break Stop::Drained,
+            Err(why) => break Stop::Halted(why),
+        }
     };
     Progress {
         pool: work.pool,

@@ -1,6 +1,6 @@
 // A held pool at work, with the tickets of its calls in progress.
 ghost use Rattle.std.specs.Prelude.{◌≡◌, ◌≤◌};
-ghost use Rattle.turn_file.specs.Records.{opens, acts};
+ghost use Rattle.turn_file.specs.declared.Record.TheVariants.{Open, Act};
 ghost use Rattle.batch.specs.Tickets.{tickets_of, low_for};
 ghost use Rattle.batch.specs.CodeView.{Sound};
 ghost use Rattle.batch.specs.OneRecord.{Does};
@@ -12,6 +12,7 @@ use arrival::{Action, Response, Shape};
 use operation::leaks::action_leaks;
 use operation::{actor, open_lent, perform};
 use starts::free::lower_ticket;
+use turn_file::Record;
 use words::word;
 
 // The tickets stand beside the records, one for each.
@@ -42,9 +43,9 @@ impl TicketedPool {
     }
 
     // An opening.
-    pub fn open(&mut self, shape: Shape, store: &mut [u64]) -> Response
+    fn open(&mut self, shape: Shape, store: &mut [u64]) -> Response
         requires { Sound self.old.pool store.old }
-        ensures { Does (opens shape) self.old.pool store.old result self.new.pool store.new }
+        ensures { Does (Open shape) self.old.pool store.old result self.new.pool store.new }
     {
         let k = open_lent(shape, self.pool.records, store);
         if k != 0 {
@@ -60,9 +61,9 @@ impl TicketedPool {
     }
 
     // A start or turn.
-    pub fn act(&mut self, action: Action, store: &mut [u64]) -> Response
+    fn act(&mut self, action: Action, store: &mut [u64]) -> Response
         requires { Sound self.old.pool store.old }
-        ensures { Does (acts action) self.old.pool store.old result self.new.pool store.new }
+        ensures { Does (Act action) self.old.pool store.old result self.new.pool store.new }
     {
         let shape = self.pool.shape;
         let i = actor(action) as usize;
@@ -84,5 +85,16 @@ impl TicketedPool {
         self.pool.table[i] = worker;
         self.tickets[i] = lower_ticket(word::COUNTS, worker);
         reply.response
+    }
+
+    // What a record of the file does.
+    pub fn answer(&mut self, found: Record, store: &mut [u64]) -> Response
+        requires { Sound self.old.pool store.old }
+        ensures { Does found self.old.pool store.old result self.new.pool store.new }
+    {
+        match found {
+            Record::Open(shape) => self.open(shape, store),
+            Record::Act(action) => self.act(action, store),
+        }
     }
 }

@@ -1,14 +1,15 @@
 -- The worked example of a turn file, its records and its lines; the refusals of the reader.
 -- Assumes nothing.
-use Rattle.std.specs.Prelude.{◌≡◌, refl, List, [], ◌∷◌, ◌++◌, ℕ}
+use Rattle.std.specs.Prelude.{◌≡◌, refl, List, [], ◌∷◌, ◌++◌, ℕ, None, Ok, Err}
 use Rattle.arrival.specs.declared.Shape.{Shape}
 use Rattle.arrival.specs.declared.Arrival.{Arrival}
 use Rattle.arrival.specs.declared.Action.TheVariants.{Enqueue, Step}
 use Rattle.arrival.specs.declared.Response.TheVariants.{Begun, Took}
-use Rattle.turn_file.specs.declared.Read.TheVariants.{Open, Act, End, Refused}
+use Rattle.turn_file.specs.declared.Unreadable.TheVariants.{UnknownMark, CutShort}
 use Rattle.turn_file.specs.Fields.{shape_at, arrival_at}
-use Rattle.turn_file.specs.Records.{opens, acts, size_of}
-use Rattle.turn_file.specs.Reading.{fields_at, marked_at, record_at}
+use Rattle.turn_file.specs.declared.Record.TheVariants.{Open, Act}
+use Rattle.turn_file.specs.Records.{size_of}
+use Rattle.turn_file.specs.Reading.{fields_at, whole, marked_at, record_at}
 use Rattle.turn_file.specs.Encoding.{encode}
 use Rattle.turn_file.specs.Decimal.{decimal, digits}
 use Rattle.turn_file.specs.Lines.{line_of}
@@ -27,36 +28,36 @@ file =
     ∷ 84 ∷ 85 ∷ 0
     ∷ 84 ∷ []
 
-encoded : encode (opens shape) ++ encode (acts (Enqueue 0 arrival)) ++ encode (acts (Step 0)) ++ (84 ∷ []) ≡ file
+encoded : encode (Open shape) ++ encode (Act (Enqueue 0 arrival)) ++ encode (Act (Step 0)) ++ (84 ∷ []) ≡ file
 unfolding encode
 encoded = refl
 
-opening : record_at file 0 ≡ Open shape 9
+opening : record_at file 0 ≡ whole (Open shape) 9
 unfolding record_at marked_at size_of fields_at shape_at
 opening = refl
 
-enqueue : record_at file 9 ≡ Act (Enqueue 0 arrival) 21
+enqueue : record_at file 9 ≡ whole (Act (Enqueue 0 arrival)) 21
 unfolding record_at marked_at size_of fields_at arrival_at
 enqueue = refl
 
-step : record_at file 21 ≡ Act (Step 0) 24
+step : record_at file 21 ≡ whole (Act (Step 0)) 24
 unfolding record_at marked_at size_of fields_at
 step = refl
 
-left_over : record_at file 24 ≡ Refused 8
+left_over : record_at file 24 ≡ Err CutShort
 unfolding record_at
 left_over = refl
 
-nothing_left : record_at file 25 ≡ End
+nothing_left : record_at file 25 ≡ Ok None
 unfolding record_at
 nothing_left = refl
 
 -- Two bytes that are no mark, and a mark without its field.
-unknown : record_at file 1 ≡ Refused 7
+unknown : record_at file 1 ≡ Err UnknownMark
 unfolding record_at marked_at size_of
 unknown = refl
 
-cut : record_at (84 ∷ 65 ∷ []) 0 ≡ Refused 8
+cut : record_at (84 ∷ 65 ∷ []) 0 ≡ Err CutShort
 unfolding record_at marked_at size_of
 cut = refl
 

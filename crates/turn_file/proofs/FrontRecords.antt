@@ -10,7 +10,9 @@ use Rattle.std.proofs.Common.{arith}
 use Rattle.arrival.specs.declared.Action.TheVariants.{Enqueue, Dequeue, Step}
 use Rattle.laws.specs.Lists.{words_from, take_words}
 use Rattle.turn_file.specs.Fields.{byte_at, two_at, four_at, shape_at, arrival_at}
-use Rattle.turn_file.specs.Records.{Record, opens, acts, OP, PU, TA, TU, size_of}
+use Rattle.turn_file.specs.declared.Record.{Record}
+use Rattle.turn_file.specs.declared.Record.TheVariants.{Open, Act}
+use Rattle.turn_file.specs.Records.{OP, PU, TA, TU, size_of}
 use Rattle.turn_file.proofs.Records.{by_mark}
 use Rattle.turn_file.specs.Reading.{fields_at}
 use Rattle.turn_file.specs.Encoding.{encode, Fits}
@@ -100,24 +102,24 @@ module _ (t : List ℕ) (bytes : Bytes t) where
 
 pub encoded_size : (r : Record) → length (encode r) ≡ size_of (mark_of r)
 unfolding encode size_of
-encoded_size (opens shape) = refl
-encoded_size (acts (Enqueue worker arrival)) = refl
-encoded_size (acts (Dequeue worker)) = refl
-encoded_size (acts (Step worker)) = refl
+encoded_size (Open shape) = refl
+encoded_size (Act (Enqueue worker arrival)) = refl
+encoded_size (Act (Dequeue worker)) = refl
+encoded_size (Act (Step worker)) = refl
 
 pub encoded_least : (r : Record) → 3 ≤ length (encode r)
 unfolding encode
-encoded_least (opens shape) = omega arith
-encoded_least (acts (Enqueue worker arrival)) = omega arith
-encoded_least (acts (Dequeue worker)) = omega arith
-encoded_least (acts (Step worker)) = omega arith
+encoded_least (Open shape) = omega arith
+encoded_least (Act (Enqueue worker arrival)) = omega arith
+encoded_least (Act (Dequeue worker)) = omega arith
+encoded_least (Act (Step worker)) = omega arith
 
 pub encoded_mark : (r : Record) (b : List ℕ) → two_at (encode r ++ b) 0 ≡ mark_of r
 unfolding encode
-encoded_mark (opens shape) b = refl
-encoded_mark (acts (Enqueue worker arrival)) b = refl
-encoded_mark (acts (Dequeue worker)) b = refl
-encoded_mark (acts (Step worker)) b = refl
+encoded_mark (Open shape) b = refl
+encoded_mark (Act (Enqueue worker arrival)) b = refl
+encoded_mark (Act (Dequeue worker)) b = refl
+encoded_mark (Act (Step worker)) b = refl
 
 byte_back : (x : ℕ) → x < 256 → x % 256 ≡ x
 byte_back x h = omega arith
@@ -131,14 +133,14 @@ four_back x h = omega arith
 
 pub encoded_fields : (r : Record) (b : List ℕ) → Fits r → fields_at (encode r ++ b) 0 (mark_of r) ≡ r
 unfolding encode fields_at shape_at arrival_at Fits
-encoded_fields (opens shape) b h =
+encoded_fields (Open shape) b h =
     rw (
       byte_back shape.workers h.0,
       two_back shape.nodes h.1,
       two_back shape.buckets h.2,
       two_back shape.width h.3,
     )
-encoded_fields (acts (Enqueue worker arrival)) b h =
+encoded_fields (Act (Enqueue worker arrival)) b h =
     rw (
       byte_back worker h.0,
       four_back arrival.time h.1,
@@ -146,8 +148,8 @@ encoded_fields (acts (Enqueue worker arrival)) b h =
       byte_back arrival.order h.3,
       two_back arrival.distance h.4,
     )
-encoded_fields (acts (Dequeue worker)) b h = rw (byte_back worker h)
-encoded_fields (acts (Step worker)) b h = rw (byte_back worker h)
+encoded_fields (Act (Dequeue worker)) b h = rw (byte_back worker h)
+encoded_fields (Act (Step worker)) b h = rw (byte_back worker h)
 
 -- What is encoded is bytes.
 abbrev Small : List ℕ → Type 0
@@ -164,7 +166,7 @@ unfolding encode
 encoded_bytes r = small_bytes (encode r) (small r)
   where
     small : (r : Record) → Small (encode r)
-    small (opens shape) = search arith
-    small (acts (Enqueue worker arrival)) = search arith
-    small (acts (Dequeue worker)) = search arith
-    small (acts (Step worker)) = search arith
+    small (Open shape) = search arith
+    small (Act (Enqueue worker arrival)) = search arith
+    small (Act (Dequeue worker)) = search arith
+    small (Act (Step worker)) = search arith

@@ -5,6 +5,7 @@ pub mod FoundRecord
 pub mod FrontFields
 pub mod FrontRecords
 pub mod MoreBytes
+pub mod Leftover
 pub mod OneReading
 pub mod Buffer
 pub mod FileExample

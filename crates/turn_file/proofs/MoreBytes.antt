@@ -5,14 +5,16 @@
 --     read_rest, unknown_rest, cut_rest     the same at the front of the rest
 --     cut_short                             a cut record is shorter than any record can be
 -- Assumes nothing.
-use Rattle.std.specs.Prelude.{◌≡◌, refl, List, ◌++◌, Bool, true, false, cond, ◌⊎◌, ℕ, ◌+◌, ◌-◌, ◌<◌, ◌≤◌, eqb, leb, ltb, length, drop}
+use Rattle.std.specs.Prelude.{◌≡◌, refl, List, ◌++◌, Bool, true, false, cond, ◌⊎◌, ℕ, ◌+◌, ◌-◌, ◌<◌, ◌≤◌, eqb, leb, ltb, length, drop, None, Ok, Err}
 use Rattle.std.proofs.Common.{sym, ap, ◌∙◌, inl, inr, arith, length-append, length-drop}
 use Rattle.std.proofs.Common.{eqb-true, leb-true, leb-false, ltb-true, le-leb, eq-eqb, ne_eqb, lt-ltb}
 use Rattle.std.proofs.Math.ListN.{get_or-append}
 use Rattle.std.proofs.lemmas.Bool.{lt-leb}
-use Rattle.turn_file.specs.declared.Read.TheVariants.{End, Refused}
+use Rattle.turn_file.specs.declared.Unreadable.{Unreadable}
+use Rattle.turn_file.specs.declared.Unreadable.TheVariants.{UnknownMark, CutShort}
 use Rattle.turn_file.specs.Fields.{byte_at, two_at, four_at, shape_at, arrival_at}
-use Rattle.turn_file.specs.Records.{Record, size_of}
+use Rattle.turn_file.specs.declared.Record.{Record}
+use Rattle.turn_file.specs.Records.{size_of}
 use Rattle.turn_file.proofs.Records.{by_mark, size_least, size_most}
 use Rattle.turn_file.specs.Reading.{fields_at, whole, marked_at, record_at}
 use Rattle.turn_file.proofs.FrontFields.{mark_front, fields_front}
@@ -24,13 +26,13 @@ module _ (t more : List ℕ) where
   byte_more : (k : ℕ) → k < length t → byte_at (t ++ more) k ≡ byte_at t k
   byte_more k h = get_or-append t more 0 k h
 
-  two_more : (k : ℕ) → k + 1 < length t → two_at (t ++ more) k ≡ two_at t k
+  pub two_more : (k : ℕ) → k + 1 < length t → two_at (t ++ more) k ≡ two_at t k
   two_more k h = cc (byte_more k (omega arith), byte_more (k + 1) h)
 
   four_more : (k : ℕ) → k + 3 < length t → four_at (t ++ more) k ≡ four_at t k
   four_more k h = cc (two_more k (omega arith), two_more (k + 2) (omega arith))
 
-  abbrev Same : ℕ → Type 0
+  abbrev pub Same : ℕ → Type 0
   Same mark = size_of mark ≤ length t → fields_at (t ++ more) 0 mark ≡ fields_at t 0 mark
 
   opening_more : 9 ≤ length t → shape_at (t ++ more) 0 ≡ shape_at t 0
@@ -41,7 +43,7 @@ module _ (t more : List ℕ) where
   unfolding arrival_at
   arrival_more h = cc (four_more 3 (omega arith), two_more 7 (omega arith), byte_more 9 (omega arith), two_more 10 (omega arith))
 
-  fields_more : (mark : ℕ) → 0 < size_of mark → Same mark
+  pub fields_more : (mark : ℕ) → 0 < size_of mark → Same mark
   unfolding size_of fields_at
   fields_more =
       by_mark Same
@@ -50,7 +52,7 @@ module _ (t more : List ℕ) where
       (λ h. cc (byte_more 2 (omega arith)))
       (λ h. cc (byte_more 2 (omega arith)))
 
-pub at_end : (s : List ℕ) (at : ℕ) → record_at s at ≡ End → length s ≤ at
+pub at_end : (s : List ℕ) (at : ℕ) → record_at s at ≡ Ok None → length s ≤ at
 unfolding record_at marked_at
 at_end s at =
     go (leb (length s) at) refl (leb (length s) (at + 1)) (eqb (size_of (two_at s at)) 0) (ltb (length s) (at + size_of (two_at s at)))
@@ -58,35 +60,37 @@ at_end s at =
     (at + size_of (two_at s at))
   where
     go : (a : Bool) → leb (length s) at ≡ a → (b c d : Bool) (r : Record) (next : ℕ)
-        → cond a End (cond b (Refused 8) (cond c (Refused 7) (cond d (Refused 8) (whole r next)))) ≡ End → length s ≤ at
+        → cond a (Ok None) (cond b (Err CutShort) (cond c (Err UnknownMark) (cond d (Err CutShort) (whole r next)))) ≡ Ok None → length s ≤ at
     go true e b c d r next f = leb-true (length s) at e
-    go false e true c d r next f = absurd (let z : ◌≡◌ {A = ℕ} 0 1 = cc in omega arith)
-    go false e false true d r next f = absurd (let z : ◌≡◌ {A = ℕ} 0 1 = cc in omega arith)
-    go false e false false true r next f = absurd (let z : ◌≡◌ {A = ℕ} 0 1 = cc in omega arith)
+    go false e true c d r next f = absurd cc
+    go false e false true d r next f = absurd cc
+    go false e false false true r next f = absurd cc
     go false e false false false r next f = absurd (not_end_lem r next (sym f))
 
-pub why_refused : (s : List ℕ) (at k : ℕ) → record_at s at ≡ Refused k → ((k ≡ 7) × Unknown s at) ⊎ ((k ≡ 8) × Cut s at)
+pub why_refused : (s : List ℕ) (at : ℕ) (why : Unreadable) → record_at s at ≡ Err why
+    → ((why ≡ UnknownMark) × Unknown s at) ⊎ ((why ≡ CutShort) × Cut s at)
 unfolding record_at marked_at
-why_refused s at k =
+why_refused s at why =
     go (leb (length s) at) refl (leb (length s) (at + 1)) refl (eqb (size_of (two_at s at)) 0) refl (ltb (length s) (at + size_of (two_at s at))) refl
     (fields_at s at (two_at s at)) (at + size_of (two_at s at))
   where
     go : (a : Bool) → leb (length s) at ≡ a → (b : Bool) → leb (length s) (at + 1) ≡ b → (c : Bool) → eqb (size_of (two_at s at)) 0 ≡ c → (d : Bool)
         → ltb (length s) (at + size_of (two_at s at)) ≡ d → (r : Record) (next : ℕ)
-        → cond a End (cond b (Refused 8) (cond c (Refused 7) (cond d (Refused 8) (whole r next)))) ≡ Refused k → ((k ≡ 7) × Unknown s at) ⊎ ((k ≡ 8) × Cut s at)
-    go true p b q c u d v r next e = absurd (let z : ◌≡◌ {A = ℕ} 0 1 = cc in omega arith)
-    go false p true q c u d v r next e = let j : 8 ≡ k = cc in inr (sym j, inl (omega (arith, leb-false (length s) at p, leb-true (length s) (at + 1) q)))
-    go false p false q true u d v r next e = let j : 7 ≡ k = cc in inl (sym j, (leb-false (length s) (at + 1) q, eqb-true (size_of (two_at s at)) 0 u))
+        → cond a (Ok None) (cond b (Err CutShort) (cond c (Err UnknownMark) (cond d (Err CutShort) (whole r next)))) ≡ Err why
+        → ((why ≡ UnknownMark) × Unknown s at) ⊎ ((why ≡ CutShort) × Cut s at)
+    go true p b q c u d v r next e = absurd cc
+    go false p true q c u d v r next e = inr (cc, inl (omega (arith, leb-false (length s) at p, leb-true (length s) (at + 1) q)))
+    go false p false q true u d v r next e = inl (cc, (leb-false (length s) (at + 1) q, eqb-true (size_of (two_at s at)) 0 u))
     go false p false q false u true v r next e =
-        let j : 8 ≡ k = cc in inr (sym j, inr (leb-false (length s) (at + 1) q, ltb-true (length s) (at + size_of (two_at s at)) v))
-    go false p false q false u false v r next e = absurd (not_refused k r next (sym e))
+        inr (cc, inr (leb-false (length s) (at + 1) q, ltb-true (length s) (at + size_of (two_at s at)) v))
+    go false p false q false u false v r next e = absurd (not_refused why r next (sym e))
 
-pub unknown_refused : (s : List ℕ) (at : ℕ) → Unknown s at → record_at s at ≡ Refused 7
+pub unknown_refused : (s : List ℕ) (at : ℕ) → Unknown s at → record_at s at ≡ Err UnknownMark
 unfolding record_at marked_at
 unknown_refused s at h =
     rw (lt-leb (length s) at (omega (arith, h.0)), lt-leb (length s) (at + 1) (omega (arith, h.0)), eq-eqb (size_of (two_at s at)) 0 h.1)
 
-pub cut_refused : (s : List ℕ) (at : ℕ) → Cut s at → record_at s at ≡ Refused 8
+pub cut_refused : (s : List ℕ) (at : ℕ) → Cut s at → record_at s at ≡ Err CutShort
 unfolding record_at marked_at
 cut_refused s at (inl h) = rw (lt-leb (length s) at (omega arith), le-leb (length s) (at + 1) (omega arith))
 cut_refused s at (inr h) =

@@ -5,7 +5,8 @@ use Rattle.std.proofs.Common.{sym, ap, ◌∙◌, append_assoc, arith, length-ap
 use Rattle.std.proofs.Math.Seq.{slice, drop-append_seam}
 use Rattle.laws.specs.Lists.{drop_take}
 use Rattle.turn_file.specs.Fields.{two_at}
-use Rattle.turn_file.specs.Records.{Record, size_of}
+use Rattle.turn_file.specs.declared.Record.{Record}
+use Rattle.turn_file.specs.Records.{size_of}
 use Rattle.turn_file.proofs.Records.{size_least}
 use Rattle.turn_file.specs.Reading.{fields_at, whole, record_at}
 use Rattle.turn_file.specs.Encoding.{encode, Fits}

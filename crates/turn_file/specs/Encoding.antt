@@ -2,7 +2,9 @@
 -- Assumes nothing.
 use Rattle.std.specs.Prelude.{List, [], ◌∷◌, ◌++◌, ℕ, ◌/◌, ◌%◌, ◌<◌, ◌^◌}
 use Rattle.arrival.specs.declared.Action.TheVariants.{Enqueue, Dequeue, Step}
-use Rattle.turn_file.specs.Records.{Record, opens, acts, OP, PU, TA, TU}
+use Rattle.turn_file.specs.declared.Record.{Record}
+use Rattle.turn_file.specs.declared.Record.TheVariants.{Open, Act}
+use Rattle.turn_file.specs.Records.{OP, PU, TA, TU}
 
 -- A number in one, two and four bytes, little-endian.
 abbrev pub one : ℕ → List ℕ
@@ -15,20 +17,20 @@ abbrev pub four : ℕ → List ℕ
 four x = two x ++ two (x / 65536)
 
 unfoldable pub encode : Record → List ℕ
-encode (opens shape) = two OP ++ one shape.workers ++ two shape.nodes ++ two shape.buckets ++ two shape.width
-encode (acts (Enqueue worker arrival)) =
+encode (Open shape) = two OP ++ one shape.workers ++ two shape.nodes ++ two shape.buckets ++ two shape.width
+encode (Act (Enqueue worker arrival)) =
     two PU ++ one worker ++ four arrival.time ++ two arrival.path ++ one arrival.order ++ two arrival.distance
-encode (acts (Dequeue worker)) = two TA ++ one worker
-encode (acts (Step worker)) = two TU ++ one worker
+encode (Act (Dequeue worker)) = two TA ++ one worker
+encode (Act (Step worker)) = two TU ++ one worker
 
 -- Every field fits its width.
 unfoldable pub Fits : Record → Type 0
-Fits (opens shape) = (shape.workers < 2 ^ 8) × (shape.nodes < 2 ^ 16) × (shape.buckets < 2 ^ 16) × (shape.width < 2 ^ 16)
-Fits (acts (Enqueue worker arrival)) =
+Fits (Open shape) = (shape.workers < 2 ^ 8) × (shape.nodes < 2 ^ 16) × (shape.buckets < 2 ^ 16) × (shape.width < 2 ^ 16)
+Fits (Act (Enqueue worker arrival)) =
     (worker < 2 ^ 8)
     × (arrival.time < 2 ^ 32)
     × (arrival.path < 2 ^ 16)
     × (arrival.order < 2 ^ 8)
     × (arrival.distance < 2 ^ 16)
-Fits (acts (Dequeue worker)) = worker < 2 ^ 8
-Fits (acts (Step worker)) = worker < 2 ^ 8
+Fits (Act (Dequeue worker)) = worker < 2 ^ 8
+Fits (Act (Step worker)) = worker < 2 ^ 8

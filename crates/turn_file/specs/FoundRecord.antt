@@ -2,7 +2,8 @@
 -- Assumes nothing.
 use Rattle.std.specs.Prelude.{◌≡◌, List, ℕ, ◌+◌, ◌<◌, ◌≤◌, length}
 use Rattle.turn_file.specs.Fields.{two_at}
-use Rattle.turn_file.specs.Records.{Record, size_of}
+use Rattle.turn_file.specs.declared.Record.{Record}
+use Rattle.turn_file.specs.Records.{size_of}
 use Rattle.turn_file.specs.Reading.{fields_at}
 
 pub record Found (s : List ℕ) (at : ℕ) (r : Record) (next : ℕ) : Type 0 where

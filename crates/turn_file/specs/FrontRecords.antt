@@ -6,7 +6,9 @@
 use Rattle.std.specs.Prelude.{List, ℕ, ◌<◌}
 use Rattle.arrival.specs.declared.Action.TheVariants.{Enqueue, Dequeue, Step}
 use Rattle.turn_file.specs.Fields.{byte_at}
-use Rattle.turn_file.specs.Records.{Record, opens, acts, OP, PU, TA, TU}
+use Rattle.turn_file.specs.declared.Record.{Record}
+use Rattle.turn_file.specs.declared.Record.TheVariants.{Open, Act}
+use Rattle.turn_file.specs.Records.{OP, PU, TA, TU}
 
 -- Each element is a byte.
 abbrev pub Bytes : List ℕ → Type 0
@@ -14,7 +16,7 @@ Bytes s = (k : ℕ) → byte_at s k < 256
 
 -- The other way: the mark, the size and the fields of an encoded record.
 abbrev pub mark_of : Record → ℕ
-mark_of (opens shape) = OP
-mark_of (acts (Enqueue worker arrival)) = PU
-mark_of (acts (Dequeue worker)) = TA
-mark_of (acts (Step worker)) = TU
+mark_of (Open shape) = OP
+mark_of (Act (Enqueue worker arrival)) = PU
+mark_of (Act (Dequeue worker)) = TA
+mark_of (Act (Step worker)) = TU

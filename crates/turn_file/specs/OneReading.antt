@@ -2,7 +2,7 @@
 -- Assumes nothing.
 use Rattle.std.specs.Prelude.{◌≡◌, List, ℕ, ◌+◌, ◌≤◌, length}
 use Rattle.std.proofs.Math.Seq.{slice}
-use Rattle.turn_file.specs.Records.{Record}
+use Rattle.turn_file.specs.declared.Record.{Record}
 use Rattle.turn_file.specs.Encoding.{encode, Fits}
 
 -- The record stands in `s` from `at` up to `next`, byte for byte.

@@ -1,12 +1,6 @@
--- The records of a turn file, their marks and their sizes.
+-- The marks of a turn file's records, and the records' sizes.
 -- Assumes nothing.
 use Rattle.std.specs.Prelude.{cond, ℕ, ◌+◌, ◌*◌, eqb}
-use Rattle.arrival.specs.declared.Shape.{Shape}
-use Rattle.arrival.specs.declared.Action.{Action}
-
-pub data Record : Type 0 where
-  opens : Shape → Record
-  acts : Action → Record
 
 -- A mark: two ASCII letters, as a little-endian number.
 abbrev pub OP : ℕ

@@ -1,55 +1,42 @@
-// The fields of a record, little-endian.
-// Assumes that the caller has tested the length, as each `requires` says.
-ghost use Rattle.std.specs.Prelude.{◌≡◌, ◌+◌, ◌≤◌, ◌<◌, length};
-ghost use Rattle.turn_file.specs.Fields.{byte_at, two_at, four_at, shape_at, arrival_at};
+// The fields of a record, little-endian, from its bytes.
+ghost use Rattle.std.specs.Prelude.{◌≡◌};
+ghost use Rattle.turn_file.specs.Fields.{byte_at, shape_at, arrival_at};
+ghost use Rattle.arrival.specs.declared.Action.TheVariants.{Enqueue};
 
-use arrival::{Arrival, Shape};
+use arrival::{Action, Arrival, Shape};
 
-pub fn byte_at(bytes: &[u8], at: usize) -> u64
-    requires { at < length bytes.now }
-    ensures { (result ≡ byte_at bytes.now at) × (result < 256) }
-{
-    bytes[at] as u64
-}
-
-pub fn two_at(bytes: &[u8], at: usize) -> u64
-    requires { at + 2 ≤ length bytes.now }
-    ensures { (result ≡ two_at bytes.now at) × (result < 65536) }
-{
-    byte_at(bytes, at) + 256 * byte_at(bytes, at + 1)
-}
-
-pub fn four_at(bytes: &[u8], at: usize) -> u64
-    requires { at + 4 ≤ length bytes.now }
-    ensures { (result ≡ four_at bytes.now at) × (result < 4294967296) }
-{
-    two_at(bytes, at) + 65536 * two_at(bytes, at + 2)
-}
-
-// The shape in an `OP` record that starts at `at`.
+// The shape in an `OP` record.
 #[tactic(auto, unfolding(crate::specs::Fields::shape_at))]
-pub fn shape_at(bytes: &[u8], at: usize) -> Shape
-    requires { at + 9 ≤ length bytes.now }
-    ensures { result ≡ shape_at bytes.now at }
+pub fn shape_of(bytes: &[u8; 9]) -> Shape
+    ensures { result ≡ shape_at bytes.now 0 }
 {
+    let [_, _, workers, n0, n1, b0, b1, w0, w1] = *bytes;
     Shape {
-        workers: byte_at(bytes, at + 2),
-        nodes: two_at(bytes, at + 3),
-        buckets: two_at(bytes, at + 5),
-        width: two_at(bytes, at + 7),
+        workers: workers as u64,
+        nodes: u16::from_le_bytes([n0, n1]) as u64,
+        buckets: u16::from_le_bytes([b0, b1]) as u64,
+        width: u16::from_le_bytes([w0, w1]) as u64,
     }
 }
 
-// The arrival in a `PU` record that starts at `at`.
+// The put start in a `PU` record.
 #[tactic(auto, unfolding(crate::specs::Fields::arrival_at))]
-pub fn arrival_at(bytes: &[u8], at: usize) -> Arrival
-    requires { at + 12 ≤ length bytes.now }
-    ensures { result ≡ arrival_at bytes.now at }
+pub fn enqueue_of(bytes: &[u8; 12]) -> Action
+    ensures { result ≡ Enqueue (byte_at bytes.now 2) (arrival_at bytes.now 0) }
 {
-    Arrival {
-        time: four_at(bytes, at + 3) as u32,
-        path: two_at(bytes, at + 7) as u32,
-        order: byte_at(bytes, at + 9) as u32,
-        distance: two_at(bytes, at + 10) as u32,
-    }
+    let [_, _, worker, t0, t1, t2, t3, p0, p1, order, d0, d1] = *bytes;
+    let arrival = Arrival {
+        time: u32::from_le_bytes([t0, t1, t2, t3]),
+        path: u16::from_le_bytes([p0, p1]) as u32,
+        order: order as u32,
+        distance: u16::from_le_bytes([d0, d1]) as u32,
+    };
+    Action::Enqueue(worker as u64, arrival)
+}
+
+// The worker in a record that has no other field.
+pub fn worker_of(bytes: &[u8; 3]) -> u64
+    ensures { result ≡ byte_at bytes.now 2 }
+{
+    bytes[2] as u64
 }

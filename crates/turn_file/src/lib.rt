@@ -5,84 +5,60 @@
 mod fields;
 mod lines;
 
-ghost use Rattle.std.specs.Prelude.{◌≡◌, ◌+◌, ◌≤◌, ◌<◌, length};
-ghost use Rattle.turn_file.specs.Records.{size_of};
-ghost use Rattle.turn_file.specs.Reading.{fields_at, whole, record_at};
+ghost use Rattle.std.specs.Prelude.{◌≡◌, ◌+◌, ◌≤◌, ◌<◌, length, take, MatchResult};
+ghost use Rattle.turn_file.specs.declared.Unreadable.TheVariants.{CutShort};
+ghost use Rattle.turn_file.specs.Reading.{number_of, record_at};
 ghost use Rattle.arrival.specs.declared.Response.TheVariants.{Opened, Refused};
 ghost use Rattle.turn_file.specs.Lines.{line_of};
 ghost use Rattle.turn_file.specs.Buffer.{written, after};
 
 use arrival::{Action, Response, Shape};
 
-// What stands at a position: an opening or an action, with the position after it; the end; or a refusal, by its number.
-#[derive(Drop)]
-pub enum Read {
-    Open(Shape, usize),
-    Act(Action, usize),
-    End,
-    Refused(u64),
+// A record: an opening with this shape, or an action of a worker.
+#[derive(Clone, Copy)]
+pub enum Record {
+    Open(Shape),
+    Act(Action),
 }
 
-// The marks: two letters as a little-endian number.
-const OP: u64 = 0x504f;
+// Why no record can be read: its two letters are no mark, or the bytes end inside it. Each is numbered as the refusal that it is.
+#[derive(Clone, Copy, Debug, PartialEq, Eq)]
+pub enum Unreadable {
+    UnknownMark = 7,
+    CutShort = 8,
+}
 
-const PU: u64 = 0x5550;
+impl From<Unreadable> for u64 {
+    ghost from_gives = { λ why number. number ≡ number_of why };
 
-const TA: u64 = 0x4154;
+    fn from(why: Unreadable) -> u64 {
+        why as u64
+    }
+}
 
-const TU: u64 = 0x5554;
-
-// How many bytes a record has, with its mark; 0 for an unknown mark.
-#[tactic(auto, unfolding(crate::specs::Records::size_of))]
-fn record_size(mark: u64) -> usize
-    ensures { result ≡ size_of mark }
+// The first bytes of what is left, as many as a record has.
+fn front<const N: usize>(left: &[u8]) -> Result<&[u8; N], Unreadable>
+    ensures { MatchResult result (λ front. (N ≤ length left.now) × (front.now ≡ take N left.now)) (λ why. (why ≡ CutShort) × (length left.now < N)) }
 {
-    match mark {
-        OP => 9,
-        PU => 12,
-        TA => 3,
-        TU => 3,
-        _ => 0,
-    }
+    left.first_chunk().ok_or(Unreadable::CutShort)
 }
 
-// The record of a known mark, of which every byte is there.
-#[tactic(auto, using(crate::proofs::Records::size_least), unfolding(crate::specs::Records::size_of, crate::specs::Reading::fields_at))]
-fn record_of(bytes: &[u8], at: usize, mark: u64, next: usize) -> Read
-    requires { (0 < size_of mark) × (at + size_of mark ≤ length bytes.now) }
-    ensures { result ≡ whole (fields_at bytes.now at mark) next }
-{
-    if mark == OP {
-        return Read::Open(fields::shape_at(bytes, at), next);
-    }
-    let worker = fields::byte_at(bytes, at + 2);
-    match mark {
-        PU => Read::Act(Action::Enqueue(worker, fields::arrival_at(bytes, at)), next),
-        TA => Read::Act(Action::Dequeue(worker), next),
-        _ => Read::Act(Action::Step(worker), next),
-    }
-}
-
-// The record at a position, wherever that is.
-#[tactic(auto, using(crate::proofs::Records::size_most), unfolding(crate::specs::Reading::record_at, crate::specs::Reading::marked_at))]
-pub fn read_record(bytes: &[u8], at: usize) -> Read
+// The record at a position, wherever that is, and the position after it; none at the end.
+pub fn read_record(bytes: &[u8], at: usize) -> Result<Option<(Record, usize)>, Unreadable>
     ensures { result ≡ record_at bytes.now at }
 {
     if bytes.len() <= at {
-        return Read::End;
+        return Ok(None);
     }
-    if bytes.len() <= at + 1 {
-        return Read::Refused(8);
-    }
-    let mark = fields::two_at(bytes, at);
-    let size = record_size(mark);
-    if size == 0 {
-        return Read::Refused(7);
-    }
-    if bytes.len() < at + size {
-        return Read::Refused(8);
-    }
-    record_of(bytes, at, mark, at + size)
+    let left = &bytes[at..];
+    let (record, size) = match front(left)? {
+        b"OP" => (Record::Open(fields::shape_of(front(left)?)), 9),
+        b"PU" => (Record::Act(fields::enqueue_of(front(left)?)), 12),
+        b"TA" => (Record::Act(Action::Dequeue(fields::worker_of(front(left)?))), 3),
+        b"TU" => (Record::Act(Action::Step(fields::worker_of(front(left)?))), 3),
+        _ => return Err(Unreadable::UnknownMark),
+    };
+    Ok(Some((record, at + size)))
 }
 
 // Writes a response's line at a position of a lent buffer: the position after it. Where it does not fit, nothing is

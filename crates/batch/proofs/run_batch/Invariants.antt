@@ -6,10 +6,10 @@ use Rattle.batch.proofs.run_batch.Given as goal
 
 abbrev pub invariant-loop-at : goal.invariant-loop-at
 invariant-loop-at l = record {
-  going : Going l.input (begins l.initial.work.pool l.initial.store l.initial.at l.initial.out l.initial.to) l.initial.work.pool.held
+  going : Going l.input (begins l.fn.pool l.initial.store l.initial.at l.initial.out l.initial.to) l.fn.pool.held
       (begins l.work.pool l.store l.at l.out l.to) l.work.pool.held l.work.pool.sound;
   sound : Sound l.work.pool l.store;
-  records : l.work.pool.records ≡ l.initial.work.pool.records;
+  records : l.work.pool.records ≡ l.fn.pool.records;
 }
 
 abbrev pub decreases-loop-at : goal.decreases-loop-at

@@ -3,7 +3,7 @@ use Rattle.std.proofs.Common.{rules, ◌≡◌, sym, ap, ◌∙◌, arith, ℕ, 
 use Rattle.std.proofs.Math.Path.{subst, subst⁻¹}
 use Rattle.calendar.specs.rules.Ranges.{blank, worker}
 use Rattle.stages.specs.Ready.{Ready}
-use Rattle.operation.specs.LocalAct.{Admitted}
+use Rattle.operation.specs.LocalAct.{local_act}
 use Rattle.operation.proofs.LocalAct.{ready}
 use Rattle.batch.proofs.OneRecord.{few_workers, below_64, let_in, refused_act, did_act}
 use Rattle.batch.proofs.TicketLaws.{stored_ticket}
@@ -81,6 +81,8 @@ unfolding blank
 returns c =
     let a = c.args in
     let d = a.self.now.pool in
+    let done = c.perform-reply.ensures
+    ∙ ap (λ (low : ℕ). local_act d.shape low a.store.now a.action (worker d.table c.actor-i.result)) c.low_for-low.ensures.0 in
     rw (c.action_leaks.ensures, c.actor-i.ensures)
     (did_act d a.store.now c.requires a.action _ (rw c.actor-i.ensures at c.gate-k.ensures) c.if-k-ne0.false a.self.now.tickets a.self.now.beside
-    c.perform-reply.new.store c.perform-reply.result.worker c.perform-reply.result.response ?)
+    c.perform-reply.new.store c.perform-reply.result.worker c.perform-reply.result.response (rw c.actor-i.ensures at done))

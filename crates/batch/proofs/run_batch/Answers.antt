@@ -1,0 +1,57 @@
+-- Each round is a record more (proofs/OneRecord), and each of the three ends is the definition's (proofs/BatchLoop).
+use Rattle.std.proofs.Common.{◌≡◌, sym, ap, ◌∙◌, arith}
+use Rattle.std.proofs.Math.Path.{subst⁻¹}
+use Rattle.turn_file.proofs.OneReading.{read_on}
+use Rattle.batch.specs.declared.HeldPool.{HeldPool}
+use Rattle.batch.specs.declared.Stop.{Stop}
+use Rattle.batch.specs.Batch.{Stopped}
+use Rattle.batch.specs.BatchLoop.{Going}
+use Rattle.batch.specs.CodeView.{Sound, begins}
+use Rattle.batch.proofs.BatchLoop.{going, drained, halted, full}
+use Rattle.batch.proofs.OneRecord.{goes_on}
+use Rattle.batch.proofs.run_batch.Goals as goal
+use Rattle.batch.proofs.run_batch.Goals.{then-not-has_room, else-not-has_room+in-Ok-None, else-not-has_room+in-Err}
+
+pub loop-at-init : goal.loop-at-init
+loop-at-init c =
+    let a = c.args in
+    let s = a.store.now in
+    subst⁻¹ (λ (d : HeldPool). record {
+      going : Going a.input.now (begins a.pool s a.at a.out.now a.to) a.pool.held (begins d s a.at a.out.now a.to) d.held d.sound;
+      sound : Sound d s;
+      records : d.records ≡ a.pool.records;
+    }) c.new-work.ensures (record { going = going _ _ _ _ c.requires.2; sound = c.requires; records = λ _. a.pool.records })
+
+pub loop-at-smaller : goal.loop-at-smaller
+loop-at-smaller c =
+    let read = rw c.in-Ok-Some.field-0-is at c.in-Ok-Some.ensures in
+    let (on, end) = read_on c.args.input.now c.loop-at.at c.in-Ok-Some.found c.in-Ok-Some.next (sym read) in
+    omega arith
+
+pub loop-at-preserved : goal.loop-at-preserved
+loop-at-preserved c =
+    let inv = c.loop-at.invariant in
+    let D = c.answer-response.ensures in
+    record {
+      going = goes_on inv.going (sym c.has_room.ensures ∙ c.if-not-has_room.false) _ _ (rw c.in-Ok-Some.field-0-is at c.in-Ok-Some.ensures) D c.write_line-to.ensures;
+      sound = D.sound;
+      records = D.records ∙ inv.records;
+    }
+
+pub returns : goal.returns
+returns c =
+    let l = c.loop-at in
+    let G = l.invariant.going in
+    let room = c.has_room.ensures in
+    let left : Stop → Stopped = λ stop. record { progress = begins l.work.pool l.store l.at l.out l.to; stop = stop } in
+    elim c.if-not-has_room.branch [
+      | then-not-has_room w ↦
+          let (same, holds) = full _ _ _ _ _ _ G (sym room ∙ w.if-not-has_room.true) in
+          (ap left w.stop-is ∙ same, l.invariant.sound, l.invariant.records, holds)
+      | else-not-has_room+in-Ok-None w ↦
+          let (same, holds) = drained _ _ _ _ _ _ G (sym room ∙ w.if-not-has_room.false) (rw w.in-Ok-None.field-0-is at w.in-Ok-None.ensures) in
+          (ap left w.stop-is ∙ same, l.invariant.sound, l.invariant.records, holds)
+      | else-not-has_room+in-Err w ↦
+          let (same, holds) = halted _ _ _ _ _ _ G (sym room ∙ w.if-not-has_room.false) w.in-Err.why w.in-Err.ensures in
+          (ap left w.stop-is ∙ same, l.invariant.sound, l.invariant.records, holds)
+    ]
