@@ -1,5 +1,5 @@
 -- One record of the file on a held pool: what the code does is what the definition says. Assumes nothing.
---     below_64, let_in              what a gate that refuses nothing tells
+--     few_workers, let_in           what a gate that refuses nothing tells
 --     small_shape                   what an opening that is not refused tells
 --     refused_act, did_act          a start or turn
 --     refused_open, did_open        an opening
@@ -8,6 +8,7 @@ use Rattle.std.specs.Prelude.{◌≡◌, refl, List, ◌++◌, true, not, ◌≢
 use Rattle.std.proofs.Math.Path.{sym, ap, subst⁻¹}
 use Rattle.std.proofs.Common.{◌∙◌, subst, arith, length-set, length-take-le, get_or-take}
 use Rattle.std.proofs.Math.Seq.{take-set-lt}
+use Rattle.std.proofs.lemmas.List.{set-get_or}
 use borrow.Author.Tests.{eq-eqb, ne_eqb}
 use Rattle.arrival.specs.declared.Shape.{Shape}
 use Rattle.arrival.specs.declared.Worker.{Worker}
@@ -29,7 +30,7 @@ use Rattle.operation.specs.Leaks.{action_leaks}
 use Rattle.operation.proofs.LeakLaws.{act_watched}
 use Rattle.admission.specs.Watched.{Watched}
 use Rattle.admission.proofs.Watched.{opened_sound}
-use Rattle.admission.specs.Gate.{gate_of, open_gate}
+use Rattle.admission.specs.Gate.{gate_of, open_gate, open_response}
 use Rattle.admission.proofs.GateLaws.{gate_opens, open_gate_is, usable, refused_is}
 use Rattle.laws.specs.Storing.{over_taken}
 use Rattle.turn_file.specs.Lines.{line_of}
@@ -43,11 +44,13 @@ use Rattle.batch.specs.Held.{greater}
 use Rattle.batch.specs.Tickets.{tickets_of, low_for}
 use Rattle.batch.proofs.TicketLaws.{low_is}
 use Rattle.batch.proofs.LentPart.{least_taken, over_length}
+use Rattle.batch.specs.ActHeld.{place_of}
+use Rattle.batch.proofs.ActHeld.{own_place}
 use Rattle.batch.specs.BatchLoop.{Going}
 use Rattle.batch.proofs.BatchLoop.{go_on}
 use Rattle.batch.specs.CodeView.{Sound, lent_records, lent_to, begins}
 use Rattle.batch.specs.RoundArms.{Line}
-use Rattle.batch.specs.OneRecord.{pool_of, Does}
+use Rattle.batch.specs.OneRecord.{pool_of, with_record, Does}
 
 module _ (d : HeldPool) (s : List ℕ) (S : Sound d s) where
   counted : d.records ≡ length (take d.records d.table)
@@ -60,23 +63,26 @@ module _ (d : HeldPool) (s : List ℕ) (S : Sound d s) where
   open_gate_here sh = ap (open_gate sh (length s)) counted ∙ open_gate_is sh (lent_to d s)
 
   -- ── a start or turn ──
-  pub refused_act : (a : Action) (k : ℕ) → k ≡ gate_of d.shape (length s) d.records (actor a) d.sound → k ≢ 0 → Does (Act a) d s (Refused k) d s
-  refused_act a k is n =
+  pub refused_act : (a : Action) (k : ℕ) → k ≡ gate_of d.shape (length s) d.records (actor a) d.sound → k ≢ 0 → (i : ℕ)
+      → Does (Act a) d s (Refused k) (with_record d i (worker d.table i)) s
+  refused_act a k is n i =
       let g = is ∙ gate_here (actor a) in
       let r : record { memory = lent_to d s; response = Refused k } ≡ act d.shape (lent_to d s) a =
       ap (λ (j : ℕ). record { memory = lent_to d s; response = Refused j }) g ∙ refused_is d.shape (lent_to d s) d.sound S.2 a (λ z. n (g ∙ z)) in
-      record {
+      subst⁻¹ (λ (t : List Worker). Does (Act a) d s (Refused k) (record { shape = d.shape; sound = d.sound; records = d.records; held = d.held; table = t }) s)
+      (set-get_or d.table i blank)
+      (record {
         pool = λ j. record { shape = d.shape; memory = (r j).memory };
         response = ap (λ (x : Result). x.response) r;
         held = refl;
         records = refl;
         sound = S;
-      }
+      })
 
   -- a gate that refuses nothing
-  module _ (a : Action) (k : ℕ) (is : k ≡ gate_of d.shape (length s) d.records (actor a) d.sound) (z : k ≡ 0) where
+  module _ (a : Action) (z : gate_of d.shape (length s) d.records (actor a) d.sound ≡ 0) where
     passes : gate_of d.shape (length s) (length (take d.records d.table)) (actor a) d.sound ≡ 0
-    passes = sym (gate_here (actor a)) ∙ sym is ∙ z
+    passes = sym (gate_here (actor a)) ∙ z
 
     in_use : Usable d.shape s (take d.records d.table) (actor a)
     in_use = usable d.shape (lent_to d s) d.sound S.2 (actor a) passes
@@ -84,8 +90,8 @@ module _ (d : HeldPool) (s : List ℕ) (S : Sound d s) where
     pub few_workers : d.shape.workers ≤ 64
     few_workers = in_use.lent.limits.workers
 
-    pub below_64 : actor a < 64
-    below_64 = omega (arith, in_use.exists, few_workers)
+    at_place : place_of a ≡ actor a
+    at_place = own_place a (omega (arith, in_use.exists, few_workers))
 
     enough : d.shape.workers ≤ d.records
     enough = omega (arith, in_use.lent.table, counted)
@@ -97,8 +103,10 @@ module _ (d : HeldPool) (s : List ℕ) (S : Sound d s) where
     own : worker (take d.records d.table) (actor a) ≡ worker d.table (actor a)
     own = get_or-take d.records d.table (actor a) blank is_lent
 
-    pub let_in : Admitted d.shape s (worker d.table (actor a))
-    let_in = subst (λ (w : Worker). Admitted d.shape s w) own (admitted d.shape s (take d.records d.table) (actor a) in_use)
+    pub let_in : Admitted d.shape s (worker d.table (place_of a))
+    let_in =
+        subst⁻¹ (λ (i : ℕ). Admitted d.shape s (worker d.table i)) at_place
+        (subst (λ (w : Worker). Admitted d.shape s w) own (admitted d.shape s (take d.records d.table) (actor a) in_use))
 
     -- the least ticket of the array's workers is that of the lent ones
     lent_low : (b : Action) (low : ℕ) → LowFor d.shape d.table b low → LowFor d.shape (take d.records d.table) b low
@@ -106,17 +114,20 @@ module _ (d : HeldPool) (s : List ℕ) (S : Sound d s) where
     lent_low (Dequeue i) low e = tt
     lent_low (Step i) low e = tt
 
-    pub did_act : (ts : List ℕ) → ts ≡ tickets_of d.table → (s' : List ℕ) (w' : Worker) (l : Response)
+    -- done to it, and not yet put back
+    abbrev leaving : ℕ → HeldPool
+    leaving i = record {
+      shape = d.shape;
+      sound = not (action_leaks d.shape s a (worker d.table i));
+      records = d.records;
+      held = d.held;
+      table = d.table;
+    }
+
+    done_at : (ts : List ℕ) → ts ≡ tickets_of d.table → (s' : List ℕ) (w' : Worker) (l : Response)
         → record { store = s'; worker = w'; response = l } ≡ local_act d.shape (low_for a ts d.shape.workers) s a (worker d.table (actor a))
-        → Does (Act a) d s l
-        (record {
-          shape = d.shape;
-          sound = not (action_leaks d.shape s a (worker d.table (actor a)));
-          records = d.records;
-          held = d.held;
-          table = set d.table (actor a) w';
-        }) s'
-    did_act ts beside s' w' l e = record {
+        → Does (Act a) d s l (with_record (leaving (actor a)) (actor a) w') s'
+    done_at ts beside s' w' l e = record {
       pool = λ j. record { shape = d.shape; memory = (r j).memory };
       response = ap (λ (x : Result). x.response) r;
       held = refl;
@@ -126,7 +137,7 @@ module _ (d : HeldPool) (s : List ℕ) (S : Sound d s) where
         S.1,
         subst⁻¹ (λ (x : Result). Watched d.shape x.memory (not (action_leaks d.shape s a (worker d.table i)))) r
             (subst⁻¹ (λ (w : Worker). Watched d.shape (act d.shape m a).memory (not (action_leaks d.shape s a w))) (sym own) (act_watched d.shape m d.sound S.2 a passes)),
-        λ up. ap (λ (n : ℕ). open_gate d.shape n d.records) same_length ∙ gate_opens d.shape (length s) d.records i d.sound (sym is ∙ z),
+        λ up. ap (λ (n : ℕ). open_gate d.shape n d.records) same_length ∙ gate_opens d.shape (length s) d.records i d.sound z,
       );
     }
       where
@@ -148,13 +159,20 @@ module _ (d : HeldPool) (s : List ℕ) (S : Sound d s) where
         same_length : length s' ≡ length s
         same_length = ap (λ (x : Result). length x.memory.store) r ∙ (act_same_size d.shape m a).store
 
+    pub did_act : (ts : List ℕ) → ts ≡ tickets_of d.table → (s' : List ℕ) (w' : Worker) (l : Response)
+        → record { store = s'; worker = w'; response = l } ≡ local_act d.shape (low_for a ts d.shape.workers) s a (worker d.table (place_of a))
+        → Does (Act a) d s l (with_record (leaving (place_of a)) (place_of a) w') s'
+    did_act ts beside s' w' l =
+        subst⁻¹ (λ (i : ℕ). record { store = s'; worker = w'; response = l } ≡ local_act d.shape (low_for a ts d.shape.workers) s a (worker d.table i)
+        → Does (Act a) d s l (with_record (leaving i) i w') s') at_place (done_at ts beside s' w' l)
+
   -- ── an opening ──
-  pub refused_open : (sh : Shape) (k : ℕ) → k ≡ open_gate sh (length s) d.records → k ≢ 0 → Does (Open sh) d s (Refused k) d s
+  pub refused_open : (sh : Shape) (k : ℕ) → k ≡ open_gate sh (length s) d.records → k ≢ 0 → Does (Open sh) d s (open_response k) d s
   unfolding open_pool
   refused_open sh k is n =
       let g = is ∙ open_gate_here sh in
       let none = ne_eqb (open_refusal sh s (take d.records d.table)) 0 (λ z. n (g ∙ z)) in
-      record { pool = rw none; response = rw (none, g); held = rw none; records = refl; sound = S }
+      record { pool = rw none; response = rw (ne_eqb k 0 n, none, g); held = rw none; records = refl; sound = S }
 
   module _ (sh : Shape) (k : ℕ) (is : k ≡ open_gate sh (length s) d.records) (z : k ≡ 0) where
     fits : Lent sh s (take d.records d.table)
@@ -165,11 +183,11 @@ module _ (d : HeldPool) (s : List ℕ) (S : Sound d s) where
 
     pub did_open : (s' : List ℕ) → s' ≡ open_store sh s → (t' : List Worker) → t' ≡ replicate sh.workers blank ++ drop sh.workers d.table
         → (h' : ℕ) → h' ≡ greater d.held sh.workers
-        → Does (Open sh) d s Opened (record { shape = sh; sound = true; records = d.records; held = h'; table = t' }) s'
+        → Does (Open sh) d s (open_response k) (record { shape = sh; sound = true; records = d.records; held = h'; table = t' }) s'
     unfolding open_pool open_table
     did_open s' store t' table h' held = record {
       pool = λ j. record { shape = shape j; memory = (r j).memory };
-      response = ap (λ (x : Result). x.response) r;
+      response = rw (eq-eqb k 0 z) (ap (λ (x : Result). x.response) r);
       held = rw (all, held);
       records = refl;
       sound = (

@@ -1,7 +1,9 @@
 -- One record of the file on a held pool, as the code has it. Assumes nothing.
 --     pool_of       the shape so far, and the lent memory
+--     with_record   a record in the array
 --     Does          what a record does to a held pool and the store, and its response
-use Rattle.std.specs.Prelude.{◌≡◌, List, ℕ}
+use Rattle.std.specs.Prelude.{◌≡◌, List, ℕ, set}
+use Rattle.arrival.specs.declared.Worker.{Worker}
 use Rattle.arrival.specs.declared.Response.{Response}
 use Rattle.turn_file.specs.declared.Record.{Record}
 use Rattle.batch.specs.declared.HeldPool.{HeldPool}
@@ -11,6 +13,10 @@ use Rattle.batch.specs.CodeView.{Sound, lent_to}
 
 abbrev pub pool_of : HeldPool → List ℕ → Pool
 pool_of d s = record { shape = d.shape; memory = lent_to d s }
+
+-- the record w at i
+abbrev pub with_record : HeldPool → ℕ → Worker → HeldPool
+with_record d i w = record { shape = d.shape; sound = d.sound; records = d.records; held = d.held; table = set d.table i w }
 
 -- d and s as they were, d' and s' as they are then, with response l
 pub record Does (r : Record) (d : HeldPool) (s : List ℕ) (l : Response) (d' : HeldPool) (s' : List ℕ) : Type 0 where

@@ -1,14 +1,18 @@
 // A batch of a turn file against a pool: whole records in, lines out.
 #![tactic(auto)]
 
-ghost use Rattle.std.specs.Prelude.{◌≡◌, ◌+◌, leb};
+ghost use Rattle.std.specs.Prelude.{◌≡◌, ◌+◌, ◌<◌, leb};
 ghost use Rattle.batch.specs.Batch.{worked_all};
 ghost use Rattle.batch.specs.Held.{held_all};
 ghost use Rattle.batch.specs.CodeView.{begins, ends, Sound};
+ghost use Rattle.batch.specs.RoundArms.{Line};
+ghost use Rattle.batch.specs.ActHeld.{place_of};
+ghost use Rattle.admission.specs.Gate.{open_response};
 
-use arrival::{Shape, Worker};
+use arrival::{Action, Shape, Worker};
+use operation::actor;
 use ticketed::TicketedPool;
-use turn_file::{Unreadable, read_record, write_line};
+use turn_file::{Record, Unreadable, read_record, write_line, write_opened, write_refusal};
 
 pub mod table;
 mod ticketed;
@@ -52,6 +56,23 @@ fn has_room(room: usize, to: usize) -> bool
     to <= room - 89
 }
 
+// Where the record of an action's worker stands; the last place, for a number past the array.
+fn place_of(action: Action) -> usize
+    ensures { (result ≡ place_of action) × (result < 64) }
+{
+    actor(action).min(63) as usize
+}
+
+// The line of an opening that is refused by k, or k is 0.
+fn write_opening(k: u64, out: &mut [u8], to: usize) -> usize
+    ensures { Line out.old to (open_response k) out.new result }
+{
+    if k != 0 {
+        return write_refusal(k, out, to);
+    }
+    write_opened(out, to)
+}
+
 // Works through the records from `at` on and writes their lines from `to` on, while the longest line fits.
 pub fn run_batch(
     pool: HeldPool,
@@ -73,8 +94,18 @@ pub fn run_batch(
         }
         match read_record(input, at) {
             Ok(Some((found, next))) => {
-                let response = work.answer(found, store);
-                to = write_line(response, out, to);
+                match found {
+                    Record::Open(shape) => {
+                        let k = work.open(shape, store);
+                        to = write_opening(k, out, to);
+                    }
+                    Record::Act(action) => {
+                        let i = place_of(action);
+                        let reply = work.act(i, action, store);
+                        to = write_line(reply.response, out, to);
+                        work.put(i, reply.worker);
+                    }
+                }
                 at = next;
             }
             Ok(None) => break Stop::Drained,

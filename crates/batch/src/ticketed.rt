@@ -1,18 +1,20 @@
 // A held pool at work, with the tickets of its calls in progress.
-ghost use Rattle.std.specs.Prelude.{◌≡◌, ◌≤◌};
+ghost use Rattle.std.specs.Prelude.{◌≡◌, ◌≤◌, ◌<◌};
 ghost use Rattle.turn_file.specs.declared.Record.TheVariants.{Open, Act};
 ghost use Rattle.batch.specs.Tickets.{tickets_of, low_for};
 ghost use Rattle.batch.specs.CodeView.{Sound};
-ghost use Rattle.batch.specs.OneRecord.{Does};
+ghost use Rattle.batch.specs.ActHeld.{place_of};
+ghost use Rattle.batch.specs.OneRecord.{Does, with_record};
+ghost use Rattle.admission.specs.Gate.{open_response};
 
 use super::tickets::{least_of, tickets_of};
 use super::{HeldPool, table, tickets};
 use admission::gate;
-use arrival::{Action, Response, Shape};
+use arrival::{Action, Shape, Worker};
 use operation::leaks::action_leaks;
 use operation::{actor, open_lent, perform};
 use starts::free::lower_ticket;
-use turn_file::Record;
+use words::replies::{Reply, refuse};
 use words::word;
 
 // The tickets stand beside the records, one for each.
@@ -42,14 +44,14 @@ impl TicketedPool {
         }
     }
 
-    // An opening.
-    fn open(&mut self, shape: Shape, store: &mut [u64]) -> Response
+    // An opening: the number that refuses it, or 0.
+    pub fn open(&mut self, shape: Shape, store: &mut [u64]) -> u64
         requires { Sound self.old.pool store.old }
-        ensures { Does (Open shape) self.old.pool store.old result self.new.pool store.new }
+        ensures { Does (Open shape) self.old.pool store.old (open_response result) self.new.pool store.new }
     {
         let k = open_lent(shape, self.pool.records, store);
         if k != 0 {
-            return Response::Refused(k);
+            return k;
         }
         let workers = shape.workers as usize;
         table::clear(&mut self.pool.table, workers);
@@ -57,44 +59,36 @@ impl TicketedPool {
         self.pool.held = self.pool.held.max(workers);
         self.pool.shape = shape;
         self.pool.sound = true;
-        Response::Opened
+        k
     }
 
-    // A start or turn.
-    fn act(&mut self, action: Action, store: &mut [u64]) -> Response
-        requires { Sound self.old.pool store.old }
-        ensures { Does (Act action) self.old.pool store.old result self.new.pool store.new }
+    // A start or turn. Its record is handed back, and not yet put back.
+    pub fn act(&mut self, i: usize, action: Action, store: &mut [u64]) -> Reply
+        requires { Sound self.old.pool store.old × (i ≡ place_of action) × (i < 64) }
+        ensures { Does (Act action) self.old.pool store.old result.response (with_record self.new.pool i result.worker) store.new }
     {
         let shape = self.pool.shape;
-        let i = actor(action) as usize;
+        let w = self.pool.table[i];
         let k = gate(
             shape,
             store.len(),
             self.pool.records,
-            i as u64,
+            actor(action),
             self.pool.sound,
         );
         if k != 0 {
-            return Response::Refused(k);
+            return refuse(w, k);
         }
-        let w = self.pool.table[i];
         self.pool.sound = !action_leaks(shape, action, w, store);
-        let low = self.low_for(action);
-        let reply = perform(shape, low, action, w, store);
-        let worker = reply.worker;
-        self.pool.table[i] = worker;
-        self.tickets[i] = lower_ticket(word::COUNTS, worker);
-        reply.response
+        perform(shape, self.low_for(action), action, w, store)
     }
 
-    // What a record of the file does.
-    pub fn answer(&mut self, found: Record, store: &mut [u64]) -> Response
-        requires { Sound self.old.pool store.old }
-        ensures { Does found self.old.pool store.old result self.new.pool store.new }
+    // The record at i, and its ticket.
+    pub fn put(&mut self, i: usize, w: Worker)
+        requires { i < 64 }
+        ensures { self.new.pool ≡ with_record self.old.pool i w }
     {
-        match found {
-            Record::Open(shape) => self.open(shape, store),
-            Record::Act(action) => self.act(action, store),
-        }
+        self.pool.table[i] = w;
+        self.tickets[i] = lower_ticket(word::COUNTS, w);
     }
 }

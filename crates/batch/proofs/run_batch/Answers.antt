@@ -22,20 +22,38 @@ loop-at-init c =
       records : d.records ≡ a.pool.records;
     }) c.new-work.ensures (record { going = going _ _ _ _ c.requires.2; sound = c.requires; records = λ _. a.pool.records })
 
+pub loop-at-smaller-in-Open : goal.loop-at-smaller-in-Open
+loop-at-smaller-in-Open c =
+    let (on, end) = read_on c.args.input.now c.loop-at.at _ _ (sym (rw c.in-Ok-Some.field-0-is at c.in-Ok-Some.ensures)) in
+    omega arith
+
+pub loop-at-preserved-in-Open : goal.loop-at-preserved-in-Open
+loop-at-preserved-in-Open c =
+    let inv = c.loop-at.invariant in
+    let D = c.open-k.ensures in
+    record {
+      going = goes_on inv.going (sym c.has_room.ensures ∙ c.if-not-has_room.false) _ _ (rw (c.in-Ok-Some.field-0-is, c.in-Open.is) at c.in-Ok-Some.ensures) D
+          c.write_opening-to.ensures;
+      sound = D.sound;
+      records = D.records ∙ inv.records;
+    }
+
 pub loop-at-smaller : goal.loop-at-smaller
 loop-at-smaller c =
-    let read = rw c.in-Ok-Some.field-0-is at c.in-Ok-Some.ensures in
-    let (on, end) = read_on c.args.input.now c.loop-at.at c.in-Ok-Some.found c.in-Ok-Some.next (sym read) in
+    let (on, end) = read_on c.args.input.now c.loop-at.at _ _ (sym (rw c.in-Ok-Some.field-0-is at c.in-Ok-Some.ensures)) in
     omega arith
+
+pub act-reply-requires : goal.act-reply-requires
+act-reply-requires c = (c.loop-at.invariant.sound, c.place_of-i.ensures.0, c.place_of-i.ensures.1)
 
 pub loop-at-preserved : goal.loop-at-preserved
 loop-at-preserved c =
     let inv = c.loop-at.invariant in
-    let D = c.answer-response.ensures in
     record {
-      going = goes_on inv.going (sym c.has_room.ensures ∙ c.if-not-has_room.false) _ _ (rw c.in-Ok-Some.field-0-is at c.in-Ok-Some.ensures) D c.write_line-to.ensures;
-      sound = D.sound;
-      records = D.records ∙ inv.records;
+      going = goes_on inv.going (sym c.has_room.ensures ∙ c.if-not-has_room.false) _ _ (rw (c.in-Ok-Some.field-0-is, c.in-Act.is) at c.in-Ok-Some.ensures)
+          (rw (← c.put.ensures) at c.act-reply.ensures) c.write_line-to.ensures;
+      sound = (rw (← c.put.ensures) at c.act-reply.ensures).sound;
+      records = (rw (← c.put.ensures) at c.act-reply.ensures).records ∙ inv.records;
     }
 
 pub returns : goal.returns

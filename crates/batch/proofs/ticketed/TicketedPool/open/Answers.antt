@@ -3,7 +3,7 @@ use Rattle.std.proofs.Common.{◌≡◌, ◌++◌, replicate, drop, sym, ap, ◌
 use Rattle.std.proofs.Math.Path.{subst⁻¹}
 use Rattle.calendar.specs.rules.Opening.{open_store}
 use Rattle.turn_file.specs.declared.Record.TheVariants.{Open}
-use Rattle.arrival.specs.declared.Response.TheVariants.{Refused}
+use Rattle.admission.specs.Gate.{open_response}
 use Rattle.batch.specs.Tickets.{tickets_of}
 use Rattle.batch.specs.OneRecord.{Does}
 use Rattle.batch.proofs.OneRecord.{small_shape, refused_open, did_open}
@@ -16,7 +16,7 @@ returns-then-k-ne0 c =
     let k = c.open_lent-k in
     let none = ne_eqb k.result 0 c.if-k-ne0.true in
     let same = k.ensures.1 ∙ ap (λ (m : ℕ). cond (eqb m 0) (open_store a.shape a.store.now) a.store.now) (sym k.ensures.0) ∙ rw none in
-    subst⁻¹ (λ (s : List ℕ). Does (Open a.shape) a.self.now.pool a.store.now (Refused k.result) a.self.now.pool s) same
+    subst⁻¹ (λ (s : List ℕ). Does (Open a.shape) a.self.now.pool a.store.now (open_response k.result) a.self.now.pool s) same
     (refused_open a.self.now.pool a.store.now c.requires a.shape k.result k.ensures.0 c.if-k-ne0.true)
 
 pub clear-requires : goal.clear-requires
