@@ -10,12 +10,14 @@ ghost use Rattle.batch.specs.ActHeld.{place_of};
 ghost use Rattle.admission.specs.Gate.{open_response};
 
 use arrival::{Action, Shape, Worker};
+use known::Known;
 use operation::actor;
-use ticketed::TicketedPool;
+use records::Records;
 use turn_file::{Record, Unreadable, read_record, write_line, write_opened, write_refusal};
 
+mod known;
+mod records;
 pub mod table;
-mod ticketed;
 pub mod tickets;
 
 // Why a batch was left: every byte is worked through, the next line may not fit, or what follows cannot be read.
@@ -87,7 +89,13 @@ pub fn run_batch(
         × Sound result.pool store.new × (result.pool.records ≡ pool.records)
         × (result.pool.held ≡ held_all input.now pool.held (begins pool store.old at out.old to)) }
 {
-    let mut work = TicketedPool::new(pool);
+    let mut all = Records::of(pool.table);
+    let mut known = Known {
+        shape: pool.shape,
+        sound: pool.sound,
+        records: pool.records,
+        held: pool.held,
+    };
     let stop = loop {
         if !has_room(out.len(), to) {
             break Stop::Full;
@@ -96,14 +104,14 @@ pub fn run_batch(
             Ok(Some((found, next))) => {
                 match found {
                     Record::Open(shape) => {
-                        let k = work.open(shape, store);
+                        let k = known.open(shape, &mut all, store);
                         to = write_opening(k, out, to);
                     }
                     Record::Act(action) => {
                         let i = place_of(action);
-                        let reply = work.act(i, action, store);
+                        let reply = known.act(i, action, &all, store);
                         to = write_line(reply.response, out, to);
-                        work.put(i, reply.worker);
+                        all.put(i, reply.worker);
                     }
                 }
                 at = next;
@@ -112,10 +120,13 @@ pub fn run_batch(
             Err(why) => break Stop::Halted(why),
         }
     };
-    Progress {
-        pool: work.pool,
-        at,
-        to,
-        stop,
-    }
+    let table = all.table;
+    let pool = HeldPool {
+        shape: known.shape,
+        sound: known.sound,
+        records: known.records,
+        held: known.held,
+        table,
+    };
+    Progress { pool, at, to, stop }
 }

@@ -1,12 +1,15 @@
 -- Each round is a record more (proofs/OneRecord), and each of the three ends is the definition's (proofs/BatchLoop).
-use Rattle.std.proofs.Common.{◌≡◌, sym, ap, ◌∙◌, arith}
+use Rattle.std.proofs.Common.{◌≡◌, List, sym, ap, ◌∙◌, arith}
 use Rattle.std.proofs.Math.Path.{subst⁻¹}
+use Rattle.turn_file.specs.declared.Record.TheVariants.{Act}
 use Rattle.turn_file.proofs.OneReading.{read_on}
+use Rattle.arrival.specs.declared.Worker.{Worker}
 use Rattle.batch.specs.declared.HeldPool.{HeldPool}
 use Rattle.batch.specs.declared.Stop.{Stop}
 use Rattle.batch.specs.Batch.{Stopped}
 use Rattle.batch.specs.BatchLoop.{Going}
 use Rattle.batch.specs.CodeView.{Sound, begins}
+use Rattle.batch.specs.OneRecord.{Does, holding, with_record}
 use Rattle.batch.proofs.BatchLoop.{going, drained, halted, full}
 use Rattle.batch.proofs.OneRecord.{goes_on}
 use Rattle.batch.proofs.run_batch.Goals as goal
@@ -15,12 +18,13 @@ use Rattle.batch.proofs.run_batch.Goals.{then-not-has_room, else-not-has_room+in
 pub loop-at-init : goal.loop-at-init
 loop-at-init c =
     let a = c.args in
+    let p = a.pool in
     let s = a.store.now in
-    subst⁻¹ (λ (d : HeldPool). record {
-      going : Going a.input.now (begins a.pool s a.at a.out.now a.to) a.pool.held (begins d s a.at a.out.now a.to) d.held d.sound;
+    subst⁻¹ (λ (t : List Worker). let d : HeldPool = record { shape = p.shape; sound = p.sound; records = p.records; held = p.held; table = t } in record {
+      going : Going a.input.now (begins p s a.at a.out.now a.to) p.held (begins d s a.at a.out.now a.to) p.held p.sound;
       sound : Sound d s;
-      records : d.records ≡ a.pool.records;
-    }) c.new-work.ensures (record { going = going _ _ _ _ c.requires.2; sound = c.requires; records = λ _. a.pool.records })
+      records : p.records ≡ p.records;
+    }) c.of-all.ensures (record { going = going _ _ _ _ c.requires.2; sound = c.requires; records = λ _. p.records })
 
 pub loop-at-smaller-in-Open : goal.loop-at-smaller-in-Open
 loop-at-smaller-in-Open c =
@@ -49,11 +53,16 @@ act-reply-requires c = (c.loop-at.invariant.sound, c.place_of-i.ensures.0, c.pla
 pub loop-at-preserved : goal.loop-at-preserved
 loop-at-preserved c =
     let inv = c.loop-at.invariant in
+    let k = c.act-reply.new.self in
+    let before = holding c.loop-at.known c.loop-at.all in
+    let put : List Worker → HeldPool = λ t. record { shape = k.shape; sound = k.sound; records = k.records; held = k.held; table = t } in
+    let D = subst⁻¹ (λ (t : List Worker). Does (Act c.in-Act.action) before c.loop-at.store c.act-reply.result.response (put t) c.act-reply.new.store)
+    c.put.ensures c.act-reply.ensures in
     record {
-      going = goes_on inv.going (sym c.has_room.ensures ∙ c.if-not-has_room.false) _ _ (rw (c.in-Ok-Some.field-0-is, c.in-Act.is) at c.in-Ok-Some.ensures)
-          (rw (← c.put.ensures) at c.act-reply.ensures) c.write_line-to.ensures;
-      sound = (rw (← c.put.ensures) at c.act-reply.ensures).sound;
-      records = (rw (← c.put.ensures) at c.act-reply.ensures).records ∙ inv.records;
+      going = goes_on inv.going (sym c.has_room.ensures ∙ c.if-not-has_room.false) _ _ (rw (c.in-Ok-Some.field-0-is, c.in-Act.is) at c.in-Ok-Some.ensures) D
+          c.write_line-to.ensures;
+      sound = D.sound;
+      records = D.records ∙ inv.records;
     }
 
 pub returns : goal.returns
@@ -61,7 +70,7 @@ returns c =
     let l = c.loop-at in
     let G = l.invariant.going in
     let room = c.has_room.ensures in
-    let left : Stop → Stopped = λ stop. record { progress = begins l.work.pool l.store l.at l.out l.to; stop = stop } in
+    let left : Stop → Stopped = λ stop. record { progress = begins (holding l.known l.all) l.store l.at l.out l.to; stop = stop } in
     elim c.if-not-has_room.branch [
       | then-not-has_room w ↦
           let (same, holds) = full _ _ _ _ _ _ G (sym room ∙ w.if-not-has_room.true) in
