@@ -2,14 +2,17 @@
 #![tactic(auto)]
 
 ghost use Rattle.std.specs.Prelude.{◌≡◌, true};
+ghost use Rattle.arrival.specs.Refusals.{refusal_of};
 ghost use Rattle.calendar.specs.rules.Ranges.{shape_in_range};
 ghost use Rattle.calendar.specs.rules.Refusals.{short};
 ghost use Rattle.admission.specs.Gate.{gate_of, open_gate, sound_of, Tight};
 ghost use Rattle.admission.specs.NarrowGate.{near_of};
 
 use arrival::Shape;
+use arrival::refusals::Refusal;
 use ranges::{shape_in_range, store_in_range, words_in_range};
 use words::layout_words;
+use words::store::View;
 
 pub mod ranges;
 
@@ -21,68 +24,78 @@ fn is_short(shape: Shape, words: usize, records: usize) -> bool
     (words < layout_words(shape)) | (records < shape.workers as usize)
 }
 
-// Refusals 1 to 4, or 0.
-fn first_refusal(shape: Shape, words: usize, records: usize, i: u64, sound: bool) -> u64
-    ensures { result ≡ gate_of shape words records i sound }
+// Refusals 1 to 4.
+#[tactic(auto, using(crate::proofs::GateLaws::gate_parts))]
+fn first_refusal(
+    shape: Shape,
+    words: usize,
+    records: usize,
+    i: u64,
+    sound: bool,
+) -> Result<(), Refusal>
+    ensures { refusal_of result ≡ gate_of shape words records i sound }
 {
-    let k = open_gate(shape, words, records);
-    if k != 0 {
-        return k;
-    }
+    open_gate(shape, words, records)?;
     if !sound {
-        return 3;
+        return Err(Refusal::OutOfRange);
     }
     if shape.workers <= i {
-        return 4;
+        return Err(Refusal::NoWorker);
     }
-    0
+    Ok(())
 }
 
 // The same, at one look where the flag is up: it is down where 1 or 2 applies.
-pub fn gate(shape: Shape, words: usize, records: usize, i: u64, sound: bool) -> u64
+#[tactic(auto, using(crate::proofs::GateLaws::passes))]
+pub fn gate(shape: Shape, words: usize, records: usize, i: u64, sound: bool) -> Result<(), Refusal>
     requires { Tight shape words records sound }
-    ensures { result ≡ gate_of shape words records i sound }
+    ensures { refusal_of result ≡ gate_of shape words records i sound }
 {
     if sound & (i < shape.workers) {
-        return 0;
+        return Ok(());
     }
     first_refusal(shape, words, records, i, sound)
 }
 
-// An opening's refusal, or 0.
-pub fn open_gate(shape: Shape, words: usize, records: usize) -> u64
-    ensures { result ≡ open_gate shape words records }
+// An opening's refusals.
+#[tactic(auto, unfolding(crate::specs::Gate::open_gate))]
+pub fn open_gate(shape: Shape, words: usize, records: usize) -> Result<(), Refusal>
+    ensures { refusal_of result ≡ open_gate shape words records }
 {
     if !shape_in_range(shape) {
-        return 1;
+        return Err(Refusal::BadShape);
     }
     if is_short(shape, words, records) {
-        return 2;
+        return Err(Refusal::TooShort);
     }
-    0
+    Ok(())
 }
 
 // The flag by a look at every word; ok: the workers' records are in range.
+#[tactic(auto, using(crate::proofs::GateLaws::open_passed, words::specs::Laid::laid), unfolding(crate::specs::Gate::sound_of))]
 pub fn is_sound(shape: Shape, records: usize, ok: bool, store: &[u64]) -> bool
     ensures { result ≡ sound_of shape store.now records ok }
 {
-    if open_gate(shape, store.len(), records) != 0 {
+    if open_gate(shape, store.len(), records).is_err() {
         return false;
     }
-    store_in_range(shape, store) & ok
+    let view = View {
+        shape,
+        words: store,
+    };
+    store_in_range(&view) & ok
 }
 
 // The flag of a narrow call, by a look at the three first words; ok: the records that it looks at are in range.
+#[tactic(auto, using(crate::proofs::NarrowGate::near_bad))]
 pub fn is_near(shape: Shape, records: usize, ok: bool, store: &[u64]) -> bool
     ensures { result ≡ near_of shape store.now records ok }
 {
-    if !shape_in_range(shape) {
-        return false;
-    }
-    is_near_within(shape, records, ok, store)
+    shape_in_range(shape) && is_near_within(shape, records, ok, store)
 }
 
 // The same for a shape within its limits.
+#[tactic(auto, using(crate::proofs::NarrowGate::near_short, crate::proofs::NarrowGate::near_long, crate::proofs::NarrowGate::laid_long))]
 pub fn is_near_within(shape: Shape, records: usize, ok: bool, store: &[u64]) -> bool
     requires { shape_in_range shape ≡ true }
     ensures { result ≡ near_of shape store.now records ok }
@@ -90,5 +103,9 @@ pub fn is_near_within(shape: Shape, records: usize, ok: bool, store: &[u64]) -> 
     if is_short(shape, store.len(), records) {
         return false;
     }
-    words_in_range(shape, store) & ok
+    let view = View {
+        shape,
+        words: store,
+    };
+    words_in_range(&view) & ok
 }

@@ -3,9 +3,8 @@
 --     energy_only      elsewhere no other number is as energy_floor says
 --     energy_most      it is at most 2^24
 -- Assumes nothing.
-use Rattle.std.specs.Prelude.{◌≡◌, refl, ℕ, ◌+◌, ◌*◌, ◌/◌, ◌<◌, ◌≤◌}
-use Rattle.std.proofs.Common.{mul-le-mul, mul-le-mul_left, lt_of_mul-lt-mul_right, div-mul-le_self, arith, ne_eqb}
-use Rattle.std.proofs.Math.Nat.{lt-div-mul-add}
+use Rattle.std.specs.Prelude.{◌≡◌, refl, ℕ, ◌+◌, ◌*◌, ◌<◌, ◌≤◌}
+use Rattle.std.proofs.Common.{mul-le-mul_left, lt_of_mul-lt-mul_right, arith}
 use Rattle.laws.specs.Tests.{by_size}
 use Rattle.arrival.specs.Energy.{energy_of}
 use Rattle.arrival.proofs.EnergyFloor.{some, energy_floor}

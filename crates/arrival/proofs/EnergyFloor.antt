@@ -2,7 +2,7 @@
 --     within, past, some     a quotient times its divisor; a square is not 0
 --     energy_floor           it, times distance², is within 2^24, and one more is not
 -- Assumes nothing.
-use Rattle.std.specs.Prelude.{◌≡◌, ℕ, ◌+◌, ◌*◌, ◌/◌, ◌<◌, ◌≤◌}
+use Rattle.std.specs.Prelude.{ℕ, ◌+◌, ◌*◌, ◌/◌, ◌<◌, ◌≤◌}
 use Rattle.std.proofs.Common.{mul-le-mul, div-mul-le_self, arith, ne_eqb}
 use Rattle.std.proofs.Math.Nat.{lt-div-mul-add}
 use Rattle.arrival.specs.Energy.{energy_of}

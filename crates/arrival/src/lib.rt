@@ -4,11 +4,14 @@
 ghost use Rattle.std.specs.Prelude.{◌≡◌, ◌≤◌};
 ghost use Rattle.arrival.specs.Keys.{lower_key, bucket_of};
 
+pub mod refusals;
+pub mod requests;
+pub mod rounds;
 pub mod spreading;
 
 // The shape of a pool: how many workers, nodes and buckets, and a bucket's width in samples.
 #[repr(C)]
-#[derive(Clone, Copy)]
+#[derive(Clone, Copy, Default)]
 pub struct Shape {
     pub workers: u64,
     pub nodes: u64,
@@ -27,9 +30,10 @@ pub struct Arrival {
 }
 
 // A worker's record. `left` is a cell (heads first, then node links), `right` a node or the end, `seen` the link word
-// seen, `current` the current word seen, `ticket` the call's place among all calls.
+// seen, `current` the current word seen, `ticket` the call's place among all calls. The default has no call in progress, as opening leaves it.
+// Kept as numbers: stage and kind lie in memory that C lends and that may hold any number, which refusal 3 tests.
 #[repr(C)]
-#[derive(Clone, Copy)]
+#[derive(Clone, Copy, Default)]
 pub struct Worker {
     pub stage: u64,
     pub kind: u64,
@@ -42,19 +46,6 @@ pub struct Worker {
     pub ticket: u64,
 }
 
-// A record with no call in progress, as opening leaves it.
-pub const IDLE_WORKER: Worker = Worker {
-    stage: 0,
-    kind: 0,
-    own: 0,
-    bucket: 0,
-    left: 0,
-    right: 0,
-    seen: 0,
-    current: 0,
-    ticket: 0,
-};
-
 // An arrival with its ticket, as a queue holds it.
 #[derive(Clone, Copy)]
 pub struct Item {
@@ -65,8 +56,8 @@ pub struct Item {
     pub ticket: u64,
 }
 
-// What an item's place in the order is read from.
-#[derive(Clone, Copy)]
+// What an item's place in the order is read from: by time, then reflection order, then ticket, as the fields stand.
+#[derive(Clone, Copy, PartialEq, Eq, PartialOrd, Ord)]
 pub struct Key {
     pub time: u64,
     pub order: u64,
@@ -89,6 +80,7 @@ pub enum Request {
 }
 
 // What the pool answers. `Begun` and `Stored` carry the ticket, `Refused` the refusal's number.
+// Kept as a number: the rules number the refusals (calendar/rules/Refusals), and theorems on `Refused n` speak of every n (facts_hold).
 #[derive(Clone, Copy)]
 pub enum Response {
     Opened,
@@ -110,19 +102,14 @@ pub enum Response {
 pub fn is_lower(a: Key, b: Key) -> bool
     ensures { result ≡ lower_key a b }
 {
-    if a.time == b.time {
-        let by_ticket = a.ticket < b.ticket;
-        return (a.order < b.order) | (a.order == b.order) & by_ticket;
-    }
-    a.time < b.time
+    a < b
 }
 
 // The bucket of a time.
+#[tactic(auto, unfolding(crate::specs::Keys::bucket_of))]
 pub fn bucket_of(shape: Shape, time: u64) -> u64
     requires { (1 ≤ shape.buckets) × (1 ≤ shape.width) }
     ensures { result ≡ bucket_of shape time }
 {
-    let last = shape.buckets - 1;
-    let quotient = time / shape.width;
-    if quotient < last { quotient } else { last }
+    (time / shape.width).min(shape.buckets - 1)
 }

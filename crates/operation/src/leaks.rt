@@ -4,30 +4,22 @@ ghost use Rattle.calendar.specs.facts.RangesKept.{leaks};
 ghost use Rattle.stages.specs.Ready.{Ready};
 ghost use Rattle.operation.specs.Leaks.{action_leaks};
 
-use arrival::{Action, Shape, Worker};
-use words::{field, get_cell, get_field};
+use arrival::{Action, Worker};
+use words::field::Field;
+use words::store::View;
 
 // Whether a worker's turn leaves the ranges: stage 3 unlinks a node of distance 0.
-pub fn turn_leaks(shape: Shape, w: Worker, store: &[u64]) -> bool
-    requires { Ready shape store.now w }
-    ensures { result ≡ leaks shape store.now w }
+pub fn turn_leaks(w: Worker, view: &View<'_>) -> bool
+    requires { Ready view.now.shape view.now.words.now w }
+    ensures { result ≡ leaks view.now.shape view.now.words.now w }
 {
-    if w.stage != 3 {
-        return false;
-    }
-    let left = get_cell(shape, w.left, store);
-    let distance = get_field(shape, field::DISTANCE, w.right, store);
-    (left == 2 * w.right) & (distance == 0)
+    w.stage == 3 && (view.cell(w.left) == 2 * w.right) & (view.field(Field::Distance, w.right) == 0)
 }
 
 // The same of any action: a start keeps them.
-pub fn action_leaks(shape: Shape, action: Action, w: Worker, store: &[u64]) -> bool
-    requires { Ready shape store.now w }
-    ensures { result ≡ action_leaks shape store.now action w }
+pub fn action_leaks(action: Action, w: Worker, view: &View<'_>) -> bool
+    requires { Ready view.now.shape view.now.words.now w }
+    ensures { result ≡ action_leaks view.now.shape view.now.words.now action w }
 {
-    match action {
-        Action::Enqueue(_, _) => false,
-        Action::Dequeue(_) => false,
-        Action::Step(_) => turn_leaks(shape, w, store),
-    }
+    matches!(action, Action::Step(_)) && turn_leaks(w, view)
 }

@@ -2,45 +2,39 @@
 #![tactic(auto)]
 
 ghost use Rattle.std.specs.Prelude.{◌≡◌, cond, ◌≤◌, eqb, length};
+ghost use Rattle.arrival.specs.Refusals.{refusal_of};
 ghost use Rattle.admission.specs.Gate.{open_gate};
 ghost use Rattle.calendar.specs.rules.Opening.{open_store};
-ghost use Rattle.calendar.specs.rules.Operations as operations;
-ghost use Rattle.words.specs.Done.{gives};
 ghost use Rattle.calendar.specs.rules.NarrowCalls.{goes_on};
+ghost use Rattle.words.specs.Done.{left, reply_of};
+ghost use Rattle.words.specs.Kept.{Kept};
 ghost use Rattle.operation.specs.LocalAct.{Admitted, local_act};
 ghost use Rattle.operation.specs.LocalTurns.{local_turns};
 
 use admission::open_gate;
 use admission::ranges::links_in_range;
+use arrival::refusals::Refusal;
 use arrival::{Action, Response, Shape, Worker};
 use stages::step;
 use starts::opening::open_store;
 use starts::{start_dequeue, start_enqueue};
-use words::replies::{Reply, refuse};
+use words::replies::Reply;
+use words::store::Store;
 
 pub mod leaks;
 
-// The worker of an action.
-pub fn actor(action: Action) -> u64
-    ensures { result ≡ operations.actor action }
-{
-    match action {
-        Action::Enqueue(i, _) => i,
-        Action::Dequeue(i) => i,
-        Action::Step(i) => i,
-    }
-}
-
 // The action on its worker's record w; low: the least ticket in progress, which only a put asks for.
-pub fn perform(shape: Shape, low: u64, action: Action, w: Worker, store: &mut [u64]) -> Reply
-    requires admitted { Admitted shape store.old w }
+#[tactic(auto, using(crate::proofs::LocalAct::local_enqueue_lem, crate::proofs::LocalAct::local_dequeue_lem, crate::proofs::LocalAct::local_step_lem, crate::proofs::LocalAct::ready))]
+pub fn perform(low: u64, action: Action, w: Worker, store: &mut Store<'_>) -> Result<Reply, Refusal>
+    requires admitted { Admitted store.old.shape store.old.words.now w }
     requires low_bound { low ≤ 4294967296 }
-    ensures { gives store.new result ≡ local_act shape low store.old action w }
+    ensures kept { Kept store.old store.new }
+    ensures gives { left store.new (reply_of w result) ≡ local_act store.old.shape low store.old.words.now action w }
 {
     match action {
-        Action::Enqueue(_, arrival) => start_enqueue(shape, low, arrival, w, store),
-        Action::Dequeue(_) => start_dequeue(shape, w, store),
-        Action::Step(_) => step(shape, w, store),
+        Action::Enqueue(_, arrival) => start_enqueue(low, arrival, w, store),
+        Action::Dequeue(_) => start_dequeue(w, store),
+        Action::Step(_) => step(store.shape, w, store.words),
     }
 }
 
@@ -48,63 +42,47 @@ pub fn perform(shape: Shape, low: u64, action: Action, w: Worker, store: &mut [u
 pub fn goes_on(response: Response) -> bool
     ensures { result ≡ goes_on response }
 {
-    match response {
-        Response::Opened => false,
-        Response::Begun(_) => true,
-        Response::On => true,
-        Response::Stored(_) => false,
-        Response::Took {
-            time: _,
-            path: _,
-            order: _,
-            distance: _,
-            energy: _,
-        } => false,
-        Response::Empty => false,
-        Response::Refused(_) => false,
-    }
+    matches!(response, Response::Begun(_) | Response::On)
 }
 
 // The action, and while the call goes on at most `turns` turns more. Of a record that a turn has left only the links can be out of range.
 pub fn perform_turns(
-    shape: Shape,
     low: u64,
-    mut action: Action,
+    action: Action,
     turns: u64,
-    mut w: Worker,
-    store: &mut [u64],
+    w: Worker,
+    store: &mut Store<'_>,
 ) -> Reply
-    requires admitted { Admitted shape store.old w }
+    requires admitted { Admitted store.old.shape store.old.words.now w }
     requires low_bound { low ≤ 4294967296 }
-    ensures { gives store.new result ≡ local_turns shape turns (local_act shape low store.old action w) }
+    ensures kept { Kept store.old store.new }
+    ensures gives { left store.new result ≡ local_turns store.old.shape turns (local_act store.old.shape low store.old.words.now action w) }
 {
-    let i = actor(action);
-    let mut left = turns;
-    loop {
-        let reply = perform(shape, low, action, w, store);
-        let response = reply.response;
-        if (left == 0) | !goes_on(response) {
-            return reply;
+    let step = Action::Step(action.worker());
+    let mut reply = Reply::of(w, perform(low, action, w, store));
+    for _ in 0..turns {
+        if !goes_on(reply.response) {
+            break;
         }
-        w = reply.worker;
-        if !links_in_range(shape, w) {
-            return refuse(w, 3);
+        let w = reply.worker;
+        if !links_in_range(store.shape, w) {
+            return Reply::refused(w, Refusal::OutOfRange);
         }
-        action = Action::Step(i);
-        left -= 1;
+        reply = Reply::of(w, perform(low, step, w, store));
     }
+    reply
 }
 
-// Opens the store for a shape, unless the opening is refused: its number, or 0.
-pub fn open_lent(shape: Shape, records: usize, store: &mut [u64]) -> u64
-    ensures { (result ≡ open_gate shape (length store.old) records)
-        × (store.new ≡ cond (eqb (open_gate shape (length store.old) records) 0) (open_store shape store.old)
-        store.old) }
+// Opens the store for a shape, unless the opening is refused.
+#[tactic(auto, using(admission::proofs::GateLaws::open_passed, words::specs::Laid::laid))]
+pub fn open_lent(shape: Shape, records: usize, store: &mut [u64]) -> Result<(), Refusal>
+    ensures refused { refusal_of result ≡ open_gate shape (length store.old) records }
+    ensures opened { store.new ≡ cond (eqb (open_gate shape (length store.old) records) 0) (open_store shape store.old) store.old }
 {
-    let k = open_gate(shape, store.len(), records);
-    if k != 0 {
-        return k;
-    }
-    open_store(shape, store);
-    0
+    open_gate(shape, store.len(), records)?;
+    open_store(&mut Store {
+        shape,
+        words: store,
+    });
+    Ok(())
 }

@@ -12,8 +12,17 @@ use Rattle.calendar.specs.rules.Layout.{Write, write_all, item_at}
 use Rattle.calendar.specs.rules.Outcome.{Outcome, on, answer, with_stage}
 use Rattle.calendar.specs.rules.SearchSteps.{found, settle}
 use Rattle.calendar.specs.rules.DequeueSteps.{walk, more_buckets}
-use Rattle.words.specs.Done.{done, gives}
+use Rattle.calendar.specs.rules.Steps.{Rule}
+use Rattle.words.specs.Done.{Done, done, gives}
 use Rattle.words.specs.declared.replies.Reply.{Reply}
+use Rattle.words.specs.declared.store.View.{View}
+
+-- of a store that is only looked at: what is in it with what the code hands back, and what a rule leaves by it
+abbrev pub shown : View → Reply → Done
+shown view r = gives view.words.now r
+
+abbrev pub shown_by : Rule → View → Worker → Done
+shown_by rule view w = done view.shape view.words.now (rule view.shape view.words.now w)
 
 -- the code's share of an outcome: its record and response
 abbrev pub share : Outcome → Reply

@@ -1,7 +1,8 @@
 -- The turn of one record: which refusals it can get by itself, and what it does otherwise. Assumes nothing.
-use Rattle.std.specs.Prelude.{◌≡◌, Bool, ◌&&◌, List, ◌∷◌, ◌≢◌, ℕ, ◌+◌, ◌≤◌, eqb, leb, get_or}
+use Rattle.std.specs.Prelude.{◌≡◌, Bool, not, ◌&&◌, List, ◌∷◌, ◌≢◌, ℕ, ◌+◌, ◌≤◌, eqb, leb, get_or}
 use Rattle.std.proofs.Math.Path.{refl}
 use Rattle.std.proofs.Common.{sym, ap, ◌∙◌, zero-le, arith}
+use Rattle.std.proofs.lemmas.Bool.Decides.{nat_tests}
 use Rattle.std.proofs.Math.Bool.{true, false, cond}
 use borrow.Author.Tests.{eq-eqb, ne_eqb, le-leb, lt-leb}
 use Rattle.arrival.specs.declared.Shape.{Shape}
@@ -38,6 +39,11 @@ module _ (sh : Shape) (s : List ℕ) (w : Worker) where
   at_stage k e some most other =
       rw (lt-leb 14 w.stage (omega arith), ne_eqb w.stage 0 (λ z. omega arith), ne_eqb w.stage 7 (λ z. other (sym e ∙ z)))
       (ap (done sh s) (sym (step_at sh s w k e)))
+
+  -- what is left by the rule of stage k, which is not 7
+  pub left_at : (d : Done) (k : ℕ) → w.stage ≡ k → (leb 1 k && leb k 13 && not (eqb k 7)) ≡ true → d ≡ done sh s (get_or rules k no_step sh s w)
+      → d ≡ local_step sh s w
+  left_at d k e ok h = h ∙ at_stage k e (grind (arith, nat_tests)) (grind (arith, nat_tests)) (grind (arith, nat_tests))
 
   pub at_seven : w.stage ≡ 7 → local_step_7 sh s w ≡ local_step sh s w
   unfolding local_step

@@ -1,35 +1,42 @@
 // Stages 4 to 7: a put after its search.
 ghost use Rattle.std.specs.Prelude.{◌≡◌};
 ghost use Rattle.calendar.specs.rules.EnqueueSteps.{step_4, step_5, step_6};
-ghost use Rattle.words.specs.Done.{done, gives};
+ghost use Rattle.words.specs.Done.{left, by, reply_of};
+ghost use Rattle.words.specs.Kept.{Kept};
+ghost use Rattle.stages.specs.Gives.{shown, shown_by};
 ghost use Rattle.stages.specs.LocalStep.{local_step_7};
 ghost use Rattle.stages.specs.Ready.{Ready};
 
 use super::{answer, go_on};
-use arrival::{Response, Shape, Worker};
-use words::replies::{Reply, refuse};
-use words::{field, get_cell, get_word, put_cell, put_field, put_word, word};
+use arrival::refusals::Refusal;
+use arrival::{Response, Worker};
+use words::field::Field;
+use words::replies::Reply;
+use words::store::{Store, View};
+use words::word;
+use words::word::Word;
 
 #[tactic(auto, unfolding(calendar::specs::rules::EnqueueSteps::step_4))]
-pub fn step_4(shape: Shape, mut w: Worker, store: &mut [u64]) -> Reply
-    requires { Ready shape store.old w }
-    ensures { gives store.new result ≡ done shape store.old (step_4 shape store.old w) }
+pub fn step_4(mut w: Worker, store: &mut Store<'_>) -> Reply
+    requires { Ready store.old.shape store.old.words.now w }
+    ensures kept { Kept store.old store.new }
+    ensures gives { left store.new result ≡ by step_4 store.old w }
 {
-    let own = w.own;
-    let current = get_word(shape, word::CURRENT, store);
-    put_field(shape, field::EPOCH, own, current % word::COUNTS, store);
-    put_cell(shape, shape.buckets + own, 2 * w.right, store);
+    let current = store.view().word(Word::Current);
+    store.set_field(Field::Epoch, w.own, current % word::COUNTS);
+    store.set_cell(store.shape.buckets + w.own, 2 * w.right);
     w.current = current;
     go_on(5, w)
 }
 
 #[tactic(auto, unfolding(calendar::specs::rules::EnqueueSteps::step_5))]
-pub fn step_5(shape: Shape, w: Worker, store: &mut [u64]) -> Reply
-    requires { Ready shape store.old w }
-    ensures { gives store.new result ≡ done shape store.old (step_5 shape store.old w) }
+pub fn step_5(w: Worker, store: &mut Store<'_>) -> Reply
+    requires { Ready store.old.shape store.old.words.now w }
+    ensures kept { Kept store.old store.new }
+    ensures gives { left store.new result ≡ by step_5 store.old w }
 {
-    if get_cell(shape, w.left, store) == 2 * w.right {
-        put_cell(shape, w.left, 2 * w.own, store);
+    if store.view().cell(w.left) == 2 * w.right {
+        store.set_cell(w.left, 2 * w.own);
         go_on(6, w)
     } else {
         go_on(1, w)
@@ -37,11 +44,11 @@ pub fn step_5(shape: Shape, w: Worker, store: &mut [u64]) -> Reply
 }
 
 #[tactic(auto, unfolding(calendar::specs::rules::EnqueueSteps::step_6))]
-pub fn step_6(shape: Shape, mut w: Worker, store: &[u64]) -> Reply
-    requires { Ready shape store.now w }
-    ensures { gives store.now result ≡ done shape store.now (step_6 shape store.now w) }
+pub fn step_6(mut w: Worker, view: &View<'_>) -> Reply
+    requires { Ready view.now.shape view.now.words.now w }
+    ensures { shown view.now result ≡ shown_by step_6 view.now w }
 {
-    let current = get_word(shape, word::CURRENT, store);
+    let current = view.word(Word::Current);
     w.current = current;
     if current / word::COUNTS < w.bucket {
         answer(w, Response::Stored(w.ticket))
@@ -50,26 +57,20 @@ pub fn step_6(shape: Shape, mut w: Worker, store: &[u64]) -> Reply
     }
 }
 
-// The one stage with a refusal of its own: 11, where the epoch is the last and the swap would succeed.
+// The one stage with a refusal of its own: where the epoch is the last and the swap would succeed.
 #[tactic(auto, unfolding(calendar::specs::rules::EnqueueSteps::step_7))]
-pub fn step_7(shape: Shape, w: Worker, store: &mut [u64]) -> Reply
-    requires { Ready shape store.old w }
-    ensures { gives store.new result ≡ local_step_7 shape store.old w }
+pub fn step_7(w: Worker, store: &mut Store<'_>) -> Result<Reply, Refusal>
+    requires { Ready store.old.shape store.old.words.now w }
+    ensures kept { Kept store.old store.new }
+    ensures gives { left store.new (reply_of w result) ≡ local_step_7 store.old.shape store.old.words.now w }
 {
     let epoch = w.current % word::COUNTS;
-    if get_word(shape, word::CURRENT, store) == w.current {
-        if epoch == word::MAX_COUNT {
-            refuse(w, 11)
-        } else {
-            put_word(
-                shape,
-                word::CURRENT,
-                w.bucket * word::COUNTS + (epoch + 1),
-                store,
-            );
-            answer(w, Response::Stored(w.ticket))
-        }
-    } else {
-        go_on(6, w)
+    if store.view().word(Word::Current) != w.current {
+        return Ok(go_on(6, w));
     }
+    if epoch == word::MAX_COUNT {
+        return Err(Refusal::Exhausted);
+    }
+    store.set_word(Word::Current, w.bucket * word::COUNTS + (epoch + 1));
+    Ok(answer(w, Response::Stored(w.ticket)))
 }

@@ -1,62 +1,86 @@
 // The by-value turn: one worker's record and the lent store, a function for each stage.
+// Kept: each stage requires Ready, and no type holds it: a turn may leave its record out of range (operation/src/leaks.rt).
 #![tactic(auto)]
 
 ghost use Rattle.std.specs.Prelude.{◌≡◌, ◌≤◌};
-ghost use Rattle.words.specs.Done.{gives};
+ghost use Rattle.words.specs.Done.{left, gives, reply_of};
+ghost use Rattle.words.specs.Kept.{Kept};
 ghost use Rattle.stages.specs.Gives.{goes_on, answers};
 ghost use Rattle.stages.specs.LocalStep.{local_step};
 ghost use Rattle.stages.specs.Ready.{Ready};
 
+use arrival::refusals::Refusal;
 use arrival::{Response, Shape, Worker};
-use words::replies::{Reply, refuse};
+use words::replies::Reply;
+use words::store::Store;
 
 pub mod dequeue;
 pub mod enqueue;
 pub mod search;
 
 // The call goes on at stage k.
-pub fn go_on(k: u64, mut w: Worker) -> Reply
+pub fn go_on(k: u64, w: Worker) -> Reply
     ensures { result ≡ goes_on k w }
 {
-    w.stage = k;
     Reply {
-        worker: w,
+        worker: Worker { stage: k, ..w },
         response: Response::On,
     }
 }
 
 // The call is answered.
-pub fn answer(mut w: Worker, response: Response) -> Reply
+pub fn answer(w: Worker, response: Response) -> Reply
     ensures { result ≡ answers w response }
 {
-    w.stage = 0;
     Reply {
-        worker: w,
+        worker: Worker { stage: 0, ..w },
         response,
     }
 }
 
 // One turn, by the record's stage.
-pub fn step(shape: Shape, w: Worker, store: &mut [u64]) -> Reply
+// Kept: no Store, which would ask more than `requires` does: with no stage to run, a turn is refused on any lent memory.
+#[tactic(auto, using(crate::specs::LocalStep::at_idle, crate::specs::LocalStep::at_none))]
+pub fn step(shape: Shape, w: Worker, store: &mut [u64]) -> Result<Reply, Refusal>
     requires { w.stage ≤ 13 → Ready shape store.old w }
-    ensures { gives store.new result ≡ local_step shape store.old w }
+    ensures { gives store.new (reply_of w result) ≡ local_step shape store.old w }
 {
-    let k = w.stage;
-    match k {
-        0 => refuse(w, 10),
-        1 => search::step_1(shape, w, store),
-        2 => search::step_2(shape, w, store),
-        3 => search::step_3(shape, w, store),
-        4 => enqueue::step_4(shape, w, store),
-        5 => enqueue::step_5(shape, w, store),
-        6 => enqueue::step_6(shape, w, store),
-        7 => enqueue::step_7(shape, w, store),
-        8 => dequeue::step_8(shape, w, store),
-        9 => dequeue::step_9(shape, w, store),
-        10 => dequeue::step_10(shape, w, store),
-        11 => dequeue::step_11(shape, w, store),
-        12 => dequeue::step_12(shape, w, store),
-        13 => dequeue::step_13(shape, w, store),
-        14..=18446744073709551615 => refuse(w, 3),
+    match w.stage {
+        0 => Err(Refusal::Idle),
+        1..=13 => turn(
+            w,
+            &mut Store {
+                shape,
+                words: store,
+            },
+        ),
+        _ => Err(Refusal::OutOfRange),
     }
+}
+
+// The turn of a call in progress.
+#[tactic(auto, using(crate::specs::LocalStep::at_seven))]
+fn turn(w: Worker, store: &mut Store<'_>) -> Result<Reply, Refusal>
+    requires ready { Ready store.old.shape store.old.words.now w }
+    requires stage { (1 ≤ w.stage) × (w.stage ≤ 13) }
+    ensures kept { Kept store.old store.new }
+    ensures gives { left store.new (reply_of w result) ≡ local_step store.old.shape store.old.words.now w }
+{
+    // Kept: a match on numbers: stages have no names (docs/RULES.md, I to K), and closures in a table would hide which of them only read.
+    Ok(match w.stage {
+        1 => search::step_1(w, &store.view()),
+        2 => search::step_2(w, &store.view()),
+        3 => search::step_3(w, store),
+        4 => enqueue::step_4(w, store),
+        5 => enqueue::step_5(w, store),
+        6 => enqueue::step_6(w, &store.view()),
+        7 => enqueue::step_7(w, store)?,
+        8 => dequeue::step_8(w, &store.view()),
+        9 => dequeue::step_9(w, &store.view()),
+        10 => dequeue::step_10(w, &store.view()),
+        11 => dequeue::step_11(w, store),
+        12 => dequeue::step_12(w, store),
+        13 => dequeue::step_13(w, &store.view()),
+        _ => unreachable!(),
+    })
 }

@@ -2,16 +2,21 @@
 ghost use Rattle.std.specs.Prelude.{◌≡◌, [], ◌<◌};
 ghost use Rattle.arrival.specs.Queue.{taken};
 ghost use Rattle.calendar.specs.rules.SearchSteps.{found, settle, step_1, step_2, step_3};
-ghost use Rattle.words.specs.Done.{done, gives};
+ghost use Rattle.words.specs.Done.{left, by};
+ghost use Rattle.words.specs.Kept.{Kept};
+ghost use Rattle.stages.specs.Gives.{shown, shown_by};
 ghost use Rattle.stages.specs.Ready.{Ready, Holds};
 
 use super::{answer, go_on};
 use arrival::spreading::energy;
-use arrival::{Item, Response, Shape, Worker, is_lower};
+use arrival::{Item, Response, Worker, is_lower};
+use words::field::Field;
 use words::replies::Reply;
-use words::{field, get_cell, get_word, item_at, key_at, put_cell, put_field, word};
+use words::store::{Store, View};
+use words::word::Word;
 
 // What a take answers: the arrival in its own node, and its energy.
+// Kept: no From: `Response::from(item)` would not say that an energy is computed, nor that it is a take's answer.
 fn took(x: Item) -> Response
     ensures { result ≡ taken x }
 {
@@ -26,78 +31,77 @@ fn took(x: Item) -> Response
 
 // The search's end: a put goes to 4, a take answers.
 #[tactic(auto, unfolding(calendar::specs::rules::SearchSteps::found))]
-fn end_search(shape: Shape, w: Worker, store: &[u64]) -> Reply
-    requires { Holds shape store.now w.own }
-    ensures { gives store.now result ≡ done shape store.now (found shape store.now [] w) }
+fn end_search(w: Worker, view: &View<'_>) -> Reply
+    requires { Holds view.now.shape view.now.words.now w.own }
+    ensures { shown view.now result ≡ shown_by (λ sh s w. found sh s [] w) view.now w }
 {
+    // Kept: the kind is a word of the record that C hands in, and may be any number: 0 is a put.
     if w.kind == 0 {
         return go_on(4, w);
     }
-    let x = item_at(shape, w.own, store);
+    let x = view.item(w.own);
     answer(w, took(x))
 }
 
 // Right has been set: at the end of the list the search ends in this turn.
 #[tactic(auto, unfolding(calendar::specs::rules::SearchSteps::settle))]
-fn settle_right(shape: Shape, w: Worker, store: &[u64]) -> Reply
-    requires { Holds shape store.now w.own }
-    ensures { gives store.now result ≡ done shape store.now (settle shape store.now [] w) }
+fn settle_right(w: Worker, view: &View<'_>) -> Reply
+    requires { Holds view.now.shape view.now.words.now w.own }
+    ensures { shown view.now result ≡ shown_by (λ sh s w. settle sh s [] w) view.now w }
 {
-    if w.right != shape.nodes {
+    if w.right != view.shape.nodes {
         return go_on(2, w);
     }
-    end_search(shape, w, store)
+    end_search(w, view)
 }
 
 #[tactic(auto, unfolding(calendar::specs::rules::SearchSteps::step_1))]
-pub fn step_1(shape: Shape, mut w: Worker, store: &[u64]) -> Reply
-    requires { Ready shape store.now w }
-    ensures { gives store.now result ≡ done shape store.now (step_1 shape store.now w) }
+pub fn step_1(mut w: Worker, view: &View<'_>) -> Reply
+    requires { Ready view.now.shape view.now.words.now w }
+    ensures { shown view.now result ≡ shown_by step_1 view.now w }
 {
-    let head = get_cell(shape, w.bucket, store);
     w.left = w.bucket;
-    w.right = head / 2;
-    settle_right(shape, w, store)
+    w.right = view.cell(w.bucket) / 2;
+    settle_right(w, view)
 }
 
 #[tactic(auto, using(arrival::proofs::Keys::lower_keys), unfolding(calendar::specs::rules::SearchSteps::step_2))]
-pub fn step_2(shape: Shape, mut w: Worker, store: &[u64]) -> Reply
-    requires ready { Ready shape store.now w }
-    requires right_lt_nodes { w.right < shape.nodes }
-    ensures { gives store.now result ≡ done shape store.now (step_2 shape store.now w) }
+pub fn step_2(mut w: Worker, view: &View<'_>) -> Reply
+    requires ready { Ready view.now.shape view.now.words.now w }
+    requires right_lt_nodes { w.right < view.now.shape.nodes }
+    ensures { shown view.now result ≡ shown_by step_2 view.now w }
 {
-    let right = w.right;
-    let link = get_cell(shape, shape.buckets + right, store);
+    let cell = view.shape.buckets + w.right;
+    let link = view.cell(cell);
     w.seen = link;
     if link % 2 == 1 {
         return go_on(3, w);
     }
-    let there = key_at(shape, right, store);
-    let own = key_at(shape, w.own, store);
+    let there = view.key(w.right);
+    let own = view.key(w.own);
     if is_lower(there, own) {
-        w.left = shape.buckets + right;
+        w.left = cell;
         w.right = link / 2;
-        settle_right(shape, w, store)
+        settle_right(w, view)
     } else {
-        end_search(shape, w, store)
+        end_search(w, view)
     }
 }
 
 #[tactic(auto, using(crate::specs::Unlinking::unlinked_step), unfolding(calendar::specs::rules::SearchSteps::step_3))]
-pub fn step_3(shape: Shape, mut w: Worker, store: &mut [u64]) -> Reply
-    requires ready { Ready shape store.old w }
-    requires right_lt_nodes { w.right < shape.nodes }
-    ensures { gives store.new result ≡ done shape store.old (step_3 shape store.old w) }
+pub fn step_3(mut w: Worker, store: &mut Store<'_>) -> Reply
+    requires ready { Ready store.old.shape store.old.words.now w }
+    requires right_lt_nodes { w.right < store.old.shape.nodes }
+    ensures kept { Kept store.old store.new }
+    ensures gives { left store.new result ≡ by step_3 store.old w }
 {
-    let left = w.left;
-    let right = w.right;
-    if get_cell(shape, left, store) == 2 * right {
+    if store.view().cell(w.left) == 2 * w.right {
         let next = w.seen / 2;
-        let started = get_word(shape, word::STARTED, store);
-        put_cell(shape, left, 2 * next, store);
-        put_field(shape, field::STANDING, right, 2 + started, store);
+        let started = store.view().word(Word::Started);
+        store.set_cell(w.left, 2 * next);
+        store.set_field(Field::Standing, w.right, 2 + started);
         w.right = next;
-        settle_right(shape, w, store)
+        settle_right(w, &store.view())
     } else {
         go_on(1, w)
     }

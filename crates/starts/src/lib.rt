@@ -1,85 +1,108 @@
 // The by-value starts: one worker's record and the lent store, after refusals 1 to 4.
 #![tactic(auto)]
 
-ghost use Rattle.std.specs.Prelude.{◌≡◌, ◌<◌, ◌≤◌};
-ghost use Rattle.calendar.specs.rules.Layout.{write_all, started, last_node};
-ghost use Rattle.calendar.specs.rules.Refusals.{bad_arrival};
-ghost use Rattle.calendar.specs.rules.Starts.{fill, enqueue_start, dequeue_start};
-ghost use Rattle.words.specs.Done.{done, gives};
-ghost use Rattle.words.specs.Laid.{Laid};
+ghost use Rattle.std.specs.Prelude.{◌≡◌, ◌<◌, ◌≤◌, eqb};
+ghost use Rattle.laws.specs.FirstOf.{first_of};
+ghost use Rattle.arrival.specs.Refusals.{refusal_of};
+ghost use Rattle.calendar.specs.rules.Layout.{word, write, write_all, started, last_node};
+ghost use Rattle.calendar.specs.rules.Refusals.{bad_arrival, dequeue_own};
+ghost use Rattle.calendar.specs.rules.Starts.{next_ticket, item_of, fill, enqueue_start, dequeue_start};
+ghost use Rattle.words.specs.Done.{done, left, reply_of};
+ghost use Rattle.words.specs.Kept.{Kept};
 ghost use Rattle.starts.specs.LocalStart.{early_refusal, local_enqueue, local_dequeue};
 
 use admission::ranges::{distance_in_range, order_in_range, path_in_range};
-use arrival::{Arrival, Item, Response, Shape, Worker, bucket_of};
+use arrival::refusals::Refusal;
+use arrival::{Arrival, Item, Response, Worker, bucket_of};
 use free::first_free;
-use words::replies::{Reply, refuse};
-use words::{field, get_word, put_field, put_word, word};
+use words::field::Field;
+use words::replies::Reply;
+use words::store::Store;
+use words::word;
+use words::word::Word;
 
 pub mod free;
 pub mod opening;
 
-// Node n gets the arrival and its ticket, and is in use.
-fn fill_node(shape: Shape, n: u64, x: Item, store: &mut [u64])
-    requires laid { Laid shape store.old }
-    requires n_lt_nodes { n < shape.nodes }
-    ensures { store.new ≡ write_all shape store.old (fill n x) }
+// An arrival with the ticket of its call.
+fn item_of(arrival: Arrival, ticket: u64) -> Item
+    ensures { result ≡ item_of arrival ticket }
 {
-    put_field(shape, field::TIME, n, x.time, store);
-    put_field(shape, field::TICKET, n, x.ticket, store);
-    put_field(shape, field::PATH, n, x.path, store);
-    put_field(shape, field::ORDER, n, x.order, store);
-    put_field(shape, field::DISTANCE, n, x.distance, store);
-    put_field(shape, field::STANDING, n, 1, store);
+    Item {
+        time: u64::from(arrival.time),
+        path: u64::from(arrival.path),
+        order: u64::from(arrival.order),
+        distance: u64::from(arrival.distance),
+        ticket,
+    }
+}
+
+// One more call is started: its ticket.
+fn next_ticket(store: &mut Store<'_>) -> u64
+    requires { started store.old.shape store.old.words.now < 4294967296 }
+    ensures kept { Kept store.old store.new }
+    ensures next { result ≡ next_ticket store.old.shape store.old.words.now }
+    ensures counted { store.new.words.now ≡ write store.old.shape store.old.words.now (word 1) result }
+{
+    let ticket = store.view().word(Word::Started) + 1;
+    store.set_word(Word::Started, ticket);
+    ticket
+}
+
+// Node n gets the arrival and its ticket, and is in use.
+fn fill_node(n: u64, x: Item, store: &mut Store<'_>)
+    requires { n < store.old.shape.nodes }
+    ensures kept { Kept store.old store.new }
+    ensures filled { store.new.words.now ≡ write_all store.old.shape store.old.words.now (fill n x) }
+{
+    store.set_field(Field::Time, n, x.time);
+    store.set_field(Field::Ticket, n, x.ticket);
+    store.set_field(Field::Path, n, x.path);
+    store.set_field(Field::Order, n, x.order);
+    store.set_field(Field::Distance, n, x.distance);
+    store.set_field(Field::Standing, n, 1);
 }
 
 // A put start on node n.
-pub fn begin_enqueue(
-    shape: Shape,
-    n: u64,
-    arrival: Arrival,
-    mut w: Worker,
-    store: &mut [u64],
-) -> Reply
-    requires laid { Laid shape store.old }
-    requires store_bound { (started shape store.old < 4294967296) × (n < shape.nodes) × (1 ≤ shape.buckets) × (1 ≤ shape.width) }
-    ensures { gives store.new result ≡ done shape store.old (enqueue_start shape store.old n arrival w) }
+#[tactic(auto, unfolding(calendar::specs::rules::Starts::enqueue_start))]
+pub fn begin_enqueue(n: u64, arrival: Arrival, w: Worker, store: &mut Store<'_>) -> Reply
+    requires { (started store.old.shape store.old.words.now < 4294967296) × (n < store.old.shape.nodes) × (1 ≤ store.old.shape.width) }
+    ensures kept { Kept store.old store.new }
+    ensures begun { left store.new result ≡ done store.old.shape store.old.words.now
+        (enqueue_start store.old.shape store.old.words.now n arrival w) }
 {
-    let time = arrival.time as u64;
-    let ticket = get_word(shape, word::STARTED, store) + 1;
-    let x = Item {
-        time,
-        path: arrival.path as u64,
-        order: arrival.order as u64,
-        distance: arrival.distance as u64,
-        ticket,
-    };
-    put_word(shape, word::STARTED, ticket, store);
-    put_word(shape, word::LAST_NODE, n, store);
-    fill_node(shape, n, x, store);
-    w.stage = 1;
-    w.kind = 0;
-    w.own = n;
-    w.bucket = bucket_of(shape, time);
-    w.ticket = ticket;
+    let ticket = next_ticket(store);
+    let x = item_of(arrival, ticket);
+    store.set_word(Word::LastNode, n);
+    fill_node(n, x, store);
     Reply {
-        worker: w,
+        worker: Worker {
+            stage: 1,
+            kind: 0,
+            own: n,
+            bucket: bucket_of(store.shape, x.time),
+            ticket,
+            ..w
+        },
         response: Response::Begun(ticket),
     }
 }
 
 // A take start.
-pub fn begin_dequeue(shape: Shape, mut w: Worker, store: &mut [u64]) -> Reply
-    requires laid { Laid shape store.old }
-    requires store_bound { started shape store.old < 4294967296 }
-    ensures { gives store.new result ≡ done shape store.old (dequeue_start shape store.old w) }
+#[tactic(auto, unfolding(calendar::specs::rules::Starts::dequeue_start))]
+pub fn begin_dequeue(w: Worker, store: &mut Store<'_>) -> Reply
+    requires { started store.old.shape store.old.words.now < 4294967296 }
+    ensures kept { Kept store.old store.new }
+    ensures begun { left store.new result ≡ done store.old.shape store.old.words.now (dequeue_start store.old.shape store.old.words.now w) }
 {
-    let ticket = get_word(shape, word::STARTED, store) + 1;
-    put_word(shape, word::STARTED, ticket, store);
-    w.stage = 8;
-    w.kind = 1;
-    w.ticket = ticket;
+    let ticket = next_ticket(store);
     Reply {
-        worker: w,
+        worker: Worker {
+            stage: 8,
+            kind: 1,
+            ticket,
+            ..w
+        },
         response: Response::Begun(ticket),
     }
 }
@@ -88,64 +111,57 @@ pub fn begin_dequeue(shape: Shape, mut w: Worker, store: &mut [u64]) -> Reply
 fn is_bad(arrival: Arrival) -> bool
     ensures { result ≡ bad_arrival arrival }
 {
-    let path = path_in_range(arrival.path as u64);
-    let order = order_in_range(arrival.order as u64);
-    let distance = distance_in_range(arrival.distance as u64);
-    !(path & order & distance)
+    !(path_in_range(u64::from(arrival.path))
+        & order_in_range(u64::from(arrival.order))
+        & distance_in_range(u64::from(arrival.distance)))
 }
 
-// The refusals of a put by its arrival, its worker's stage and word 1: 5, 9 or 11, or 0.
-fn enqueue_refusal(arrival: Arrival, w: Worker, started: u64) -> u64
-    ensures { result ≡ early_refusal arrival w started }
+// The refusals of every start, by its worker's stage and word 1: 9 or 11.
+fn start_refusal(w: Worker, started: u64) -> Result<(), Refusal>
+    ensures { refusal_of result ≡ first_of (dequeue_own w (eqb started 4294967295)) }
 {
-    if is_bad(arrival) {
-        return 5;
-    }
     if w.stage != 0 {
-        return 9;
+        return Err(Refusal::Busy);
     }
     if started == word::MAX_COUNT {
-        return 11;
+        return Err(Refusal::Exhausted);
     }
-    0
+    Ok(())
+}
+
+// Those of a put before a node is looked for: 5, and then those of every start.
+fn enqueue_refusal(arrival: Arrival, w: Worker, started: u64) -> Result<(), Refusal>
+    ensures early { refusal_of result ≡ early_refusal arrival w started }
+{
+    if is_bad(arrival) {
+        return Err(Refusal::BadArrival);
+    }
+    start_refusal(w, started)
 }
 
 // A put start with its refusals; low: the least ticket in progress.
 pub fn start_enqueue(
-    shape: Shape,
     low: u64,
     arrival: Arrival,
     w: Worker,
-    store: &mut [u64],
-) -> Reply
-    requires laid { Laid shape store.old }
-    requires store_bound { (started shape store.old < 4294967296) × (last_node shape store.old < shape.nodes) × (low ≤ 4294967296) × (1 ≤ shape.buckets)
-        × (1 ≤ shape.width) }
-    ensures { gives store.new result ≡ local_enqueue shape low store.old arrival w }
+    store: &mut Store<'_>,
+) -> Result<Reply, Refusal>
+    requires { (started store.old.shape store.old.words.now < 4294967296) × (last_node store.old.shape store.old.words.now < store.old.shape.nodes)
+        × (low ≤ 4294967296) × (1 ≤ store.old.shape.width) }
+    ensures kept { Kept store.old store.new }
+    ensures gives { left store.new (reply_of w result) ≡ local_enqueue store.old.shape low store.old.words.now arrival w }
 {
-    let started = get_word(shape, word::STARTED, store);
-    let k = enqueue_refusal(arrival, w, started);
-    if k != 0 {
-        return refuse(w, k);
-    }
-    let n = first_free(shape, low, store);
-    if n == shape.nodes {
-        return refuse(w, 12);
-    }
-    begin_enqueue(shape, n, arrival, w, store)
+    enqueue_refusal(arrival, w, store.view().word(Word::Started))?;
+    let n = first_free(low, &store.view()).ok_or(Refusal::NoNode)?;
+    Ok(begin_enqueue(n, arrival, w, store))
 }
 
 // A take start with its refusals.
-pub fn start_dequeue(shape: Shape, w: Worker, store: &mut [u64]) -> Reply
-    requires laid { Laid shape store.old }
-    requires store_bound { started shape store.old < 4294967296 }
-    ensures { gives store.new result ≡ local_dequeue shape store.old w }
+pub fn start_dequeue(w: Worker, store: &mut Store<'_>) -> Result<Reply, Refusal>
+    requires { started store.old.shape store.old.words.now < 4294967296 }
+    ensures kept { Kept store.old store.new }
+    ensures gives { left store.new (reply_of w result) ≡ local_dequeue store.old.shape store.old.words.now w }
 {
-    if w.stage != 0 {
-        return refuse(w, 9);
-    }
-    if get_word(shape, word::STARTED, store) == word::MAX_COUNT {
-        return refuse(w, 11);
-    }
-    begin_dequeue(shape, w, store)
+    start_refusal(w, store.view().word(Word::Started))?;
+    Ok(begin_dequeue(w, store))
 }

@@ -1,2 +1,4 @@
 pub mod Laid
+pub mod Numbers
+pub mod Kept
 pub mod Done

@@ -1,16 +1,23 @@
-// The eight words of a node.
-pub const LINK: u64 = 0;
+// The eight words of a node, the link first. A link is read and written as a cell.
+ghost use Rattle.std.specs.Prelude.{◌≡◌};
+ghost use Rattle.words.specs.Numbers.{field_number};
 
-pub const TIME: u64 = 1;
+#[derive(Clone, Copy, PartialEq, Eq, Debug)]
+pub enum Field {
+    Link = 0,
+    Time = 1,
+    Ticket = 2,
+    Path = 3,
+    Order = 4,
+    Distance = 5,
+    Epoch = 6,
+    Standing = 7,
+}
 
-pub const TICKET: u64 = 2;
-
-pub const PATH: u64 = 3;
-
-pub const ORDER: u64 = 4;
-
-pub const DISTANCE: u64 = 5;
-
-pub const EPOCH: u64 = 6;
-
-pub const STANDING: u64 = 7;
+impl Field {
+    pub fn number(self) -> u64
+        ensures { result ≡ field_number self }
+    {
+        self as u64
+    }
+}

@@ -3,13 +3,18 @@
 
 ghost use Rattle.std.specs.Prelude.{◌≡◌, ◌+◌, ◌-◌, ◌*◌, ◌<◌, ◌≤◌};
 ghost use Rattle.arrival.specs.Keys.{key_of};
-ghost use Rattle.calendar.specs.rules.Layout.{word, cell, field, layout, read, write, item_at};
-ghost use Rattle.words.specs.Laid.{Laid};
+ghost use Rattle.calendar.specs.rules.Layout.{word, cell, field, address, layout, read, write, item_at};
+ghost use Rattle.words.specs.Numbers.{word_number, field_number};
+ghost use Rattle.words.specs.Kept.{Kept};
 
 use arrival::{Item, Key, Shape};
+use field::Field;
+use store::{Store, View};
+use word::Word;
 
 pub mod field;
 pub mod replies;
+pub mod store;
 pub mod word;
 
 // How many words the layout has.
@@ -32,89 +37,99 @@ fn cell_address(buckets: u64, p: u64) -> usize
     }
 }
 
-// One of the first three words.
-pub fn get_word(shape: Shape, k: usize, store: &[u64]) -> u64
-    requires laid { Laid shape store.now }
-    requires k_bound { k < 3 }
-    ensures { result ≡ read shape store.now (word k) }
+// The address of a word of node n.
+fn field_address(shape: Shape, f: Field, n: u64) -> usize
+    requires { (n < shape.nodes) × (shape.nodes ≤ 4096) × (shape.buckets ≤ 256) }
+    ensures { result ≡ 3 + shape.buckets + 8 * n + field_number f }
 {
-    store[k]
+    (word::HEADS + shape.buckets + word::NODE_WORDS * n + f.number()) as usize
 }
 
-// A head or a node's link.
-pub fn get_cell(shape: Shape, p: u64, store: &[u64]) -> u64
-    requires laid { Laid shape store.now }
-    requires p_bound { p < shape.buckets + shape.nodes }
-    ensures { result ≡ read shape store.now (cell p) }
-{
-    store[cell_address(shape.buckets, p)]
-}
+#[tactic(auto, unfolding(calendar::specs::rules::Layout::read, calendar::specs::rules::Layout::write, calendar::specs::rules::Layout::address))]
+impl View<'_> {
+    // One of the first three words.
+    pub fn word(&self, k: Word) -> u64
+        ensures { result ≡ read self.now.shape self.now.words.now (word (word_number k)) }
+    {
+        self.words[k.number()]
+    }
 
-// Field f of node n.
-pub fn get_field(shape: Shape, f: u64, n: u64, store: &[u64]) -> u64
-    requires laid { Laid shape store.now }
-    requires f_bound { (f < 8) × (n < shape.nodes) }
-    ensures { result ≡ read shape store.now (field f n) }
-{
-    store[(word::HEADS + shape.buckets + word::NODE_WORDS * n + f) as usize]
-}
+    // A head or a node's link.
+    pub fn cell(&self, p: u64) -> u64
+        requires { p < self.now.shape.buckets + self.now.shape.nodes }
+        ensures { result ≡ read self.now.shape self.now.words.now (cell p) }
+    {
+        self.words[cell_address(self.shape.buckets, p)]
+    }
 
-pub fn put_word(shape: Shape, k: usize, v: u64, store: &mut [u64])
-    requires laid { Laid shape store.old }
-    requires k_bound { k < 3 }
-    ensures { store.new ≡ write shape store.old (word k) v }
-{
-    store[k] = v;
-}
+    // A word of node n.
+    pub fn field(&self, f: Field, n: u64) -> u64
+        requires { n < self.now.shape.nodes }
+        ensures { result ≡ read self.now.shape self.now.words.now (field (field_number f) n) }
+    {
+        self.words[field_address(self.shape, f, n)]
+    }
 
-pub fn put_cell(shape: Shape, p: u64, v: u64, store: &mut [u64])
-    requires laid { Laid shape store.old }
-    requires p_bound { p < shape.buckets + shape.nodes }
-    ensures { store.new ≡ write shape store.old (cell p) v }
-{
-    store[cell_address(shape.buckets, p)] = v;
-}
+    // The key of the arrival in node n.
+    pub fn key(&self, n: u64) -> Key
+        requires { n < self.now.shape.nodes }
+        ensures { result ≡ key_of (item_at self.now.shape self.now.words.now n) }
+    {
+        Key {
+            time: self.field(Field::Time, n),
+            order: self.field(Field::Order, n),
+            ticket: self.field(Field::Ticket, n),
+        }
+    }
 
-pub fn put_field(shape: Shape, f: u64, n: u64, v: u64, store: &mut [u64])
-    requires laid { Laid shape store.old }
-    requires f_bound { (f < 8) × (n < shape.nodes) }
-    ensures { store.new ≡ write shape store.old (field f n) v }
-{
-    store[(word::HEADS + shape.buckets + word::NODE_WORDS * n + f) as usize] = v;
-}
-
-// The key of the arrival in node n.
-pub fn key_at(shape: Shape, n: u64, store: &[u64]) -> Key
-    requires laid { Laid shape store.now }
-    requires n_lt_nodes { n < shape.nodes }
-    ensures { result ≡ key_of (item_at shape store.now n) }
-{
-    let time = get_field(shape, field::TIME, n, store);
-    let order = get_field(shape, field::ORDER, n, store);
-    let ticket = get_field(shape, field::TICKET, n, store);
-    Key {
-        time,
-        order,
-        ticket,
+    // The arrival in node n, with its ticket.
+    pub fn item(&self, n: u64) -> Item
+        requires { n < self.now.shape.nodes }
+        ensures { result ≡ item_at self.now.shape self.now.words.now n }
+    {
+        let key = self.key(n);
+        Item {
+            time: key.time,
+            path: self.field(Field::Path, n),
+            order: key.order,
+            distance: self.field(Field::Distance, n),
+            ticket: key.ticket,
+        }
     }
 }
 
-// The arrival in node n, with its ticket.
-pub fn item_at(shape: Shape, n: u64, store: &[u64]) -> Item
-    requires laid { Laid shape store.now }
-    requires n_lt_nodes { n < shape.nodes }
-    ensures { result ≡ item_at shape store.now n }
-{
-    let time = get_field(shape, field::TIME, n, store);
-    let ticket = get_field(shape, field::TICKET, n, store);
-    let path = get_field(shape, field::PATH, n, store);
-    let order = get_field(shape, field::ORDER, n, store);
-    let distance = get_field(shape, field::DISTANCE, n, store);
-    Item {
-        time,
-        path,
-        order,
-        distance,
-        ticket,
+#[tactic(auto, unfolding(calendar::specs::rules::Layout::read, calendar::specs::rules::Layout::write, calendar::specs::rules::Layout::address))]
+impl Store<'_> {
+    // To read from it.
+    pub fn view(&self) -> View<'_>
+        ensures { (result.shape ≡ self.now.shape) × (result.words.now ≡ self.now.words.now) }
+    {
+        View {
+            shape: self.shape,
+            words: self.words,
+        }
+    }
+
+    pub fn set_word(&mut self, k: Word, v: u64)
+        ensures kept { Kept self.old self.new }
+        ensures written { self.new.words.now ≡ write self.old.shape self.old.words.now (word (word_number k)) v }
+    {
+        self.words[k.number()] = v;
+    }
+
+    pub fn set_cell(&mut self, p: u64, v: u64)
+        requires { p < self.old.shape.buckets + self.old.shape.nodes }
+        ensures kept { Kept self.old self.new }
+        ensures written { self.new.words.now ≡ write self.old.shape self.old.words.now (cell p) v }
+    {
+        self.words[cell_address(self.shape.buckets, p)] = v;
+    }
+
+    pub fn set_field(&mut self, f: Field, n: u64, v: u64)
+        requires { n < self.old.shape.nodes }
+        ensures kept { Kept self.old self.new }
+        ensures written { self.new.words.now ≡ write self.old.shape self.old.words.now (field (field_number f) n) v }
+    {
+        self.words[field_address(self.shape, f, n)] = v;
     }
 }

@@ -1,7 +1,9 @@
 // What a start or a turn hands back.
 ghost use Rattle.std.specs.Prelude.{◌≡◌};
-ghost use Rattle.words.specs.Done.{refuses};
+ghost use Rattle.arrival.specs.Refusals.{number};
+ghost use Rattle.words.specs.Done.{refuses, reply_of};
 
+use arrival::refusals::Refusal;
 use arrival::{Response, Worker};
 
 // The worker's record, and the response.
@@ -11,12 +13,24 @@ pub struct Reply {
     pub response: Response,
 }
 
-// Refused by number k.
-pub fn refuse(w: Worker, k: u64) -> Reply
-    ensures { result ≡ refuses w k }
-{
-    Reply {
-        worker: w,
-        response: Response::Refused(k),
+impl Reply {
+    // Refused: the record stays.
+    pub fn refused(w: Worker, refusal: Refusal) -> Reply
+        ensures { result ≡ refuses w (number refusal) }
+    {
+        Reply {
+            worker: w,
+            response: Response::from(refusal),
+        }
+    }
+
+    // Of a start or turn of record w, or of its refusal.
+    pub fn of(w: Worker, outcome: Result<Reply, Refusal>) -> Reply
+        ensures { result ≡ reply_of w outcome }
+    {
+        match outcome {
+            Ok(reply) => reply,
+            Err(refusal) => Reply::refused(w, refusal),
+        }
     }
 }

@@ -1,9 +1,22 @@
 // Where the words of the layout lie, and what counts stay below.
-pub const CURRENT: usize = 0;
+ghost use Rattle.std.specs.Prelude.{◌≡◌};
+ghost use Rattle.words.specs.Numbers.{word_number};
 
-pub const STARTED: usize = 1;
+// The first three words.
+#[derive(Clone, Copy, PartialEq, Eq, Debug)]
+pub enum Word {
+    Current = 0,
+    Started = 1,
+    LastNode = 2,
+}
 
-pub const LAST_NODE: usize = 2;
+impl Word {
+    pub fn number(self) -> usize
+        ensures { result ≡ word_number self }
+    {
+        self as usize
+    }
+}
 
 // The heads come next, and then the nodes, so many words each.
 pub const HEADS: u64 = 3;

@@ -3,7 +3,7 @@
 --     host_run, host_answers               the memory after a list of requests, and their answers
 --     made_by, one_by_one, counts           the starts and turns that a request makes; those of a list, one by one; how many each request makes
 --     last_of_each                         of responses one by one, the last for each request
---     single, action_of                   no request has turns behind it; its start or turn
+--     single                             no request has turns behind it
 --     HostCorrect                        the promise
 --     HostAlways, HostDemand3            something holds whatever a host asks for; the promise does
 -- Assumes nothing.
@@ -12,6 +12,7 @@ use Rattle.arrival.specs.declared.Shape.{Shape}
 use Rattle.arrival.specs.declared.Action.{Action}
 use Rattle.arrival.specs.declared.Request.{Request}
 use Rattle.arrival.specs.declared.Request.TheVariants.{Whole, Narrow}
+pub use Rattle.arrival.specs.Requests.{action_of}
 use Rattle.arrival.specs.declared.Response.{Response}
 use Rattle.arrival.specs.declared.Response.TheVariants.{Opened}
 use Rattle.calendar.specs.rules.Operations.{Memory, Result, open_pool, act, run, responses}
@@ -56,10 +57,6 @@ abbrev pub single : List Request → Bool
 single [] = true
 single (Whole a ∷ qs) = single qs
 single (Narrow a n ∷ qs) = eqb n 0 && single qs
-
-abbrev pub action_of : Request → Action
-action_of (Whole a) = a
-action_of (Narrow a n) = a
 
 -- ── the promise ──
 pub record HostCorrect (sh : Shape) (m : Memory) (qs : List Request) : Type 0 where

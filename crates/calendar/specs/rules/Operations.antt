@@ -5,6 +5,7 @@ use Rattle.arrival.specs.declared.Shape.{Shape}
 use Rattle.arrival.specs.declared.Worker.{Worker}
 use Rattle.arrival.specs.declared.Action.{Action}
 use Rattle.arrival.specs.declared.Action.TheVariants.{Enqueue, Dequeue, Step}
+pub use Rattle.arrival.specs.Requests.{actor}
 use Rattle.arrival.specs.declared.Response.{Response}
 use Rattle.arrival.specs.declared.Response.TheVariants.{Opened, Refused}
 use Rattle.calendar.specs.rules.Layout.{write_all}
@@ -39,11 +40,6 @@ open_pool sh m =
     (record { memory = record { store = open_store sh m.store; table = open_table sh m.table }; response = Opened })
 
 -- A start or turn: its worker, the refusal it gets, and what it does otherwise.
-abbrev pub actor : Action → ℕ
-actor (Enqueue i a) = i
-actor (Dequeue i) = i
-actor (Step i) = i
-
 abbrev pub refusal : Shape → Memory → Action → ℕ
 refusal sh m (Enqueue i a) = enqueue_refusal sh m.store m.table i a
 refusal sh m (Dequeue i) = dequeue_refusal sh m.store m.table i

@@ -1,23 +1,15 @@
 -- `starts::start_dequeue` is refused by 9 or 11, or begins. Assumes nothing.
-use Rattle.std.proofs.Common.{eq-eqb, ne_eqb}
-use Rattle.starts.specs.LocalStart.{local_dequeue}
+use Rattle.std.proofs.Common.{refl, ◌∙◌}
+use Rattle.std.proofs.lemmas.Result.{err_from_is_err_and}
+use Rattle.starts.proofs.Refusing.{some, take_refused, take_begun}
 use Rattle.starts.proofs.start_dequeue.Goals as goal
 
-pub returns-then-w-ne0 : goal.returns-then-w-ne0
-unfolding local_dequeue
-returns-then-w-ne0 c = rw (ne_eqb _ _ c.if-w-ne0.true, c.refuse.ensures)
+pub returns-in_err-start_refusal-clause-gives : goal.returns-in_err-start_refusal-clause-gives
+returns-in_err-start_refusal-clause-gives c =
+    let p = err_from_is_err_and c.from_residual.result c.from_residual.ensures.1 in
+    rw (p.1, p.2) (take_refused _ _ _ _ _ (rw (← c.view.ensures.0, ← c.view.ensures.1) c.word.ensures) c.in_err-start_refusal.ensures (some _))
 
-pub returns-then-get_word-eq-MAX_COUNT : goal.returns-then-get_word-eq-MAX_COUNT
-unfolding local_dequeue
-returns-then-get_word-eq-MAX_COUNT c =
-    rw (
-      eq-eqb _ _ c.if-w-ne0.false,
-      ← c.get_word.ensures,
-      eq-eqb _ _ c.if-get_word-eq-MAX_COUNT.true,
-      c.refuse-then-get_word-eq-MAX_COUNT.ensures,
-    )
-
-pub returns : goal.returns
-unfolding local_dequeue
-returns c =
-    rw (eq-eqb _ _ c.if-w-ne0.false, ← c.get_word.ensures, ne_eqb _ _ c.if-get_word-eq-MAX_COUNT.false) c.begin_dequeue.ensures
+pub returns-clause-gives : goal.returns-clause-gives
+returns-clause-gives c =
+    c.begin_dequeue.ensures.begun
+    ∙ take_begun _ _ _ _ 0 (rw (← c.view.ensures.0, ← c.view.ensures.1) c.word.ensures) c.in_ok-start_refusal.ensures refl

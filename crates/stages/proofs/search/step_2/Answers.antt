@@ -10,10 +10,11 @@ pub returns-then-is_lower : goal.returns-then-is_lower
 unfolding step_2
 returns-then-is_lower c =
     let a = c.args in
+    let v = a.view.now in
     rw (
-      ← c.get_cell-link.ensures,
+      ← c.cell-link.ensures,
       ne_eqb _ _ c.if-link-eq1.false,
-      ← (c.is_lower.ensures ∙ lower_keys (item_at a.shape a.store.now a.w.right) (item_at a.shape a.store.now a.w.own) _ _
-          c.key_at-there.ensures c.key_at-own.ensures),
+      ← (c.is_lower.ensures ∙ lower_keys (item_at v.shape v.words.now a.w.right) (item_at v.shape v.words.now a.w.own) _ _
+          c.key-there.ensures c.key-own.ensures),
       c.if-is_lower.true,
     ) c.settle_right.ensures

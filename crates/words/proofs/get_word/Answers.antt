@@ -1,7 +1,0 @@
-use Rattle.std.proofs.Common.{rules}
-use Rattle.calendar.specs.rules.Layout.{read, address}
-use Rattle.words.proofs.get_word.Goals as goal
-
-pub returns : goal.returns
-unfolding read address
-returns c = search rules

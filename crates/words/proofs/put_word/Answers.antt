@@ -1,7 +1,0 @@
-use Rattle.std.proofs.Common.{rules}
-use Rattle.calendar.specs.rules.Layout.{write, address}
-use Rattle.words.proofs.put_word.Goals as goal
-
-pub returns : goal.returns
-unfolding write address
-returns c = search rules
