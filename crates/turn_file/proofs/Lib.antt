@@ -10,3 +10,4 @@ pub mod OneReading
 pub mod Buffer
 pub mod FileExample
 pub mod LineLaws
+pub mod Values

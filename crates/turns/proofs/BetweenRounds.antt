@@ -9,6 +9,7 @@ use Rattle.std.proofs.Math.Path.{ap, subst⁻¹}
 use Rattle.std.proofs.lemmas.Bool.{eqb-false}
 use Rattle.laws.specs.Lists.{drop_take}
 use Rattle.laws.specs.Storing.{moved}
+use Rattle.turn_file.specs.declared.Unreadable.TheVariants.{UnknownMark, CutShort}
 use Rattle.turn_file.specs.MoreBytes.{Unknown, Cut}
 use Rattle.turn_file.proofs.MoreBytes.{at_end, why_refused, cut_short}
 use Rattle.turn_file.specs.Buffer.{written, after}
@@ -19,6 +20,7 @@ use Rattle.batch.specs.declared.Stop.{Stop}
 use Rattle.batch.specs.declared.Stop.TheVariants.{Drained, Full, Halted}
 use Rattle.batch.specs.Batch.{Progress, Stopped, worked_all}
 use Rattle.batch.specs.CodeView.{begins, ends}
+use Rattle.batch.specs.WithinBuffers.{Within}
 use Rattle.batch.proofs.WithinBuffers.{within}
 use Rattle.batch.proofs.PartOfFile.{Reason}
 use Rattle.batch.proofs.PartOfFile.{part_of_file}
@@ -69,52 +71,42 @@ nothing_read kept more read l m =
 
 -- ── a round ──
 few_kept : (b : List ℕ) (ended : Bool) (g : Progress) (stop : Stop) → Reason b g stop → follows ended stop ≡ Read → length b - g.at < 12
-few_kept b ended g Full why e = absurd (let z : ◌≡◌ {A = ℕ} 0 1 = cc in omega arith)
+few_kept b ended g Full why e = absurd cc
 few_kept b ended g Drained why e = omega (arith, at_end b g.at why)
-few_kept b true g (Halted k) why e = absurd (let z : ◌≡◌ {A = ℕ} 0 1 = cc in omega arith)
-few_kept b false g (Halted k) why e = go (eqb k 8) refl e (why_refused b g.at k why.0)
+few_kept b ended g (Halted UnknownMark) why e = absurd cc
+few_kept b ended g (Halted CutShort) why e = go (why_refused b g.at CutShort why.0)
   where
-    go : (t : Bool) → eqb k 8 ≡ t → cond t Read (Last k) ≡ Read → ((k ≡ 7) × Unknown b g.at) ⊎ ((k ≡ 8) × Cut b g.at) → length b - g.at < 12
-    go false f r w = absurd (let z : ◌≡◌ {A = ℕ} 0 1 = cc in omega arith)
-    go true f r (inl h) = absurd (omega (arith, eqb-true k 8 f, h.0))
-    go true f r (inr h) = omega (arith, cut_short b g.at h.1)
+    go : ((CutShort ≡ UnknownMark) × Unknown b g.at) ⊎ ((CutShort ≡ CutShort) × Cut b g.at) → length b - g.at < 12
+    go (inl h) = absurd (let z = h.0 in cc)
+    go (inr h) = omega (arith, cut_short b g.at h.1)
 
-module _ (d : HeldPool) (s : List ℕ) (ended : Bool) (at have : ℕ) (input out : List ℕ) (p : code.Progress) (s' lines out' : List ℕ) (to : ℕ) (next : Next)
-    (worked : ends s' lines p ≡ worked_all (in_hand at have input) (begins d s 0 out 0)) (h : at ≤ have) (k : have ≤ length input)
+module _ (d : HeldPool) (s : List ℕ) (ended : Bool) (bytes out : List ℕ) (p : code.Progress) (s' lines out' : List ℕ) (to : ℕ) (next : Next)
+    (worked : ends s' lines p ≡ worked_all bytes (begins d s 0 out 0))
     (follow : next ≡ follows ended p.stop) (closed : to ≡ after lines p.to (last_line next)) (holds : out' ≡ written lines p.to (last_line next)) where
-  abbrev b : List ℕ
-  b = in_hand at have input
-
   abbrev r : Round
-  r = record { pool = p.pool; at = at + p.at; to = to; next = next }
+  r = record { pool = p.pool; at = p.at; to = to; next = next }
 
-  is_round : leaves r have input out' s' ≡ round_of (holding d s ended b out)
+  is_round : leaves r bytes out' s' ≡ round_of (holding d s ended bytes out)
   unfolding round_of
-  is_round = now ∙ ap (rounded (holding d s ended b out)) worked
+  is_round = now ∙ ap (rounded (holding d s ended bytes out)) worked
     where
-      now : leaves r have input out' s' ≡ rounded (holding d s ended b out) (ends s' lines p)
-      now = cc (further_on at p.at have input)
+      now : leaves r bytes out' s' ≡ rounded (holding d s ended bytes out) (ends s' lines p)
+      now = cc
 
-  out_length : length out' ≡ length out
-  out_length =
-      ap length holds ∙ written_length lines p.to (last_line next) ∙ (within b (begins d s 0 out 0) (ends s' lines p) worked (omega arith) (omega arith)).lines
+  stays : Within bytes (length out) (ends s' lines p).progress
+  stays = within bytes (begins d s 0 out 0) (ends s' lines p) worked (omega arith) (omega arith)
 
-  at_within : at + p.at ≤ have
-  at_within =
-      let w = within b (begins d s 0 out 0) (ends s' lines p) worked (omega arith) (omega arith) in omega (arith, w.at, in_hand_length at have input h k)
-
-  placed : Placed r have out'
+  placed : Placed r bytes out'
   placed =
-      let w = within b (begins d s 0 out 0) (ends s' lines p) worked (omega arith) (omega arith) in
-      let a = after_within lines p.to (last_line next) w.to in
+      let a = after_within lines p.to (last_line next) stays.to in
       record {
-        at = at_within;
+        at = stays.at;
         to = rw (holds, written_length lines p.to (last_line next), closed) a.1;
-        few = λ e. let why : Reason b (ends s' lines p).progress (ends s' lines p).stop = subst⁻¹ (λ (q : Stopped). Reason b q.progress q.stop) worked
-            (part_of_file b [] (length b + 1) (begins d s 0 out 0) (omega arith)).reason in
-            let l = few_kept b ended (ends s' lines p).progress p.stop why (sym follow ∙ e) in omega (arith, in_hand_length at have input h k);
+        few = λ e. let why : Reason bytes (ends s' lines p).progress (ends s' lines p).stop = subst⁻¹ (λ (q : Stopped). Reason bytes q.progress q.stop) worked
+            (part_of_file bytes [] (length bytes + 1) (begins d s 0 out 0) (omega arith)).reason in
+            few_kept bytes ended (ends s' lines p).progress p.stop why (sym follow ∙ e);
       }
 
   -- THE CODE'S ROUND
-  pub round_left : (leaves r have input out' s' ≡ round_of (holding d s ended b out)) × Placed r have out' × (length out' ≡ length out)
-  round_left = (is_round, placed, out_length)
+  pub round_left : (leaves r bytes out' s' ≡ round_of (holding d s ended bytes out)) × Placed r bytes out' × (length out' ≡ length out)
+  round_left = (is_round, placed, ap length holds ∙ written_length lines p.to (last_line next) ∙ stays.lines)

@@ -4,12 +4,13 @@
 --     all_rounds_lem                   how much is to come; enough rounds work through it
 --     in_pieces                    cut anywhere, the file is the same
 -- Assumes nothing.
-use Rattle.std.specs.Prelude.{◌≡◌, refl, Bool, true, false, cond, List, [], ◌∷◌, ◌++◌, ◌⊎◌, ℕ, zero, suc, ◌+◌, ◌≤◌, ◌<◌, eqb, length, take, drop}
+use Rattle.std.specs.Prelude.{◌≡◌, refl, Bool, true, false, cond, List, [], ◌∷◌, ◌++◌, ◌⊎◌, ℕ, zero, suc, ◌+◌, ◌≤◌, ◌<◌, eqb, length, take, drop, Err}
 use Rattle.std.proofs.Common.{sym, ap, ◌∙◌, append_assoc, append-nil, inl, inr, arith, length-append, length-drop, drop_of_length-le}
 use Rattle.std.proofs.lemmas.Bool.{eqb-false}
 use Rattle.arrival.specs.declared.Response.TheVariants as response
-use Rattle.turn_file.specs.declared.Read.TheVariants.{Refused}
-use Rattle.turn_file.specs.Reading.{record_at}
+use Rattle.turn_file.specs.declared.Unreadable.{Unreadable}
+use Rattle.turn_file.specs.declared.Unreadable.TheVariants.{UnknownMark, CutShort}
+use Rattle.turn_file.specs.Reading.{number_of, record_at}
 use Rattle.turn_file.specs.MoreBytes.{Unknown, Cut}
 use Rattle.turn_file.proofs.MoreBytes.{at_end, why_refused, unknown_refused, cut_refused, unknown_rest, cut_rest}
 use Rattle.turn_file.specs.Lines.{line_of}
@@ -36,10 +37,15 @@ nothing_left : (x : Pool) → all_records [] x ≡ record { pool = x; lines = []
 unfolding records record_at
 nothing_left x = refl
 
-last_line_lem : (bytes : List ℕ) (k : ℕ) (x : Pool) → record_at bytes 0 ≡ Refused k
-    → all_records bytes x ≡ record { pool = x; lines = line_of (response.Refused k) }
+last_line_lem : (bytes : List ℕ) (why : Unreadable) (x : Pool) → record_at bytes 0 ≡ Err why
+    → all_records bytes x ≡ record { pool = x; lines = line_of (response.Refused (number_of why)) }
 unfolding records
-last_line_lem bytes k x e = rw e
+last_line_lem bytes why x e = rw e
+
+-- a refusal's number is a word
+number_small : (why : Unreadable) → number_of why < 9
+number_small UnknownMark = omega arith
+number_small CutShort = omega arith
 
 input_split : (reads : Reads) → input_of reads ≡ handed reads ++ ahead (is_empty (handed reads)) (later reads)
 input_split [] = refl
@@ -66,16 +72,17 @@ module _ (x : Pool) (b out : List ℕ) (big : 89 ≤ length out) (reads : Reads)
   plain more g stop S = S.file ∙ ap (λ (t : List ℕ). behind t (all_records (drop g.at b ++ more) g.pool)) (sym (no_line g.lines g.to ∙ S.holds))
 
   -- and where one is
-  lined : (more : List ℕ) (g : Progress) (k : ℕ) → k < 9 → g.to + 89 ≤ length g.lines → PartOf b more p (stopped g (Halted k))
-      → record_at (drop g.at b ++ more) 0 ≡ Refused k
-      → all_records (b ++ more) x ≡ behind (take (after g.lines g.to (line_of (response.Refused k)))
-      (written g.lines g.to (line_of (response.Refused k)))) (record { pool = g.pool; lines = [] })
-  lined more g k small room S e =
-      let line = line_of (response.Refused k) in
+  lined : (more : List ℕ) (g : Progress) (why : Unreadable) → g.to + 89 ≤ length g.lines → PartOf b more p (stopped g (Halted why))
+      → record_at (drop g.at b ++ more) 0 ≡ Err why
+      → all_records (b ++ more) x ≡ behind (take (after g.lines g.to (last_line (Last why))) (written g.lines g.to (last_line (Last why))))
+      (record { pool = g.pool; lines = [] })
+  lined more g why room S e =
+      let line = last_line (Last why) in
       let held-now : take (after g.lines g.to line) (written g.lines g.to line) ≡ S.new ++ line =
-      line_behind g.lines line g.to (line_most (response.Refused k) (omega arith)) room ∙ ap (λ (t : List ℕ). t ++ line) S.holds in
+      line_behind g.lines line g.to (line_most (response.Refused (number_of why)) (omega (arith, number_small why))) room
+      ∙ ap (λ (t : List ℕ). t ++ line) S.holds in
       S.file
-      ∙ ap (behind S.new) (last_line_lem (drop g.at b ++ more) k g.pool e)
+      ∙ ap (behind S.new) (last_line_lem (drop g.at b ++ more) why g.pool e)
       ∙ ap (λ (t : List ℕ). record { pool = g.pool; lines = t }) (sym (append-nil (S.new ++ line)) ∙ ap (λ (t : List ℕ). t ++ []) (sym held-now))
 
   shorter : (more : List ℕ) (g : Progress) → PartOf b more p (stopped g Full) → g.at ≤ length b → length (drop g.at b) < length b
@@ -95,44 +102,25 @@ module _ (x : Pool) (b out : List ℕ) (big : 89 ≤ length out) (reads : Reads)
       ends (plain [] g Drained S ∙ ap (behind (take (after g.lines g.to []) (written g.lines g.to []))) (ap (λ (l : List ℕ). all_records l g.pool)
       (ap (λ (l : List ℕ). l ++ []) (drop_of_length-le b (at_end b g.at S.reason)))
       ∙ nothing_left g.pool))
-  step_by true g (Halted k) wa S = refused k (go (why_refused b g.at k S.reason.0))
+  step_by ended g (Halted UnknownMark) wa S = refused UnknownMark (go (why_refused b g.at UnknownMark S.reason.0))
     where
-      go : ((k ≡ 7) × Unknown b g.at) ⊎ ((k ≡ 8) × Cut b g.at)
-          → all_records (b ++ []) x ≡ behind (take (after g.lines g.to (line_of (response.Refused k)))
-          (written g.lines g.to (line_of (response.Refused k)))) (record { pool = g.pool; lines = [] })
+      go : ((UnknownMark ≡ UnknownMark) × Unknown b g.at) ⊎ ((UnknownMark ≡ CutShort) × Cut b g.at)
+          → all_records (b ++ ahead ended reads) x ≡ behind (take (after g.lines g.to (last_line (Last UnknownMark)))
+          (written g.lines g.to (last_line (Last UnknownMark)))) (record { pool = g.pool; lines = [] })
       go (inl h) =
-          lined [] g k (omega (arith, h.0)) S.reason.1 S (unknown_refused (drop g.at b ++ []) 0 (unknown_rest b g.at [] h.1)
-          ∙ ap Refused (sym h.0))
-      go (inr h) =
-          lined [] g k (omega (arith, h.0)) S.reason.1 S (ap (λ (l : List ℕ). record_at l 0) (append-nil (drop g.at b))
-          ∙ cut_refused (drop g.at b) 0 (cut_rest b g.at h.1)
-          ∙ ap Refused (sym h.0))
-  step_by false g (Halted k) wa S = go (eqb k 8) refl
+          lined (ahead ended reads) g UnknownMark S.reason.1 S
+          (unknown_refused (drop g.at b ++ ahead ended reads) 0 (unknown_rest b g.at (ahead ended reads) h.1))
+      go (inr h) = absurd (let z = h.0 in cc)
+  step_by true g (Halted CutShort) wa S = refused CutShort (go (why_refused b g.at CutShort S.reason.0))
     where
-      seven : eqb k 8 ≡ false → ((k ≡ 7) × Unknown b g.at) ⊎ ((k ≡ 8) × Cut b g.at) → (k ≡ 7) × Unknown b g.at
-      seven e (inl h) = h
-      seven e (inr h) = absurd (eqb-false k 8 e h.0)
-
-      by_seven : (k ≡ 7) × Unknown b g.at → all_records (b ++ input_of reads) x ≡ behind (take (after g.lines g.to (line_of (response.Refused k)))
-          (written g.lines g.to (line_of (response.Refused k)))) (record { pool = g.pool; lines = [] })
-      by_seven h =
-          lined (input_of reads) g k (omega (arith, h.0)) S.reason.1 S
-          (unknown_refused (drop g.at b ++ input_of reads) 0 (unknown_rest b g.at (input_of reads) h.1)
-          ∙ ap Refused (sym h.0))
-
-      after_line : Next → Rounded
-      after_line next =
-          record {
-            pool = g.pool;
-            rest = drop g.at b;
-            out = written g.lines g.to (last_line next);
-            to = after g.lines g.to (last_line next);
-            next = next;
-          }
-
-      go : (t : Bool) → eqb k 8 ≡ t → Step (held false) reads (after_line (cond t Read (Last k))) (cond t Read (Last k))
-      go true e = reads_on refl (plain (input_of reads) g (Halted k) S)
-      go false e = refused k (by_seven (seven e (why_refused b g.at k S.reason.0)))
+      go : ((CutShort ≡ UnknownMark) × Unknown b g.at) ⊎ ((CutShort ≡ CutShort) × Cut b g.at)
+          → all_records (b ++ []) x ≡ behind (take (after g.lines g.to (last_line (Last CutShort))) (written g.lines g.to (last_line (Last CutShort))))
+          (record { pool = g.pool; lines = [] })
+      go (inl h) = absurd (let z = h.0 in cc)
+      go (inr h) =
+          lined [] g CutShort S.reason.1 S
+          (ap (λ (l : List ℕ). record_at l 0) (append-nil (drop g.at b)) ∙ cut_refused (drop g.at b) 0 (cut_rest b g.at h.1))
+  step_by false g (Halted CutShort) wa S = reads_on refl (plain (input_of reads) g (Halted CutShort) S)
 
 -- EVERY ROUND
 pub round_step : (h : Held) (reads : Reads) → 89 ≤ length h.out → Step h reads (round_of h) (round_of h).next
@@ -180,7 +168,7 @@ all_rounds_lem (suc n) reads h big enough = go (λ rs g. all_rounds_lem n rs g) 
         ∙ ap (λ (l : List ℕ). r.rest ++ l) (sym (input_split reads))))
         ∙ sym e
     go rest r room less End (ends e) = sym e
-    go rest r room less (Last k) (refused j e) = sym e
+    go rest r room less (Last why) (refused j e) = sym e
 
 -- CUT ANYWHERE, THE FILE IS THE SAME
 pub in_pieces : (reads : Reads) (m : Memory) (out : List ℕ) → 89 ≤ length out → (n : ℕ) → suc (load reads) < n

@@ -2,6 +2,8 @@
 use Rattle.std.specs.Prelude.{◌≡◌, refl, Bool, true, false, cond, List, [], ◌++◌, ◌≢◌, ℕ, ◌+◌, leb, length, take, drop}
 use Rattle.std.proofs.Common.{sym, ap, ◌∙◌, append-nil, add-zero, take-append-drop, ne_eqb}
 use Rattle.turn_file.specs.Buffer.{written, after}
+use Rattle.turn_file.specs.declared.Unreadable.{Unreadable}
+use Rattle.turn_file.specs.declared.Unreadable.TheVariants.{UnknownMark, CutShort}
 use Rattle.batch.specs.declared.Stop.{Stop}
 use Rattle.batch.specs.declared.Stop.TheVariants.{Halted}
 use Rattle.turns.specs.declared.Next.{Next}
@@ -25,8 +27,9 @@ pub unclosed : (lines : List ℕ) (to : ℕ) (next : Next) → last_line next �
     → (to ≡ after lines to (last_line next)) × (lines ≡ written lines to (last_line next))
 unclosed lines to next e = (sym (ap (after lines to) e ∙ (nothing_written lines to).0), sym (ap (written lines to) e ∙ (nothing_written lines to).1))
 
-pub last_at_end : (ended : Bool) (stop : Stop) (k : ℕ) → stop ≡ Halted k → ended ≡ true → Last k ≡ follows ended stop
-last_at_end ended stop k e f = rw (e, f)
+pub last_at_end : (ended : Bool) (stop : Stop) (why : Unreadable) → stop ≡ Halted why → ended ≡ true → Last why ≡ follows ended stop
+last_at_end ended stop UnknownMark e f = rw e
+last_at_end ended stop CutShort e f = rw (e, f)
 
-pub last_by_7 : (ended : Bool) (stop : Stop) (k : ℕ) → stop ≡ Halted k → ended ≡ false → k ≢ 8 → Last k ≡ follows ended stop
-last_by_7 ended stop k e f n = rw (e, f, ne_eqb k 8 n)
+pub last_by_7 : (ended : Bool) (stop : Stop) → stop ≡ Halted UnknownMark → Last UnknownMark ≡ follows ended stop
+last_by_7 ended stop e = rw e

@@ -3,17 +3,22 @@
 --     at_start, spent                        nothing has been done; the rounds are spent
 --     working, reading                       the loop goes on; reads on
 --     closed, finished                       it is closed; the file has ended
---     first_held, after_read                 before the first round; after a read
+--     interrupted                            the output is closed
+--     first_held, after_round, after_read    before the first round; past a round; after a read
 -- Assumes nothing.
-use Rattle.std.specs.Prelude.{◌≡◌, List, [], ◌∷◌, ◌++◌, false, ℕ, suc, ◌+◌, ◌-◌, ◌≤◌, eqb, length, take, drop}
+use Rattle.std.specs.Prelude.{◌≡◌, List, [], ◌∷◌, ◌++◌, false, ℕ, suc, ◌+◌, ◌-◌, ◌≤◌, eqb, length, take, drop, Bool, Result, Ok, Err}
 use Rattle.std.proofs.Math.Path.{refl, sym, ap, subst⁻¹}
 use Rattle.std.proofs.Common.{◌∙◌, subst, arith}
 use Rattle.std.proofs.Math.Seq.{append_snoc}
 use Rattle.laws.specs.Storing.{moved}
 use Rattle.batch.specs.declared.HeldPool.{HeldPool}
 use Rattle.batch.specs.Batch.{Pool}
+use Rattle.batch.specs.CodeView.{lent_to}
 use Rattle.batch.specs.TurnFile.{Ran, behind, zeros}
 use Rattle.batch.proofs.PartOfFile.{behind_behind}
+use Rattle.std.specs.declared.io.Error.{Error}
+use Rattle.std.specs.Result.{IsErr}
+use Rattle.turns.specs.declared.Ended.{Ended}
 use Rattle.turns.specs.declared.Next.{Next}
 use Rattle.turns.specs.declared.Next.TheVariants.{More, Read, End, Last}
 use Rattle.turns.specs.declared.Round.{Round}
@@ -21,8 +26,8 @@ use Rattle.turns.specs.TurnsRun.{lent, Held, Rounded, round_of, Reads, worked_on
 use Rattle.turns.specs.InPieces.{load}
 use Rattle.turns.proofs.InPieces.{in_pieces}
 use Rattle.turns.specs.BetweenRounds.{in_hand, holding, leaves}
-use Rattle.turns.proofs.BetweenRounds.{read_behind, nothing_read}
-use Rattle.turns.specs.RunFollows.{all_rounds, Followed, Whole, After, Interrupted, Ends}
+use Rattle.turns.proofs.BetweenRounds.{further_on, read_behind, nothing_read}
+use Rattle.turns.specs.RunFollows.{all_rounds, Followed, Whole, After, Interrupted, Outcome, Ends}
 
 pub at_start : (start : Held) → Followed start start all_rounds
 at_start start =
@@ -78,7 +83,7 @@ module _ (start h : Held) (left : ℕ) (F : Followed start h left) where
     stops More = refl
     stops Read = refl
     stops End = refl
-    stops (Last k) = refl
+    stops (Last why) = refl
 
     -- left behind this round, whatever would follow
     pub closed : (store : List ℕ) → store ≡ r.pool.memory.store → Interrupted start store
@@ -96,7 +101,7 @@ module _ (out : List ℕ) (big : 89 ≤ length out) (h : Held) (left : ℕ) (F :
   nothing_more r More e n future = absurd e
   nothing_more r Read e n future = absurd e
   nothing_more r End e n future = refl
-  nothing_more r (Last k) e n future = refl
+  nothing_more r (Last why) e n future = refl
 
   -- With any number of rounds to come the pool stays, and with enough of them it is the file's.
   pub finished : (r : Rounded) → r ≡ round_of h → Ends r.next → (store : List ℕ) → store ≡ r.pool.memory.store → Whole store
@@ -112,25 +117,38 @@ module _ (out : List ℕ) (big : 89 ≤ length out) (h : Held) (left : ℕ) (F :
       }
 
 -- ── as the code holds it ──
+-- the output is closed
+pub interrupted : (start : Held) (store : List ℕ) (end : Result Ended Error) → IsErr end → Interrupted start store → Outcome start store end
+interrupted start store (Ok ended) e i = absurd cc
+interrupted start store (Err why) e i = i
+
 -- before the first round
 pub first_held : (d : HeldPool) (s input out : List ℕ) → d.shape ≡ zeros → d.records ≡ 64 → d.table ≡ lent.table → s ≡ lent.store
     → at_first lent out ≡ holding d s false (in_hand 0 0 input) out
 unfolding lent
 first_held d s input out shape records table store = cc (shape, ap (λ (n : ℕ). take n d.table) records ∙ ap (take 64) table, store)
 
+-- past a round the bytes in hand begin further on
+pub after_round : (start : Held) (d : HeldPool) (at done have : ℕ) (input out s : List ℕ) (ended : Bool) (left : ℕ)
+    → Followed start (holding d s ended (drop done (in_hand at have input)) out) left
+    → Followed start (holding d s ended (in_hand (at + done) have input) out) left
+after_round start d at done have input out s ended left F =
+    subst (λ (b : List ℕ). Followed start (holding d s ended b out) left) (further_on at done have input) F
+
 -- behind the kept rest stands what was read
-pub after_read : (start : Held) (r : Round) (have kept more : ℕ) (input front read out s : List ℕ) → r.at ≤ have → have ≤ length input → kept ≡ have - r.at
-    → front ≡ moved r.at (have - r.at) input
+pub after_read : (start : Held) (g : Rounded) (d : HeldPool) (at have kept more : ℕ) (input front read s : List ℕ) → at ≤ have → have ≤ length input
+    → kept ≡ have - at → front ≡ moved at (have - at) input
     → take kept read ≡ take kept front → kept ≤ more → more ≤ length read → (left : ℕ)
-    → ((piece : List ℕ) → Followed start (read_on piece (leaves r have input out s)) left)
-    → Followed start (holding r.pool s (eqb more kept) (in_hand 0 more read) out) left
-after_read start r have kept more input front read out s h k is e f l m left F =
+    → g.pool ≡ record { shape = d.shape; memory = lent_to d s } → g.rest ≡ in_hand at have input
+    → ((piece : List ℕ) → Followed start (read_on piece g) left)
+    → Followed start (holding d s (eqb more kept) (in_hand 0 more read) g.out) left
+after_read start g d at have kept more input front read s h k is e f l m left pool rest F =
     subst (λ (g : Held). Followed start g left) (sym same) (F (take (more - kept) (drop kept read)))
   where
-    bytes : in_hand 0 more read ≡ in_hand r.at have input ++ take (more - kept) (drop kept read)
+    bytes : in_hand 0 more read ≡ in_hand at have input ++ take (more - kept) (drop kept read)
     bytes =
-        subst⁻¹ (λ (n : ℕ). take n read ≡ take n front → n ≤ more → in_hand 0 more read ≡ in_hand r.at have input ++ take (more - n) (drop n read)) is
-        (λ f l. read_behind r.at have more input front read h k e f l m) f l
+        subst⁻¹ (λ (n : ℕ). take n read ≡ take n front → n ≤ more → in_hand 0 more read ≡ in_hand at have input ++ take (more - n) (drop n read)) is
+        (λ f l. read_behind at have more input front read h k e f l m) f l
 
-    same : holding r.pool s (eqb more kept) (in_hand 0 more read) out ≡ read_on (take (more - kept) (drop kept read)) (leaves r have input out s)
+    same : holding d s (eqb more kept) (in_hand 0 more read) g.out ≡ read_on (take (more - kept) (drop kept read)) g
     same = cc (bytes, nothing_read kept more read l m)

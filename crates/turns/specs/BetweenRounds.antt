@@ -17,12 +17,12 @@ in_hand at have input = take (have - at) (drop at input)
 abbrev pub holding : HeldPool → List ℕ → Bool → List ℕ → List ℕ → Held
 holding d s ended bytes out = record { pool = record { shape = d.shape; memory = lent_to d s }; bytes = bytes; ended = ended; out = out }
 
-abbrev pub leaves : Round → ℕ → List ℕ → List ℕ → List ℕ → Rounded
-leaves r have input out s =
-    record { pool = record { shape = r.pool.shape; memory = lent_to r.pool s }; rest = in_hand r.at have input; out = out; to = r.to; next = r.next }
+abbrev pub leaves : Round → List ℕ → List ℕ → List ℕ → Rounded
+leaves r bytes out s =
+    record { pool = record { shape = r.pool.shape; memory = lent_to r.pool s }; rest = drop r.at bytes; out = out; to = r.to; next = r.next }
 
 -- the places within their buffers; of a cut record fewer bytes are kept than any record has
-pub record Placed (r : Round) (have : ℕ) (out : List ℕ) : Type 0 where
-  pub at : r.at ≤ have
+pub record Placed (r : Round) (bytes out : List ℕ) : Type 0 where
+  pub at : r.at ≤ length bytes
   pub to : r.to ≤ length out
-  pub few : r.next ≡ Read → have - r.at < 12
+  pub few : r.next ≡ Read → length bytes - r.at < 12

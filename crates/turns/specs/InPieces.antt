@@ -4,6 +4,7 @@
 --     load, weight                     how much is to come; enough rounds work through it
 -- Assumes nothing.
 use Rattle.std.specs.Prelude.{◌≡◌, Bool, true, false, List, [], ◌∷◌, ◌++◌, ℕ, suc, ◌+◌, ◌<◌, length, take}
+use Rattle.turn_file.specs.declared.Unreadable.{Unreadable}
 use Rattle.batch.specs.TurnFile.{behind, all_records}
 use Rattle.turns.specs.declared.Next.{Next}
 use Rattle.turns.specs.declared.Next.TheVariants.{More, Read, End, Last}
@@ -25,8 +26,8 @@ pub data Step (h : Held) (reads : Reads) (r : Rounded) : Next → Type 0 where
       → all_records (h.bytes ++ ahead h.ended reads) h.pool ≡ behind (take r.to r.out) (all_records (r.rest ++ input_of reads) r.pool)
       → Step h reads r Read
   ends : all_records (h.bytes ++ ahead h.ended reads) h.pool ≡ behind (take r.to r.out) (record { pool = r.pool; lines = [] }) → Step h reads r End
-  refused : (k : ℕ) → all_records (h.bytes ++ ahead h.ended reads) h.pool ≡ behind (take r.to r.out) (record { pool = r.pool; lines = [] })
-      → Step h reads r (Last k)
+  refused : (why : Unreadable) → all_records (h.bytes ++ ahead h.ended reads) h.pool ≡ behind (take r.to r.out) (record { pool = r.pool; lines = [] })
+      → Step h reads r (Last why)
 
 -- ── all rounds ──
 -- how many reads and bytes are to come

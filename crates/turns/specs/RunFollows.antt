@@ -5,10 +5,11 @@
 --     Whole, After, Interrupted, Outcome     what a run left, by why it ended
 --     Ends                                   it is closed; the file has ended
 -- Assumes nothing.
-use Rattle.std.specs.Prelude.{◌≡◌, List, ◌++◌, ℕ, ◌+◌, ◌<◌}
+use Rattle.std.specs.Prelude.{◌≡◌, List, ◌++◌, ℕ, ◌+◌, ◌<◌, Result, Ok, Err}
 use Rattle.batch.specs.TurnFile.{behind, turn_file}
+use Rattle.std.specs.declared.io.Error.{Error}
 use Rattle.turns.specs.declared.Ended.{Ended}
-use Rattle.turns.specs.declared.Ended.TheVariants.{Finished, Closed, Spent}
+use Rattle.turns.specs.declared.Ended.TheVariants.{Finished, Spent}
 use Rattle.turns.specs.declared.Next.{Next}
 use Rattle.turns.specs.declared.Next.TheVariants.{More, Read, End, Last}
 use Rattle.turns.specs.TurnsRun.{lent, Held, Reads, rounds, input_of}
@@ -42,14 +43,14 @@ pub record Interrupted (start : Held) (store : List ℕ) : Type 0 where
   pub after : After count start store
 
 -- by why the rounds ended
-abbrev pub Outcome : Held → List ℕ → Ended → Type 0
-Outcome start store Finished = Whole store
-Outcome start store Closed = Interrupted start store
-Outcome start store Spent = After all_rounds start store
+abbrev pub Outcome : Held → List ℕ → Result Ended Error → Type 0
+Outcome start store (Ok Finished) = Whole store
+Outcome start store (Ok Spent) = After all_rounds start store
+Outcome start store (Err why) = Interrupted start store
 
 -- no round follows
 abbrev pub Ends : Next → Type 0
 Ends More = ⊥
 Ends Read = ⊥
 Ends End = Unit {0}
-Ends (Last k) = Unit {0}
+Ends (Last why) = Unit {0}

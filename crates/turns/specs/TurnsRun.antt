@@ -1,6 +1,8 @@
 -- What the program does between its reads and writes, over what each read hands over. Assumes nothing.
-use Rattle.std.specs.Prelude.{Bool, true, false, cond, List, [], ◌∷◌, ◌++◌, ℕ, zero, suc, eqb, take, drop, replicate}
+use Rattle.std.specs.Prelude.{Bool, true, false, cond, List, [], ◌∷◌, ◌++◌, ℕ, zero, suc, take, drop, replicate}
 use Rattle.arrival.specs.declared.Response.TheVariants.{Refused}
+use Rattle.turn_file.specs.declared.Unreadable.TheVariants.{UnknownMark, CutShort}
+use Rattle.turn_file.specs.Reading.{number_of}
 use Rattle.turn_file.specs.Lines.{line_of}
 use Rattle.turn_file.specs.Buffer.{written, after}
 use Rattle.calendar.specs.rules.Ranges.{blank}
@@ -21,13 +23,14 @@ lent = record { store = replicate 4355 0; table = replicate 64 blank }
 abbrev pub follows : Bool → Stop → Next
 follows ended Full = More
 follows ended Drained = cond ended End Read
-follows ended (Halted k) = cond ended (Last k) (cond (eqb k 8) Read (Last k))
+follows ended (Halted UnknownMark) = Last UnknownMark
+follows ended (Halted CutShort) = cond ended (Last CutShort) Read
 
 abbrev pub last_line : Next → List ℕ
 last_line More = []
 last_line Read = []
 last_line End = []
-last_line (Last k) = line_of (Refused k)
+last_line (Last why) = line_of (Refused (number_of why))
 
 -- between two rounds: the bytes not yet worked through, whether the input has ended, and the output's buffer
 pub record Held : Type 0 where
@@ -87,7 +90,7 @@ abbrev pub next_round : (Reads → Held → Ran) → Reads → Bool → Rounded 
 next_round run reads ended r More = run reads (worked_on ended r)
 next_round run reads ended r Read = run (later reads) (read_on (handed reads) r)
 next_round run reads ended r End = record { pool = r.pool; lines = [] }
-next_round run reads ended r (Last k) = record { pool = r.pool; lines = [] }
+next_round run reads ended r (Last why) = record { pool = r.pool; lines = [] }
 
 -- at most n rounds: all that is written, and the pool at the end
 unfoldable pub rounds : ℕ → Reads → Held → Ran

@@ -12,8 +12,9 @@ ghost use Rattle.turns.specs.RunFollows.{Outcome};
 
 use arrival::{IDLE_WORKER, Shape};
 use batch::{HeldPool, Stop, run_batch};
-use std::io::{Read, Write};
-use turn_file::write_refusal;
+use std::io;
+use std::io::{ErrorKind, Read, Write};
+use turn_file::{Unreadable, write_refusal};
 
 // What follows a batch: the rest of its bytes, more bytes behind that rest, or the run's end, without a last line or with the line of a refusal.
 #[derive(Clone, Copy)]
@@ -21,10 +22,10 @@ enum Next {
     More,
     Read,
     End,
-    Last(u64),
+    Last(Unreadable),
 }
 
-// Where a round leaves the run: the bytes not yet worked through stand from `at` on, the lines before `to`.
+// Where a round leaves the run: of its bytes those from `at` on are not yet worked through, the lines stand before `to`.
 #[derive(Drop)]
 struct Round {
     pool: HeldPool,
@@ -33,11 +34,10 @@ struct Round {
     next: Next,
 }
 
-// Why the rounds ended: one said so, the output was closed, or all were used up.
+// Why the rounds ended, where the output stayed open: one said so, or all were used up.
 #[derive(Drop)]
 enum Ended {
     Finished,
-    Closed,
     Spent,
 }
 
@@ -77,21 +77,10 @@ fn follow(stop: Stop, ended: bool) -> Next
 {
     match stop {
         Stop::Full => Next::More,
-        Stop::Drained => {
-            if ended {
-                return Next::End;
-            }
-            Next::Read
-        }
-        Stop::Halted(k) => {
-            if ended {
-                return Next::Last(k);
-            }
-            if k == 8 {
-                return Next::Read;
-            }
-            Next::Last(k)
-        }
+        Stop::Drained if ended => Next::End,
+        Stop::Drained => Next::Read,
+        Stop::Halted(Unreadable::CutShort) if !ended => Next::Read,
+        Stop::Halted(why) => Next::Last(why),
     }
 }
 
@@ -100,83 +89,58 @@ fn close(next: Next, out: &mut [u8], to: usize) -> usize
     ensures { (result ≡ after out.old to (last_line next)) × (out.new ≡ written out.old to (last_line next)) }
 {
     match next {
-        Next::Last(k) => write_refusal(k, out, to),
-        Next::More => to,
-        Next::Read => to,
-        Next::End => to,
+        Next::Last(why) => write_refusal(why.into(), out, to),
+        Next::More | Next::Read | Next::End => to,
     }
 }
 
 // Moves the bytes from `at` to `have` to the front: how many they are.
+#[tactic(auto, unfolding(laws::specs::Storing::moved))]
 fn keep_rest(input: &mut [u8], at: usize, have: usize) -> usize
     requires { (at ≤ have) × (have ≤ length input.old) }
     ensures { (result ≡ have - at) × (length input.new ≡ length input.old)
         × (input.new ≡ moved at (have - at) input.old) }
 {
-    let n = have - at;
-    let mut i: usize = 0;
-    while i < n {
-        input[i] = input[at + i];
-        i += 1;
-    }
-    n
+    input.copy_within(at..have, 0);
+    have - at
 }
 
-// Reads behind the first `have` bytes, for which there is room: how many there are then.
+// Reads behind the first `have` bytes, for which there is room: how many there are then. A read that fails is as one that hands over nothing.
 fn read_more<R: Read>(from: &mut R, input: &mut [u8], have: usize) -> usize
     requires { have < length input.old }
     ensures { (have ≤ result) × (result ≤ length input.old) × (length input.new ≡ length input.old)
         × (take have input.new ≡ take have input.old) }
 {
     let free = &mut input[have..];
-    match from.read(free) {
-        Ok(n) => have + n,
-        Err(_) => have,
-    }
+    have + from.read(free).unwrap_or(0)
 }
 
-// Writes all of the bytes, or stops at the first write that takes nothing or fails.
-fn write_out<W: Write>(to: &mut W, bytes: &[u8]) -> bool {
-    let mut done: usize = 0;
-    while done < bytes.len() {
-        match to.write(&bytes[done..]) {
-            Ok(n) => {
-                if n == 0 {
-                    return false;
-                }
-                done += n;
-            }
-            Err(_) => {
-                return false;
-            }
+// Writes all of the bytes, or stops at the first write that takes nothing or fails. (`write_all` would write again after a signal, against rule O8.)
+fn write_out<W: Write>(to: &mut W, bytes: &[u8]) -> io::Result<()> {
+    let mut rest = bytes;
+    while !rest.is_empty() {
+        match to.write(rest)? {
+            0 => return Err(ErrorKind::WriteZero.into()),
+            n => rest = &rest[n..],
         }
     }
-    true
+    Ok(())
 }
 
-// One round over the bytes from `at` to `have`: a batch, the last line behind it, and what follows.
-fn one_round(
-    pool: HeldPool,
-    ended: bool,
-    input: &[u8],
-    at: usize,
-    have: usize,
-    out: &mut [u8],
-    store: &mut [u64],
-) -> Round
-    requires { Sound pool store.old × (at ≤ have) × (have ≤ length input.now) }
-    ensures { (leaves result have input.now out.new store.new
-        ≡ round_of (holding pool store.old ended (in_hand at have input.now) out.old))
-        × Sound result.pool store.new × Placed result have out.new × (length out.new ≡ length out.old) }
+// One round over the bytes in hand: a batch, the last line behind it, and what follows.
+fn one_round(pool: HeldPool, ended: bool, bytes: &[u8], out: &mut [u8], store: &mut [u64]) -> Round
+    requires { Sound pool store.old }
+    ensures { (leaves result bytes.now out.new store.new ≡ round_of (holding pool store.old ended bytes.now out.old))
+        × Sound result.pool store.new × Placed result bytes.now out.new × (length out.new ≡ length out.old) }
 {
-    let p = run_batch(pool, &input[at..have], 0, out, 0, store);
+    let p = run_batch(pool, bytes, 0, out, 0, store);
     let stop = p.stop;
     let next = follow(stop, ended);
     let to = close(next, out, p.to);
     let pool = p.pool;
     Round {
         pool,
-        at: at + p.at,
+        at: p.at,
         to,
         next,
     }
@@ -189,7 +153,7 @@ fn run<R: Read, W: Write>(
     store: &mut [u64],
     input: &mut [u8],
     out: &mut [u8],
-) -> Ended
+) -> io::Result<Ended>
     requires { (store.old ≡ lent.store) × (12 ≤ length input.old) × (89 ≤ length out.old) }
     ensures { Outcome (at_first lent out.old) store.new result }
 {
@@ -197,19 +161,14 @@ fn run<R: Read, W: Write>(
     let mut ended = false;
     let mut at: usize = 0;
     let mut have: usize = 0;
-    let mut left: u64 = 18446744073709551615;
-    while 0 < left {
-        left -= 1;
-        let r = one_round(pool, ended, input, at, have, out, store);
+    for _round in 0..u64::MAX {
+        let r = one_round(pool, ended, &input[at..have], out, store);
         let n = r.to;
-        if !write_out(to, &out[..n]) {
-            return Ended::Closed;
-        }
+        write_out(to, &out[..n])?;
         let after = r.pool;
         pool = after;
-        at = r.at;
-        let next = r.next;
-        match next {
+        at += r.at;
+        match r.next {
             Next::More => {}
             Next::Read => {
                 let kept = keep_rest(input, at, have);
@@ -217,15 +176,12 @@ fn run<R: Read, W: Write>(
                 have = read_more(from, input, kept);
                 ended = have == kept;
             }
-            Next::End => {
-                return Ended::Finished;
-            }
-            Next::Last(_) => {
-                return Ended::Finished;
+            Next::End | Next::Last(_) => {
+                return Ok(Ended::Finished);
             }
         }
     }
-    Ended::Spent
+    Ok(Ended::Spent)
 }
 
 fn main(rt: HostRuntime) {
