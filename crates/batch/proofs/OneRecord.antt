@@ -30,7 +30,7 @@ use Rattle.operation.specs.Leaks.{action_leaks}
 use Rattle.operation.proofs.LeakLaws.{act_watched}
 use Rattle.admission.specs.Watched.{Watched}
 use Rattle.admission.proofs.Watched.{opened_sound}
-use Rattle.admission.specs.Gate.{gate_of, open_gate, open_response}
+use Rattle.admission.specs.Gate.{gate_of, open_gate}
 use Rattle.admission.proofs.GateLaws.{gate_opens, open_gate_is, usable, refused_is}
 use Rattle.laws.specs.Storing.{over_taken}
 use Rattle.turn_file.specs.Lines.{line_of}
@@ -63,14 +63,14 @@ module _ (d : HeldPool) (s : List ℕ) (S : Sound d s) where
   open_gate_here sh = ap (open_gate sh (length s)) counted ∙ open_gate_is sh (lent_to d s)
 
   -- ── a start or turn ──
-  pub refused_act : (a : Action) (k : ℕ) → k ≡ gate_of d.shape (length s) d.records (actor a) d.sound → k ≢ 0 → (i : ℕ)
-      → Does (Act a) d s (Refused k) (with_record d i (worker d.table i)) s
-  refused_act a k is n i =
+  pub refused_act : (a : Action) (k : ℕ) → k ≡ gate_of d.shape (length s) d.records (actor a) d.sound → k ≢ 0
+      → Does (Act a) d s (Refused k) (with_record d (place_of a) (worker d.table (place_of a))) s
+  refused_act a k is n =
       let g = is ∙ gate_here (actor a) in
       let r : record { memory = lent_to d s; response = Refused k } ≡ act d.shape (lent_to d s) a =
       ap (λ (j : ℕ). record { memory = lent_to d s; response = Refused j }) g ∙ refused_is d.shape (lent_to d s) d.sound S.2 a (λ z. n (g ∙ z)) in
       subst⁻¹ (λ (t : List Worker). Does (Act a) d s (Refused k) (record { shape = d.shape; sound = d.sound; records = d.records; held = d.held; table = t }) s)
-      (set-get_or d.table i blank)
+      (set-get_or d.table (place_of a) blank)
       (record {
         pool = λ j. record { shape = d.shape; memory = (r j).memory };
         response = ap (λ (x : Result). x.response) r;
@@ -167,39 +167,39 @@ module _ (d : HeldPool) (s : List ℕ) (S : Sound d s) where
         → Does (Act a) d s l (with_record (leaving i) i w') s') at_place (done_at ts beside s' w' l)
 
   -- ── an opening ──
-  pub refused_open : (sh : Shape) (k : ℕ) → k ≡ open_gate sh (length s) d.records → k ≢ 0 → Does (Open sh) d s (open_response k) d s
+  pub refused_open : (sh : Shape) (k : ℕ) → k ≡ open_gate sh (length s) d.records → k ≢ 0 → Does (Open sh) d s (Refused k) d s
   unfolding open_pool
   refused_open sh k is n =
       let g = is ∙ open_gate_here sh in
       let none = ne_eqb (open_refusal sh s (take d.records d.table)) 0 (λ z. n (g ∙ z)) in
-      record { pool = rw none; response = rw (ne_eqb k 0 n, none, g); held = rw none; records = refl; sound = S }
+      record { pool = rw none; response = rw (none, g); held = rw none; records = refl; sound = S }
 
-  module _ (sh : Shape) (k : ℕ) (is : k ≡ open_gate sh (length s) d.records) (z : k ≡ 0) where
+  module _ (sh : Shape) (z : open_gate sh (length s) d.records ≡ 0) where
     fits : Lent sh s (take d.records d.table)
-    fits = open_accepted sh s (take d.records d.table) (sym (open_gate_here sh) ∙ sym is ∙ z)
+    fits = open_accepted sh s (take d.records d.table) (sym (open_gate_here sh) ∙ z)
 
     pub small_shape : sh.workers ≤ 64
     small_shape = fits.limits.workers
 
     pub did_open : (s' : List ℕ) → s' ≡ open_store sh s → (t' : List Worker) → t' ≡ replicate sh.workers blank ++ drop sh.workers d.table
         → (h' : ℕ) → h' ≡ greater d.held sh.workers
-        → Does (Open sh) d s (open_response k) (record { shape = sh; sound = true; records = d.records; held = h'; table = t' }) s'
+        → Does (Open sh) d s Opened (record { shape = sh; sound = true; records = d.records; held = h'; table = t' }) s'
     unfolding open_pool open_table
     did_open s' store t' table h' held = record {
       pool = λ j. record { shape = shape j; memory = (r j).memory };
-      response = rw (eq-eqb k 0 z) (ap (λ (x : Result). x.response) r);
+      response = ap (λ (x : Result). x.response) r;
       held = rw (all, held);
       records = refl;
       sound = (
         ap length table ∙ over_length blank d.table sh.workers (omega (arith, small_shape, S.0)) ∙ S.0,
         S.1,
         λ _. rw (store, first) (sym (opened_sound sh (lent_to d s) fits.limits)),
-        λ _. ap (λ (n : ℕ). open_gate sh n d.records) same_length ∙ sym is ∙ z,
+        λ _. ap (λ (n : ℕ). open_gate sh n d.records) same_length ∙ z,
       );
     }
       where
         all : eqb (open_refusal sh s (take d.records d.table)) 0 ≡ true
-        all = eq-eqb (open_refusal sh s (take d.records d.table)) 0 (sym (open_gate_here sh) ∙ sym is ∙ z)
+        all = eq-eqb (open_refusal sh s (take d.records d.table)) 0 (sym (open_gate_here sh) ∙ z)
 
         first : take d.records t' ≡ open_table sh (take d.records d.table)
         first = ap (take d.records) table

@@ -8,12 +8,14 @@ ghost use Rattle.batch.specs.CodeView.{begins, ends, Sound};
 ghost use Rattle.batch.specs.RoundArms.{Line};
 ghost use Rattle.batch.specs.ActHeld.{place_of};
 ghost use Rattle.admission.specs.Gate.{open_response};
+ghost use Rattle.arrival.specs.Refusals.{refusal_of};
 
+use arrival::refusals::Refusal;
 use arrival::{Action, Shape, Worker};
 use known::Known;
-use operation::actor;
 use records::Records;
 use turn_file::{Record, Unreadable, read_record, write_line, write_opened, write_refusal};
+use words::replies::Reply;
 
 mod known;
 mod records;
@@ -62,17 +64,17 @@ fn has_room(room: usize, to: usize) -> bool
 fn place_of(action: Action) -> usize
     ensures { (result ≡ place_of action) × (result < 64) }
 {
-    actor(action).min(63) as usize
+    action.worker().min(63) as usize
 }
 
-// The line of an opening that is refused by k, or k is 0.
-fn write_opening(k: u64, out: &mut [u8], to: usize) -> usize
-    ensures { Line out.old to (open_response k) out.new result }
+// The line of an opening, refused or not.
+fn write_opening(opened: Result<(), Refusal>, out: &mut [u8], to: usize) -> usize
+    ensures { Line out.old to (open_response (refusal_of opened)) out.new result }
 {
-    if k != 0 {
-        return write_refusal(k, out, to);
+    match opened {
+        Ok(()) => write_opened(out, to),
+        Err(refusal) => write_refusal(refusal.number(), out, to),
     }
-    write_opened(out, to)
 }
 
 // Works through the records from `at` on and writes their lines from `to` on, while the longest line fits.
@@ -104,12 +106,13 @@ pub fn run_batch(
             Ok(Some((found, next))) => {
                 match found {
                     Record::Open(shape) => {
-                        let k = known.open(shape, &mut all, store);
-                        to = write_opening(k, out, to);
+                        let opened = known.open(shape, &mut all, store);
+                        to = write_opening(opened, out, to);
                     }
                     Record::Act(action) => {
                         let i = place_of(action);
-                        let reply = known.act(i, action, &all, store);
+                        let w = all.table[i];
+                        let reply = Reply::of(w, known.act(action, w, &all, store));
                         to = write_line(reply.response, out, to);
                         all.put(i, reply.worker);
                     }

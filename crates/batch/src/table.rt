@@ -2,7 +2,7 @@
 ghost use Rattle.std.specs.Prelude.{◌≡◌, ◌++◌, ◌≤◌, drop, replicate};
 ghost use Rattle.calendar.specs.rules.Ranges.{blank};
 
-use arrival::{IDLE_WORKER, Worker};
+use arrival::Worker;
 
 // The first n records become idle, all fields 0.
 #[tactic(auto, unfolding(calendar::specs::rules::Ranges::blank))]
@@ -10,5 +10,5 @@ pub fn clear(table: &mut [Worker; 64], n: usize)
     requires { n ≤ 64 }
     ensures { table.new ≡ replicate n blank ++ drop n table.old }
 {
-    table[..n].fill(IDLE_WORKER);
+    table[..n].fill(Worker::default());
 }

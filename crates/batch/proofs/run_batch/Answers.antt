@@ -1,6 +1,7 @@
 -- Each round is a record more (proofs/OneRecord), and each of the three ends is the definition's (proofs/BatchLoop).
-use Rattle.std.proofs.Common.{◌≡◌, List, sym, ap, ◌∙◌, arith}
+use Rattle.std.proofs.Common.{◌≡◌, List, ℕ, set, sym, ap, ◌∙◌, arith}
 use Rattle.std.proofs.Math.Path.{subst⁻¹}
+use Rattle.calendar.specs.rules.Ranges.{blank, worker}
 use Rattle.turn_file.specs.declared.Record.TheVariants.{Act}
 use Rattle.turn_file.proofs.OneReading.{read_on}
 use Rattle.arrival.specs.declared.Worker.{Worker}
@@ -34,7 +35,7 @@ loop-at-smaller-in-Open c =
 pub loop-at-preserved-in-Open : goal.loop-at-preserved-in-Open
 loop-at-preserved-in-Open c =
     let inv = c.loop-at.invariant in
-    let D = c.open-k.ensures in
+    let D = c.open-opened.ensures in
     record {
       going = goes_on inv.going (sym c.has_room.ensures ∙ c.if-not-has_room.false) _ _ (rw (c.in-Ok-Some.field-0-is, c.in-Open.is) at c.in-Ok-Some.ensures) D
           c.write_opening-to.ensures;
@@ -47,17 +48,20 @@ loop-at-smaller c =
     let (on, end) = read_on c.args.input.now c.loop-at.at _ _ (sym (rw c.in-Ok-Some.field-0-is at c.in-Ok-Some.ensures)) in
     omega arith
 
-pub act-reply-requires : goal.act-reply-requires
-act-reply-requires c = (c.loop-at.invariant.sound, c.place_of-i.ensures.0, c.place_of-i.ensures.1)
+pub act-requires : goal.act-requires
+unfolding blank
+act-requires c = (c.loop-at.invariant.sound, ap (worker c.loop-at.all.table) c.place_of-i.ensures.0)
 
 pub loop-at-preserved : goal.loop-at-preserved
 loop-at-preserved c =
     let inv = c.loop-at.invariant in
-    let k = c.act-reply.new.self in
+    let k = c.act.new.self in
+    let r = c.of-reply.result in
     let before = holding c.loop-at.known c.loop-at.all in
     let put : List Worker → HeldPool = λ t. record { shape = k.shape; sound = k.sound; records = k.records; held = k.held; table = t } in
-    let D = subst⁻¹ (λ (t : List Worker). Does (Act c.in-Act.action) before c.loop-at.store c.act-reply.result.response (put t) c.act-reply.new.store)
-    c.put.ensures c.act-reply.ensures in
+    let replied = rw (← c.of-reply.ensures) at c.act.ensures in
+    let D = subst⁻¹ (λ (t : List Worker). Does (Act c.in-Act.action) before c.loop-at.store r.response (put t) c.act.new.store)
+    (c.put.ensures ∙ ap (λ (i : ℕ). set c.loop-at.all.table i r.worker) c.place_of-i.ensures.0) replied in
     record {
       going = goes_on inv.going (sym c.has_room.ensures ∙ c.if-not-has_room.false) _ _ (rw (c.in-Ok-Some.field-0-is, c.in-Act.is) at c.in-Ok-Some.ensures) D
           c.write_line-to.ensures;
