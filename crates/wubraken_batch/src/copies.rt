@@ -2,7 +2,7 @@
 ghost use Rattle.std.specs.Prelude.{◌≡◌, ◌++◌, ◌≤◌, length, take, drop, replicate};
 ghost use Rattle.calendar.specs.rules.Ranges.{blank};
 
-use arrival::{IDLE_WORKER, Worker};
+use arrival::{Worker};
 
 // An array of the table's first n records, and idle ones behind them.
 #[tactic(auto, unfolding(calendar::specs::rules::Ranges::blank))]
@@ -10,7 +10,7 @@ pub fn copy_out(table: &[Worker], n: usize) -> [Worker; 64]
     requires { (n ≤ 64) × (n ≤ length table.now) }
     ensures { result ≡ take n table.now ++ drop n (replicate 64 blank) }
 {
-    let mut records = [IDLE_WORKER; 64];
+    let mut records = [Worker::default(); 64];
     records[..n].copy_from_slice(&table[..n]);
     records
 }
