@@ -5,7 +5,7 @@ use Rattle.arrival.specs.declared.Shape.{Shape}
 use Rattle.arrival.specs.declared.Arrival.{Arrival}
 use Rattle.arrival.specs.declared.Action.TheVariants.{Enqueue, Step}
 use Rattle.arrival.specs.declared.Response.TheVariants.{Begun, Took}
-use Rattle.turn_file.specs.declared.Unreadable.TheVariants.{UnknownMark, CutShort}
+use Rattle.turn_file.specs.declared.Unreadable.TheVariants.{UnknownMark, CutRecord}
 use Rattle.turn_file.specs.Fields.{shape_at, arrival_at}
 use Rattle.turn_file.specs.declared.Record.TheVariants.{Open, Act}
 use Rattle.turn_file.specs.Records.{size_of}
@@ -44,7 +44,7 @@ step : record_at file 21 ≡ whole (Act (Step 0)) 24
 unfolding record_at marked_at size_of fields_at
 step = refl
 
-left_over : record_at file 24 ≡ Err CutShort
+left_over : record_at file 24 ≡ Err CutRecord
 unfolding record_at
 left_over = refl
 
@@ -57,7 +57,7 @@ unknown : record_at file 1 ≡ Err UnknownMark
 unfolding record_at marked_at size_of
 unknown = refl
 
-cut : record_at (84 ∷ 65 ∷ []) 0 ≡ Err CutShort
+cut : record_at (84 ∷ 65 ∷ []) 0 ≡ Err CutRecord
 unfolding record_at marked_at size_of
 cut = refl
 

@@ -1,11 +1,11 @@
 -- What an answer with a record says of the bytes.
 -- Assumes nothing.
-use Rattle.std.specs.Prelude.{◌≡◌, refl, List, Bool, true, false, cond, ◌⊎◌, ℕ, ◌+◌, ◌<◌, ◌≤◌, eqb, leb, ltb, length, None, Ok, Err}
+use Rattle.std.specs.Prelude.{◌≡◌, refl, List, ◌⊎◌, ℕ, ◌+◌, ◌<◌, ◌≤◌, eqb, leb, ltb, length, None, Ok, Err}
 use Rattle.std.proofs.Common.{sym, ap, inl, inr, pos_of_ne-zero, arith, ltb-false, le-ltb, ne_eqb}
 use Rattle.std.proofs.lemmas.Bool.{eqb-false, lt-leb}
 use Rattle.laws.specs.Tests.{by_test}
 use Rattle.turn_file.specs.declared.Unreadable.{Unreadable}
-use Rattle.turn_file.specs.declared.Unreadable.TheVariants.{UnknownMark, CutShort}
+use Rattle.turn_file.specs.declared.Unreadable.TheVariants.{UnknownMark, CutRecord}
 use Rattle.turn_file.specs.Fields.{two_at}
 use Rattle.turn_file.specs.declared.Record.{Record}
 use Rattle.turn_file.specs.Records.{size_of}
@@ -31,9 +31,9 @@ unfolding record_at marked_at
 found s at r next =
     let mark = two_at s at in
     by_test Told (leb (length s) at) (λ _ e. absurd (not_end_lem r next e)) (λ _.
-    by_test Told (leb (length s) (at + 1)) (λ _ e. absurd (not_refused CutShort r next e)) (λ _.
+    by_test Told (leb (length s) (at + 1)) (λ _ e. absurd (not_refused CutRecord r next e)) (λ _.
     by_test Told (eqb (size_of mark) 0) (λ _ e. absurd (not_refused UnknownMark r next e)) (λ unknown.
-    by_test Told (ltb (length s) (at + size_of mark)) (λ _ e. absurd (not_refused CutShort r next e)) (λ enough e.
+    by_test Told (ltb (length s) (at + size_of mark)) (λ _ e. absurd (not_refused CutRecord r next e)) (λ enough e.
     let ends : next ≡ at + size_of mark = same_next r (fields_at s at mark) next (at + size_of mark) (sym e) in
     let room : at + size_of mark ≤ length s = ltb-false (length s) (at + size_of mark) enough in
     record {
@@ -62,4 +62,4 @@ enough s at known room =
 -- What is refused is refused by 7 or 8.
 pub refused_by : (s : List ℕ) (at : ℕ) (why : Unreadable) → record_at s at ≡ Err why → (number_of why ≡ 7) ⊎ (number_of why ≡ 8)
 refused_by s at UnknownMark e = inl refl
-refused_by s at CutShort e = inr refl
+refused_by s at CutRecord e = inr refl

@@ -1,12 +1,11 @@
 -- What is read at a position is read at the front of the bytes that are left from there on, as a borrowed part of them.
 -- Assumes nothing.
-use Rattle.std.specs.Prelude.{◌≡◌, List, ◌++◌, ℕ, ◌+◌, ◌-◌, ◌<◌, ◌≤◌, length, take, drop, Err}
+use Rattle.std.specs.Prelude.{◌≡◌, List, ℕ, ◌+◌, ◌-◌, ◌<◌, ◌≤◌, length, take, drop, Err}
 use Rattle.std.proofs.Common.{sym, ap, ◌∙◌, inl, inr, arith, length-drop, take-append-drop}
 use Rattle.std.proofs.lemmas.Grind.{common_steps}
-use Rattle.turn_file.specs.declared.Unreadable.TheVariants.{UnknownMark, CutShort}
+use Rattle.turn_file.specs.declared.Unreadable.TheVariants.{UnknownMark, CutRecord}
 use Rattle.turn_file.specs.Fields.{two_at}
 use Rattle.turn_file.specs.Records.{size_of}
-use Rattle.turn_file.proofs.Records.{size_least}
 use Rattle.turn_file.specs.Reading.{fields_at, whole, record_at}
 use Rattle.turn_file.proofs.FrontFields.{mark_front, fields_front}
 use Rattle.turn_file.proofs.FoundRecord.{enough}
@@ -29,7 +28,7 @@ module _ (s : List ℕ) (at : ℕ) (some : at < length s) where
       ∙ ap (λ (l : List ℕ). two_at l 0) (sym left_is ∙ sym (take-append-drop 2 left))
       ∙ two_more (take 2 left) (drop 2 left) 0 (grind (arith, common_steps))
 
-  pub one_left : length left < 2 → Err CutShort ≡ record_at s at
+  pub one_left : length left < 2 → Err CutRecord ≡ record_at s at
   one_left h = sym (cut_refused s at (inl (omega (arith, size_left))))
 
   pub unknown_left : 2 ≤ length left → size_of (two_at (take 2 left) 0) ≡ 0 → Err UnknownMark ≡ record_at s at
@@ -39,7 +38,7 @@ module _ (s : List ℕ) (at : ℕ) (some : at < length s) where
     same : size_of (two_at s at) ≡ size_of mark
     same = ap size_of (mark_left h ∙ is)
 
-    pub cut_left : length left < size_of mark → Err CutShort ≡ record_at s at
+    pub cut_left : length left < size_of mark → Err CutRecord ≡ record_at s at
     cut_left short = sym (cut_refused s at (inr (omega (arith, size_left), omega (arith, size_left, same))))
 
     pub whole_left : size_of mark ≤ length left → whole (fields_at (take (size_of mark) left) 0 mark) (at + size_of mark) ≡ record_at s at
@@ -48,9 +47,9 @@ module _ (s : List ℕ) (at : ℕ) (some : at < length s) where
         let rest : List ℕ = drop (size_of mark) left in
         let long : size_of mark ≤ length front = grind (arith, common_steps) in
         let fields : fields_at front 0 mark ≡ fields_at s at mark =
-            sym (fields_more front rest mark known long)
-            ∙ ap (λ (l : List ℕ). fields_at l 0 mark) (take-append-drop (size_of mark) left ∙ left_is)
-            ∙ sym (fields_front s at mark) in
+        sym (fields_more front rest mark known long)
+        ∙ ap (λ (l : List ℕ). fields_at l 0 mark) (take-append-drop (size_of mark) left ∙ left_is)
+        ∙ sym (fields_front s at mark) in
         ap (λ r. whole r (at + size_of mark)) fields
         ∙ ap (λ m. whole (fields_at s at m) (at + size_of m)) (sym (mark_left h ∙ is))
         ∙ sym (enough s at (omega (arith, same)) (omega (arith, same, size_left)))

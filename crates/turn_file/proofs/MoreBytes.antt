@@ -11,7 +11,7 @@ use Rattle.std.proofs.Common.{eqb-true, leb-true, leb-false, ltb-true, le-leb, e
 use Rattle.std.proofs.Math.ListN.{get_or-append}
 use Rattle.std.proofs.lemmas.Bool.{lt-leb}
 use Rattle.turn_file.specs.declared.Unreadable.{Unreadable}
-use Rattle.turn_file.specs.declared.Unreadable.TheVariants.{UnknownMark, CutShort}
+use Rattle.turn_file.specs.declared.Unreadable.TheVariants.{UnknownMark, CutRecord}
 use Rattle.turn_file.specs.Fields.{byte_at, two_at, four_at, shape_at, arrival_at}
 use Rattle.turn_file.specs.declared.Record.{Record}
 use Rattle.turn_file.specs.Records.{size_of}
@@ -60,7 +60,7 @@ at_end s at =
     (at + size_of (two_at s at))
   where
     go : (a : Bool) → leb (length s) at ≡ a → (b c d : Bool) (r : Record) (next : ℕ)
-        → cond a (Ok None) (cond b (Err CutShort) (cond c (Err UnknownMark) (cond d (Err CutShort) (whole r next)))) ≡ Ok None → length s ≤ at
+        → cond a (Ok None) (cond b (Err CutRecord) (cond c (Err UnknownMark) (cond d (Err CutRecord) (whole r next)))) ≡ Ok None → length s ≤ at
     go true e b c d r next f = leb-true (length s) at e
     go false e true c d r next f = absurd cc
     go false e false true d r next f = absurd cc
@@ -68,7 +68,7 @@ at_end s at =
     go false e false false false r next f = absurd (not_end_lem r next (sym f))
 
 pub why_refused : (s : List ℕ) (at : ℕ) (why : Unreadable) → record_at s at ≡ Err why
-    → ((why ≡ UnknownMark) × Unknown s at) ⊎ ((why ≡ CutShort) × Cut s at)
+    → ((why ≡ UnknownMark) × Unknown s at) ⊎ ((why ≡ CutRecord) × Cut s at)
 unfolding record_at marked_at
 why_refused s at why =
     go (leb (length s) at) refl (leb (length s) (at + 1)) refl (eqb (size_of (two_at s at)) 0) refl (ltb (length s) (at + size_of (two_at s at))) refl
@@ -76,8 +76,8 @@ why_refused s at why =
   where
     go : (a : Bool) → leb (length s) at ≡ a → (b : Bool) → leb (length s) (at + 1) ≡ b → (c : Bool) → eqb (size_of (two_at s at)) 0 ≡ c → (d : Bool)
         → ltb (length s) (at + size_of (two_at s at)) ≡ d → (r : Record) (next : ℕ)
-        → cond a (Ok None) (cond b (Err CutShort) (cond c (Err UnknownMark) (cond d (Err CutShort) (whole r next)))) ≡ Err why
-        → ((why ≡ UnknownMark) × Unknown s at) ⊎ ((why ≡ CutShort) × Cut s at)
+        → cond a (Ok None) (cond b (Err CutRecord) (cond c (Err UnknownMark) (cond d (Err CutRecord) (whole r next)))) ≡ Err why
+        → ((why ≡ UnknownMark) × Unknown s at) ⊎ ((why ≡ CutRecord) × Cut s at)
     go true p b q c u d v r next e = absurd cc
     go false p true q c u d v r next e = inr (cc, inl (omega (arith, leb-false (length s) at p, leb-true (length s) (at + 1) q)))
     go false p false q true u d v r next e = inl (cc, (leb-false (length s) (at + 1) q, eqb-true (size_of (two_at s at)) 0 u))
@@ -90,7 +90,7 @@ unfolding record_at marked_at
 unknown_refused s at h =
     rw (lt-leb (length s) at (omega (arith, h.0)), lt-leb (length s) (at + 1) (omega (arith, h.0)), eq-eqb (size_of (two_at s at)) 0 h.1)
 
-pub cut_refused : (s : List ℕ) (at : ℕ) → Cut s at → record_at s at ≡ Err CutShort
+pub cut_refused : (s : List ℕ) (at : ℕ) → Cut s at → record_at s at ≡ Err CutRecord
 unfolding record_at marked_at
 cut_refused s at (inl h) = rw (lt-leb (length s) at (omega arith), le-leb (length s) (at + 1) (omega arith))
 cut_refused s at (inr h) =

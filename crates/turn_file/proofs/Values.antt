@@ -5,7 +5,7 @@
 --     values_before, values_size, values_room    the one before those that stand already; there is room for it
 --     step_back                    it is stored, and nothing else
 -- Assumes nothing.
-use Rattle.std.specs.Prelude.{◌≡◌, List, [], ◌∷◌, ◌++◌, ℕ, zero, suc, ◌+◌, ◌-◌, ◌*◌, ◌/◌, ◌%◌, ◌^◌, ◌<◌, ◌≤◌, length, drop, slice_index}
+use Rattle.std.specs.Prelude.{◌≡◌, List, [], ◌∷◌, ◌++◌, ℕ, zero, suc, ◌+◌, ◌-◌, ◌*◌, ◌%◌, ◌^◌, ◌<◌, ◌≤◌, length, drop, slice_index}
 use Rattle.std.proofs.Common.{sym, ap, ◌∙◌, arith, length-append, append_assoc, refl, suc-add, get_or, set, take, take-take}
 use Rattle.std.proofs.lemmas.List.{drop-set, take-set}
 use Rattle.std.specs.Fmt as std

@@ -5,7 +5,7 @@ use Rattle.arrival.specs.declared.Action.TheVariants.{Enqueue, Dequeue, Step}
 use Rattle.turn_file.specs.declared.Record.{Record}
 use Rattle.turn_file.specs.declared.Record.TheVariants.{Open, Act}
 use Rattle.turn_file.specs.declared.Unreadable.{Unreadable}
-use Rattle.turn_file.specs.declared.Unreadable.TheVariants.{UnknownMark, CutShort}
+use Rattle.turn_file.specs.declared.Unreadable.TheVariants.{UnknownMark, CutRecord}
 use Rattle.turn_file.specs.Fields.{byte_at, two_at, shape_at, arrival_at}
 use Rattle.turn_file.specs.Records.{OP, PU, TA, size_of}
 
@@ -16,7 +16,7 @@ Reading = Result (Option (Record × ℕ)) Unreadable
 -- The number that it is refused by.
 abbrev pub number_of : Unreadable → ℕ
 number_of UnknownMark = 7
-number_of CutShort = 8
+number_of CutRecord = 8
 
 -- The record of a known mark, of which every byte is there.
 unfoldable pub fields_at : List ℕ → ℕ → ℕ → Record
@@ -34,12 +34,12 @@ whole r next = Ok (Some (r, next))
 unfoldable pub marked_at : List ℕ → ℕ → ℕ → Reading
 marked_at s at mark =
     cond (eqb (size_of mark) 0) (Err UnknownMark)
-    (cond (ltb (length s) (at + size_of mark)) (Err CutShort)
+    (cond (ltb (length s) (at + size_of mark)) (Err CutRecord)
     (whole (fields_at s at mark) (at + size_of mark)))
 
 -- No byte left: the end. One byte left over: 8.
 unfoldable pub record_at : List ℕ → ℕ → Reading
 record_at s at =
     cond (leb (length s) at) (Ok None)
-    (cond (leb (length s) (at + 1)) (Err CutShort)
+    (cond (leb (length s) (at + 1)) (Err CutRecord)
     (marked_at s at (two_at s at)))

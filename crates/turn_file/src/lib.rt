@@ -6,7 +6,7 @@ mod fields;
 mod lines;
 
 ghost use Rattle.std.specs.Prelude.{◌≡◌, ◌+◌, ◌≤◌, ◌<◌, length, take, MatchResult};
-ghost use Rattle.turn_file.specs.declared.Unreadable.TheVariants.{CutShort};
+ghost use Rattle.turn_file.specs.declared.Unreadable.TheVariants.{CutRecord};
 ghost use Rattle.turn_file.specs.Reading.{number_of, record_at};
 ghost use Rattle.arrival.specs.declared.Response.TheVariants.{Opened, Refused};
 ghost use Rattle.turn_file.specs.Lines.{line_of};
@@ -25,7 +25,7 @@ pub enum Record {
 #[derive(Clone, Copy, Debug, PartialEq, Eq)]
 pub enum Unreadable {
     UnknownMark = 7,
-    CutShort = 8,
+    CutRecord = 8,
 }
 
 impl From<Unreadable> for u64 {
@@ -38,9 +38,9 @@ impl From<Unreadable> for u64 {
 
 // The first bytes of what is left, as many as a record has.
 fn front<const N: usize>(left: &[u8]) -> Result<&[u8; N], Unreadable>
-    ensures { MatchResult result (λ front. (N ≤ length left.now) × (front.now ≡ take N left.now)) (λ why. (why ≡ CutShort) × (length left.now < N)) }
+    ensures { MatchResult result (λ front. (N ≤ length left.now) × (front.now ≡ take N left.now)) (λ why. (why ≡ CutRecord) × (length left.now < N)) }
 {
-    left.first_chunk().ok_or(Unreadable::CutShort)
+    left.first_chunk().ok_or(Unreadable::CutRecord)
 }
 
 // The record at a position, wherever that is, and the position after it; none at the end.
@@ -54,8 +54,14 @@ pub fn read_record(bytes: &[u8], at: usize) -> Result<Option<(Record, usize)>, U
     let (record, size) = match front(left)? {
         b"OP" => (Record::Open(fields::shape_of(front(left)?)), 9),
         b"PU" => (Record::Act(fields::enqueue_of(front(left)?)), 12),
-        b"TA" => (Record::Act(Action::Dequeue(fields::worker_of(front(left)?))), 3),
-        b"TU" => (Record::Act(Action::Step(fields::worker_of(front(left)?))), 3),
+        b"TA" => (
+            Record::Act(Action::Dequeue(fields::worker_of(front(left)?))),
+            3,
+        ),
+        b"TU" => (
+            Record::Act(Action::Step(fields::worker_of(front(left)?))),
+            3,
+        ),
         _ => return Err(Unreadable::UnknownMark),
     };
     Ok(Some((record, at + size)))
@@ -87,6 +93,7 @@ pub fn write_line(response: Response, out: &mut [u8], at: usize) -> usize
 }
 
 // The same for a refusal, and for an opening.
+// Kept: where a batch and `turns` write these by `write_line` too, `turns` runs 29 per cent more instructions, inlined by force 3 to 4 (docs/PERFORMANCE.md).
 pub fn write_refusal(number: u64, out: &mut [u8], at: usize) -> usize
     ensures { (result ≡ after out.old at (line_of (Refused number)))
         × (out.new ≡ written out.old at (line_of (Refused number)))

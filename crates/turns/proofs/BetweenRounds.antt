@@ -9,7 +9,7 @@ use Rattle.std.proofs.Math.Path.{ap, subst⁻¹}
 use Rattle.std.proofs.lemmas.Bool.{eqb-false}
 use Rattle.laws.specs.Lists.{drop_take}
 use Rattle.laws.specs.Storing.{moved}
-use Rattle.turn_file.specs.declared.Unreadable.TheVariants.{UnknownMark, CutShort}
+use Rattle.turn_file.specs.declared.Unreadable.TheVariants.{UnknownMark, CutRecord}
 use Rattle.turn_file.specs.MoreBytes.{Unknown, Cut}
 use Rattle.turn_file.proofs.MoreBytes.{at_end, why_refused, cut_short}
 use Rattle.turn_file.specs.Buffer.{written, after}
@@ -74,9 +74,9 @@ few_kept : (b : List ℕ) (ended : Bool) (g : Progress) (stop : Stop) → Reason
 few_kept b ended g Full why e = absurd cc
 few_kept b ended g Drained why e = omega (arith, at_end b g.at why)
 few_kept b ended g (Halted UnknownMark) why e = absurd cc
-few_kept b ended g (Halted CutShort) why e = go (why_refused b g.at CutShort why.0)
+few_kept b ended g (Halted CutRecord) why e = go (why_refused b g.at CutRecord why.0)
   where
-    go : ((CutShort ≡ UnknownMark) × Unknown b g.at) ⊎ ((CutShort ≡ CutShort) × Cut b g.at) → length b - g.at < 12
+    go : ((CutRecord ≡ UnknownMark) × Unknown b g.at) ⊎ ((CutRecord ≡ CutRecord) × Cut b g.at) → length b - g.at < 12
     go (inl h) = absurd (let z = h.0 in cc)
     go (inr h) = omega (arith, cut_short b g.at h.1)
 

@@ -9,7 +9,7 @@ use Rattle.std.proofs.Common.{sym, ap, ◌∙◌, append_assoc, append-nil, inl,
 use Rattle.std.proofs.lemmas.Bool.{eqb-false}
 use Rattle.arrival.specs.declared.Response.TheVariants as response
 use Rattle.turn_file.specs.declared.Unreadable.{Unreadable}
-use Rattle.turn_file.specs.declared.Unreadable.TheVariants.{UnknownMark, CutShort}
+use Rattle.turn_file.specs.declared.Unreadable.TheVariants.{UnknownMark, CutRecord}
 use Rattle.turn_file.specs.Reading.{number_of, record_at}
 use Rattle.turn_file.specs.MoreBytes.{Unknown, Cut}
 use Rattle.turn_file.proofs.MoreBytes.{at_end, why_refused, unknown_refused, cut_refused, unknown_rest, cut_rest}
@@ -45,7 +45,7 @@ last_line_lem bytes why x e = rw e
 -- a refusal's number is a word
 number_small : (why : Unreadable) → number_of why < 9
 number_small UnknownMark = omega arith
-number_small CutShort = omega arith
+number_small CutRecord = omega arith
 
 input_split : (reads : Reads) → input_of reads ≡ handed reads ++ ahead (is_empty (handed reads)) (later reads)
 input_split [] = refl
@@ -104,23 +104,23 @@ module _ (x : Pool) (b out : List ℕ) (big : 89 ≤ length out) (reads : Reads)
       ∙ nothing_left g.pool))
   step_by ended g (Halted UnknownMark) wa S = refused UnknownMark (go (why_refused b g.at UnknownMark S.reason.0))
     where
-      go : ((UnknownMark ≡ UnknownMark) × Unknown b g.at) ⊎ ((UnknownMark ≡ CutShort) × Cut b g.at)
+      go : ((UnknownMark ≡ UnknownMark) × Unknown b g.at) ⊎ ((UnknownMark ≡ CutRecord) × Cut b g.at)
           → all_records (b ++ ahead ended reads) x ≡ behind (take (after g.lines g.to (last_line (Last UnknownMark)))
           (written g.lines g.to (last_line (Last UnknownMark)))) (record { pool = g.pool; lines = [] })
       go (inl h) =
           lined (ahead ended reads) g UnknownMark S.reason.1 S
           (unknown_refused (drop g.at b ++ ahead ended reads) 0 (unknown_rest b g.at (ahead ended reads) h.1))
       go (inr h) = absurd (let z = h.0 in cc)
-  step_by true g (Halted CutShort) wa S = refused CutShort (go (why_refused b g.at CutShort S.reason.0))
+  step_by true g (Halted CutRecord) wa S = refused CutRecord (go (why_refused b g.at CutRecord S.reason.0))
     where
-      go : ((CutShort ≡ UnknownMark) × Unknown b g.at) ⊎ ((CutShort ≡ CutShort) × Cut b g.at)
-          → all_records (b ++ []) x ≡ behind (take (after g.lines g.to (last_line (Last CutShort))) (written g.lines g.to (last_line (Last CutShort))))
+      go : ((CutRecord ≡ UnknownMark) × Unknown b g.at) ⊎ ((CutRecord ≡ CutRecord) × Cut b g.at)
+          → all_records (b ++ []) x ≡ behind (take (after g.lines g.to (last_line (Last CutRecord))) (written g.lines g.to (last_line (Last CutRecord))))
           (record { pool = g.pool; lines = [] })
       go (inl h) = absurd (let z = h.0 in cc)
       go (inr h) =
-          lined [] g CutShort S.reason.1 S
+          lined [] g CutRecord S.reason.1 S
           (ap (λ (l : List ℕ). record_at l 0) (append-nil (drop g.at b)) ∙ cut_refused (drop g.at b) 0 (cut_rest b g.at h.1))
-  step_by false g (Halted CutShort) wa S = reads_on refl (plain (input_of reads) g (Halted CutShort) S)
+  step_by false g (Halted CutRecord) wa S = reads_on refl (plain (input_of reads) g (Halted CutRecord) S)
 
 -- EVERY ROUND
 pub round_step : (h : Held) (reads : Reads) → 89 ≤ length h.out → Step h reads (round_of h) (round_of h).next

@@ -3,7 +3,7 @@ use Rattle.std.specs.Prelude.{◌≡◌, refl, Bool, true, false, cond, List, []
 use Rattle.std.proofs.Common.{sym, ap, ◌∙◌, append-nil, add-zero, take-append-drop, ne_eqb}
 use Rattle.turn_file.specs.Buffer.{written, after}
 use Rattle.turn_file.specs.declared.Unreadable.{Unreadable}
-use Rattle.turn_file.specs.declared.Unreadable.TheVariants.{UnknownMark, CutShort}
+use Rattle.turn_file.specs.declared.Unreadable.TheVariants.{UnknownMark, CutRecord}
 use Rattle.batch.specs.declared.Stop.{Stop}
 use Rattle.batch.specs.declared.Stop.TheVariants.{Halted}
 use Rattle.turns.specs.declared.Next.{Next}
@@ -29,7 +29,7 @@ unclosed lines to next e = (sym (ap (after lines to) e ∙ (nothing_written line
 
 pub last_at_end : (ended : Bool) (stop : Stop) (why : Unreadable) → stop ≡ Halted why → ended ≡ true → Last why ≡ follows ended stop
 last_at_end ended stop UnknownMark e f = rw e
-last_at_end ended stop CutShort e f = rw (e, f)
+last_at_end ended stop CutRecord e f = rw (e, f)
 
 pub last_by_7 : (ended : Bool) (stop : Stop) → stop ≡ Halted UnknownMark → Last UnknownMark ≡ follows ended stop
 last_by_7 ended stop e = rw e

@@ -1,7 +1,7 @@
 -- What the program does between its reads and writes, over what each read hands over. Assumes nothing.
 use Rattle.std.specs.Prelude.{Bool, true, false, cond, List, [], ◌∷◌, ◌++◌, ℕ, zero, suc, take, drop, replicate}
 use Rattle.arrival.specs.declared.Response.TheVariants.{Refused}
-use Rattle.turn_file.specs.declared.Unreadable.TheVariants.{UnknownMark, CutShort}
+use Rattle.turn_file.specs.declared.Unreadable.TheVariants.{UnknownMark, CutRecord}
 use Rattle.turn_file.specs.Reading.{number_of}
 use Rattle.turn_file.specs.Lines.{line_of}
 use Rattle.turn_file.specs.Buffer.{written, after}
@@ -24,7 +24,7 @@ abbrev pub follows : Bool → Stop → Next
 follows ended Full = More
 follows ended Drained = cond ended End Read
 follows ended (Halted UnknownMark) = Last UnknownMark
-follows ended (Halted CutShort) = cond ended (Last CutShort) Read
+follows ended (Halted CutRecord) = cond ended (Last CutRecord) Read
 
 abbrev pub last_line : Next → List ℕ
 last_line More = []

@@ -79,7 +79,7 @@ fn follow(stop: Stop, ended: bool) -> Next
         Stop::Full => Next::More,
         Stop::Drained if ended => Next::End,
         Stop::Drained => Next::Read,
-        Stop::Halted(Unreadable::CutShort) if !ended => Next::Read,
+        Stop::Halted(Unreadable::CutRecord) if !ended => Next::Read,
         Stop::Halted(why) => Next::Last(why),
     }
 }
@@ -95,6 +95,7 @@ fn close(next: Next, out: &mut [u8], to: usize) -> usize
 }
 
 // Moves the bytes from `at` to `have` to the front: how many they are.
+// Kept: `input` with its places beside it; a struct of them would be lent whole, while a round is handed a part of `input` and `run` promises of any buffer.
 #[tactic(auto, unfolding(laws::specs::Storing::moved))]
 fn keep_rest(input: &mut [u8], at: usize, have: usize) -> usize
     requires { (at ≤ have) × (have ≤ length input.old) }
@@ -115,7 +116,8 @@ fn read_more<R: Read>(from: &mut R, input: &mut [u8], have: usize) -> usize
     have + from.read(free).unwrap_or(0)
 }
 
-// Writes all of the bytes, or stops at the first write that takes nothing or fails. (`write_all` would write again after a signal, against rule O8.)
+// Writes all of the bytes, or stops at the first write that takes nothing or fails.
+// Kept: a loop of its own, since `write_all` would write again after a signal, and rule O8 (docs/RULES.md) ends the program there.
 fn write_out<W: Write>(to: &mut W, bytes: &[u8]) -> io::Result<()> {
     let mut rest = bytes;
     while !rest.is_empty() {
@@ -188,6 +190,7 @@ fn main(rt: HostRuntime) {
     let mut store = lent_words();
     let mut input = [0u8; 65536];
     let mut out = [0u8; 65536];
+    // However it ends, the status is 0 (rule O6).
     let _ended = run(
         &mut rt.stdin(),
         &mut rt.stdout(),

@@ -1,4 +1,4 @@
-use Rattle.std.proofs.Common.{ℕ, suc, ◌*◌, ◌^◌, ◌≤◌, ◌<◌, arith, length}
+use Rattle.std.proofs.Common.{suc, ◌≤◌, arith, length}
 use Rattle.std.proofs.Math.Nat.{pow-succ'}
 use Rattle.turn_file.specs.Decimal.{decimal}
 use Rattle.turn_file.proofs.Decimal.{length_one, decimal_most, decimal_more_than, decimal_word}

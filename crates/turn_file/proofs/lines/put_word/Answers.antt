@@ -1,5 +1,5 @@
 -- What is copied over a part is stored there.
-use Rattle.std.proofs.Common.{◌∙◌, sym, refl, length, append_assoc, ◌+◌, ◌-◌, ◌≡◌, take, drop, arith}
+use Rattle.std.proofs.Common.{◌∙◌, sym, refl, length, append_assoc, ◌+◌, ◌-◌, take, drop, arith}
 use Rattle.std.proofs.lemmas.Slice.{put_mid-paste}
 use Rattle.std.proofs.lemmas.List.Edits.{paste_all, sets-eq}
 use Rattle.turn_file.proofs.lines.put_word.Goals as goal

@@ -1,8 +1,8 @@
 -- One number more is counted with its space.
-use Rattle.std.proofs.Common.{◌≡◌, ap, ◌∷◌, ◌++◌, ◌+◌, ◌≤◌, length, drop, get_or, length-append, drop_of_length-le, arith}
+use Rattle.std.proofs.Common.{ap, ◌+◌, ◌≤◌, length, drop, get_or, length-append, drop_of_length-le, arith}
 use Rattle.turn_file.specs.Decimal.{decimal}
 use Rattle.turn_file.specs.Lines.{values}
-use Rattle.turn_file.proofs.Values.{values_next, values_most, values_least}
+use Rattle.turn_file.proofs.Values.{values_next, values_most}
 use Rattle.turn_file.proofs.lines.values_size.Goals as goal
 
 pub overflow_add-size-in-loop-x : goal.overflow_add-size-in-loop-x

@@ -1,5 +1,5 @@
 -- The numbers stand where the line ends, and the word before them.
-use Rattle.std.proofs.Common.{◌≡◌, ◌∙◌, sym, ap, List, ◌++◌, ℕ, ◌+◌, ◌-◌, ◌≤◌, length, take, drop, length-append, append_assoc, take-take, arith}
+use Rattle.std.proofs.Common.{◌≡◌, ◌∙◌, sym, ap, List, ◌++◌, ℕ, ◌+◌, ◌≤◌, length, take, drop, length-append, append_assoc, take-take, arith}
 use Rattle.std.proofs.lemmas.List.Edits.{sets, sets-eq}
 use Rattle.turn_file.specs.Lines.{values}
 use Rattle.turn_file.proofs.Values.{values_least}

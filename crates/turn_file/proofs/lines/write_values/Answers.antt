@@ -1,5 +1,5 @@
 -- A number before those that stand already, and its space.
-use Rattle.std.proofs.Common.{◌≡◌, ◌∙◌, sym, ap, ◌∷◌, [], ◌++◌, ℕ, ◌+◌, ◌-◌, ◌≤◌, ◌<◌, List, length, drop, get_or, set, length-set, drop_of_length-le, arith}
+use Rattle.std.proofs.Common.{◌≡◌, ◌∙◌, sym, ap, ◌∷◌, [], ◌++◌, ℕ, ◌+◌, ◌-◌, ◌≤◌, ◌<◌, List, length, drop, get_or, length-set, drop_of_length-le, arith}
 use Rattle.std.proofs.lemmas.List.{drop-set, take-set}
 use Rattle.turn_file.specs.Lines.{values}
 use Rattle.turn_file.proofs.Values.{values_room, values_size, values_least, step_back}
@@ -51,8 +51,8 @@ loop-i-preserved c =
     let room = values_room n words l.i (omega arith) (omega arith) in
     let size = values_size n words l.i (omega arith) (omega arith) in
     let done = step_back n d.new.buf words l.i (omega arith) (omega arith) l.start c.args.end d.result c.args.out.now l.out l.invariant.built l.invariant.before
-        d.ensures.start (omega (arith, room, l.invariant.start, d.ensures.start)) (omega (arith, l.invariant.start, length-set {A = ℕ})) d.ensures.written d.ensures.before
-        (omega arith) in
+    d.ensures.start (omega (arith, room, l.invariant.start, d.ensures.start)) (omega (arith, l.invariant.start, length-set {A = ℕ})) d.ensures.written d.ensures.before
+    (omega arith) in
     record {
       start = omega (arith, size, room, l.invariant.start, d.ensures.start);
       built = done.0;
