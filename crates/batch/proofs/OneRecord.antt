@@ -3,6 +3,7 @@
 --     small_shape                   what an opening that is not refused tells
 --     refused_act, did_act          a start or turn
 --     refused_open, did_open        an opening
+--     with_table                    a record put back
 --     goes_on                       a record answered, its line written: the rest of the batch is as it was
 use Rattle.std.specs.Prelude.{◌≡◌, refl, List, ◌++◌, true, not, ◌≢◌, ℕ, ◌+◌, ◌<◌, ◌≤◌, eqb, leb, length, take, set, drop, replicate}
 use Rattle.std.proofs.Math.Path.{sym, ap, subst⁻¹}
@@ -213,6 +214,13 @@ module _ (d : HeldPool) (s : List ℕ) (S : Sound d s) where
 
         same_length : length s' ≡ length s
         same_length = ap (λ (x : Result). length x.memory.store) r ∙ (open_same_size sh (lent_to d s)).store
+
+-- the record put back, by the table that it is then
+pub with_table : {r : Record} {d : HeldPool} {s s' : List ℕ} {l : Response} (d' : HeldPool) (i : ℕ) (w : Worker) → Does r d s l (with_record d' i w) s'
+    → (t : List Worker) → t ≡ set d'.table i w
+    → Does r d s l (record { shape = d'.shape; sound = d'.sound; records = d'.records; held = d'.held; table = t }) s'
+with_table {r} {d} {s} {s'} {l} d' i w D t is =
+    subst⁻¹ (λ (u : List Worker). Does r d s l (record { shape = d'.shape; sound = d'.sound; records = d'.records; held = d'.held; table = u }) s') is D
 
 -- ── its line ──
 pub goes_on : {bytes : List ℕ} {p₀ : Progress} {h₀ at to : ℕ} {lines : List ℕ} {d d' : HeldPool} {s s' : List ℕ} {l : Response}

@@ -15,7 +15,6 @@ use arrival::{Action, Shape, Worker};
 use known::Known;
 use records::Records;
 use turn_file::{Record, Unreadable, read_record, write_line, write_opened, write_refusal};
-use words::replies::Reply;
 
 mod known;
 mod records;
@@ -111,10 +110,15 @@ pub fn run_batch(
                     }
                     Record::Act(action) => {
                         let i = place_of(action);
-                        let w = all.table[i];
-                        let reply = Reply::of(w, known.act(action, w, &all, store));
-                        to = write_line(reply.response, out, to);
-                        all.put(i, reply.worker);
+                        match known.act(action, all.table[i], &all, store) {
+                            Ok(reply) => {
+                                to = write_line(reply.response, out, to);
+                                all.put(i, reply.worker);
+                            }
+                            Err(refusal) => {
+                                to = write_refusal(refusal.number(), out, to);
+                            }
+                        }
                     }
                 }
                 at = next;

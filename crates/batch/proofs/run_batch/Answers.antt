@@ -1,8 +1,8 @@
 -- Each round is a record more (proofs/OneRecord), and each of the three ends is the definition's (proofs/BatchLoop).
 use Rattle.std.proofs.Common.{◌≡◌, List, ℕ, set, sym, ap, ◌∙◌, arith}
 use Rattle.std.proofs.Math.Path.{subst⁻¹}
+use Rattle.std.proofs.lemmas.List.{set-get_or}
 use Rattle.calendar.specs.rules.Ranges.{blank, worker}
-use Rattle.turn_file.specs.declared.Record.TheVariants.{Act}
 use Rattle.turn_file.proofs.OneReading.{read_on}
 use Rattle.arrival.specs.declared.Worker.{Worker}
 use Rattle.batch.specs.declared.HeldPool.{HeldPool}
@@ -10,9 +10,10 @@ use Rattle.batch.specs.declared.Stop.{Stop}
 use Rattle.batch.specs.Batch.{Stopped}
 use Rattle.batch.specs.BatchLoop.{Going}
 use Rattle.batch.specs.CodeView.{Sound, begins}
-use Rattle.batch.specs.OneRecord.{Does, holding, with_record}
+use Rattle.batch.specs.ActHeld.{place_of}
+use Rattle.batch.specs.OneRecord.{holding}
 use Rattle.batch.proofs.BatchLoop.{going, drained, halted, full}
-use Rattle.batch.proofs.OneRecord.{goes_on}
+use Rattle.batch.proofs.OneRecord.{with_table, goes_on}
 use Rattle.batch.proofs.run_batch.Goals as goal
 use Rattle.batch.proofs.run_batch.Goals.{then-not-has_room, else-not-has_room+in-Ok-None, else-not-has_room+in-Err}
 
@@ -52,19 +53,36 @@ pub act-requires : goal.act-requires
 unfolding blank
 act-requires c = (c.loop-at.invariant.sound, ap (worker c.loop-at.all.table) c.place_of-i.ensures.0)
 
-pub loop-at-preserved : goal.loop-at-preserved
-loop-at-preserved c =
+pub loop-at-smaller-in-Ok : goal.loop-at-smaller-in-Ok
+loop-at-smaller-in-Ok c =
+    let (on, end) = read_on c.args.input.now c.loop-at.at _ _ (sym (rw c.in-Ok-Some.field-0-is at c.in-Ok-Some.ensures)) in
+    omega arith
+
+pub loop-at-preserved-in-Ok : goal.loop-at-preserved-in-Ok
+loop-at-preserved-in-Ok c =
     let inv = c.loop-at.invariant in
-    let k = c.act.new.self in
-    let r = c.of-reply.result in
-    let before = holding c.loop-at.known c.loop-at.all in
-    let put : List Worker → HeldPool = λ t. record { shape = k.shape; sound = k.sound; records = k.records; held = k.held; table = t } in
-    let replied = rw (← c.of-reply.ensures) at c.act.ensures in
-    let D = subst⁻¹ (λ (t : List Worker). Does (Act c.in-Act.action) before c.loop-at.store r.response (put t) c.act.new.store)
-    (c.put.ensures ∙ ap (λ (i : ℕ). set c.loop-at.all.table i r.worker) c.place_of-i.ensures.0) replied in
+    let w = c.in-Ok.reply.worker in
+    let D = with_table (holding c.act.new.self c.loop-at.all) _ _ c.in-Ok.ensures c.put.new.self.table
+    (c.put.ensures ∙ ap (λ (i : ℕ). set c.loop-at.all.table i w) c.place_of-i.ensures.0) in
     record {
       going = goes_on inv.going (sym c.has_room.ensures ∙ c.if-not-has_room.false) _ _ (rw (c.in-Ok-Some.field-0-is, c.in-Act.is) at c.in-Ok-Some.ensures) D
           c.write_line-to.ensures;
+      sound = D.sound;
+      records = D.records ∙ inv.records;
+    }
+
+-- refused: the record at its place is as it was
+pub loop-at-preserved : goal.loop-at-preserved
+unfolding blank
+loop-at-preserved c =
+    let inv = c.loop-at.invariant in
+    let t = c.loop-at.all.table in
+    let i = place_of c.in-Act.action in
+    let D = with_table (holding c.act.new.self c.loop-at.all) _ _ c.in-Err-act.ensures t
+    (sym (ap (λ (j : ℕ). set t i (worker t j)) c.place_of-i.ensures.0 ∙ set-get_or t i blank)) in
+    record {
+      going = goes_on inv.going (sym c.has_room.ensures ∙ c.if-not-has_room.false) _ _ (rw (c.in-Ok-Some.field-0-is, c.in-Act.is) at c.in-Ok-Some.ensures) D
+          (rw c.number.ensures at c.write_refusal-to.ensures);
       sound = D.sound;
       records = D.records ∙ inv.records;
     }
