@@ -26,7 +26,7 @@ use Rattle.batch.specs.RoundArms.{Round, Line}
 use Rattle.batch.proofs.RoundArms.{in_use, below_64, let_in, turned_away_lem, performed}
 use Rattle.batch.specs.ActHeld.{held_act, sound_after, place_of}
 
-own_place : (a : Action) → actor a < 64 → place_of a ≡ actor a
+pub own_place : (a : Action) → actor a < 64 → place_of a ≡ actor a
 own_place a h = rw (lt-ltb (actor a) 64 h)
 
 pub place_own : (a : Action) (i : ℕ) → i ≡ actor a → i < 64 → i ≡ place_of a

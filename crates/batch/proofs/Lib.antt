@@ -4,6 +4,7 @@ pub mod BatchLoop
 pub mod LentPart
 pub mod LinesFit
 pub mod NeverSix
+pub mod OneRecord
 pub mod OpeningRounds
 pub mod RecordsCounted
 pub mod RecordsNotHeld

@@ -22,6 +22,7 @@ use Rattle.admission.specs.Watched.{Watched}
 use Rattle.admission.specs.Gate.{sound_of}
 use Rattle.admission.proofs.GateLaws.{sound_watched, shape_tests}
 use Rattle.turn_file.specs.Reading.{number_of}
+use Rattle.batch.specs.declared.Progress as declared
 use Rattle.batch.specs.declared.Stop.{Stop}
 use Rattle.batch.specs.declared.Stop.TheVariants.{Drained, Full, Halted}
 use Rattle.batch.specs.Batch.{Stopped, worked_all}
@@ -41,6 +42,10 @@ abbrev pub stop_number : Stop → ℕ
 stop_number Drained = 0
 stop_number Full = 1
 stop_number (Halted why) = number_of why
+
+-- the account of what the code left
+abbrev pub end_of : declared.Progress → BatchEnd
+end_of p = record { shape = p.pool.shape; read = p.at; written = p.to; stop = stop_number p.stop }
 
 -- the shape after a batch, the memory, the lent lines; the bytes read and written; why it was left
 pub record Account : Type 0 where

@@ -2,12 +2,12 @@
 ghost use Rattle.std.specs.Prelude.{◌≡◌, true, ◌≤◌, ◌<◌, take};
 ghost use Rattle.calendar.specs.rules.Ranges.{shape_in_range};
 ghost use Rattle.batch.specs.RecordsCounted.{counted_of};
-ghost use Rattle.wubraken_batch.specs.LentBatch.{stop_number, held_in_range, held_on, account, batch_on};
+ghost use Rattle.wubraken_batch.specs.LentBatch.{held_in_range, held_on, account, batch_on};
 
 use admission::is_sound;
 use admission::ranges::record_in_range;
 use arrival::{Shape, Worker};
-use batch::{HeldPool, Stop};
+use batch::{HeldPool, Progress, Stop, run_batch};
 use wubraken::table::records_surveyed;
 
 // The shape after a batch, the bytes read and written, and why it was left: 0 all bytes are worked through, 1 the next line may not fit, 7 or 8 what
@@ -19,6 +19,27 @@ pub struct BatchEnd {
     pub read: usize,
     pub written: usize,
     pub stop: u64,
+}
+
+impl From<Progress> for BatchEnd {
+    ghost use Rattle.std.specs.Prelude.{◌≡◌};
+    ghost use Rattle.wubraken_batch.specs.LentBatch.{end_of};
+
+    ghost from_gives = { λ p end. end ≡ end_of p };
+
+    fn from(p: Progress) -> BatchEnd {
+        let stop = match p.stop {
+            Stop::Drained => 0,
+            Stop::Full => 1,
+            Stop::Halted(why) => u64::from(why),
+        };
+        BatchEnd {
+            shape: p.pool.shape,
+            read: p.at,
+            written: p.to,
+            stop,
+        }
+    }
 }
 
 // What a batch leaves of the records, how many of them it held, and its account.
@@ -33,33 +54,15 @@ pub struct HeldBatch {
 pub fn records_counted(n: usize) -> usize
     ensures { result ≡ counted_of n }
 {
-    if n < 64 { n } else { 64 }
-}
-
-fn stop_number(stop: Stop) -> u64
-    ensures { result ≡ stop_number stop }
-{
-    match stop {
-        Stop::Drained => 0,
-        Stop::Full => 1,
-        Stop::Halted(why) => u64::from(why),
-    }
+    n.min(64)
 }
 
 // Whether the first n records are in range.
-fn held_in_range(shape: Shape, n: usize, table: [Worker; 64]) -> bool
+fn held_in_range(shape: Shape, n: usize, table: &[Worker; 64]) -> bool
     requires { (n ≤ 64) × (0 < n → shape_in_range shape ≡ true) }
-    ensures { result ≡ held_in_range shape n table }
+    ensures { result ≡ held_in_range shape n table.now }
 {
-    let mut k: usize = 0;
-    while k < n {
-        let w = table[k];
-        if !record_in_range(shape, w) {
-            return false;
-        }
-        k += 1;
-    }
-    true
+    table[..n].iter().all(|w| record_in_range(shape, *w))
 }
 
 // Works through a batch from its first byte on, with n records lent, of which the table has those of the shape's workers.
@@ -77,31 +80,19 @@ pub fn run_held(
         × (result.held ≡ held_on shape store.old (take n table) input.now out.old) }
 {
     let held = records_surveyed(shape, n);
-    let ok = held_in_range(shape, held, table);
-    let sound = is_sound(shape, n, ok, store);
+    let ok = held_in_range(shape, held, &table);
     let pool = HeldPool {
         shape,
-        sound,
+        sound: is_sound(shape, n, ok, store),
         records: n,
         held,
         table,
     };
-    let p = batch::run_batch(pool, input, 0, out, 0, store);
-    let end = p.pool;
-    let opened = end.shape;
-    let left = end.table;
-    let held_at_end = end.held;
-    let stop = p.stop;
-    let number = stop_number(stop);
-    let ending = BatchEnd {
-        shape: opened,
-        read: p.at,
-        written: p.to,
-        stop: number,
-    };
+    let p = run_batch(pool, input, 0, out, 0, store);
+    let left = p.pool.table;
     HeldBatch {
         table: left,
-        held: held_at_end,
-        ending,
+        held: p.pool.held,
+        ending: BatchEnd::from(p),
     }
 }

@@ -28,6 +28,6 @@ pub fn wubraken_run_batch(
     let k = records_surveyed(shape, n);
     let held = copy_out(table, k);
     let r = run_held(shape, n, held, input, out, store);
-    copy_back(table, r.table, r.held);
+    copy_back(table, &r.table, r.held);
     r.ending
 }

@@ -1,29 +1,18 @@
--- One ticket more is stored; in the end all are.
-use Rattle.std.proofs.Common.{◌≡◌, ap, ◌∙◌, List, ℕ, ◌++◌, length, take, drop, replicate, slice_set, arith, rules}
-use Rattle.calendar.specs.rules.Ranges.{blank}
-use Rattle.batch.specs.Tickets.{tickets_of}
-use Rattle.batch.proofs.TicketLaws.{tickets_more, tickets_all}
+-- Each ticket is its record's.
+use Rattle.std.proofs.Common.{rules, ◌≡◌, sym, ◌∙◌, ◌<◌, get_or, length, arith}
+use Rattle.calendar.specs.rules.Ranges.{blank, worker}
+use Rattle.batch.specs.Tickets.{ticket_of}
+use Rattle.batch.proofs.TicketLaws.{tickets_same}
 use Rattle.batch.proofs.tickets.tickets_of.Goals as goal
 
-pub loop-i-preserved : goal.loop-i-preserved
-unfolding blank
-loop-i-preserved c =
-    let l = c.loop-i in
-    let t = c.args.table in
-    let long : length t ≡ 64 = search rules in
-    record {
-      within = omega arith;
-      stored = ap (λ (ts : List ℕ). slice_set ts l.i c.lower_ticket.result) l.invariant.stored
-          ∙ ap (λ (x : ℕ). slice_set (take l.i (tickets_of t) ++ drop l.i (replicate 64 4294967296)) l.i x) c.lower_ticket.ensures
-          ∙ tickets_more t l.i (replicate 64 4294967296) (omega (arith, long)) (omega arith);
-    }
-
 pub returns : goal.returns
+unfolding blank
 returns c =
-    let l = c.loop-i in
     let t = c.args.table in
-    let e : l.i ≡ 64 = omega arith in
     let long : length t ≡ 64 = search rules in
-    l.invariant.stored
-    ∙ ap (λ (k : ℕ). take k (tickets_of t) ++ drop k (replicate 64 4294967296)) e
-    ∙ tickets_all t 64 (replicate 64 4294967296) long (search rules)
+    let same : length c.map.result ≡ 64 = c.map.ensures.items.long in
+    tickets_same c.map.result t (same ∙ sym long) (λ k d h.
+    let below : k < 64 = omega arith in
+    let (p, q, called) = c.map.ensures.items.at k blank d below in
+    let e : get_or c.map.result k d ≡ ticket_of (worker t k) = search rules in
+    e)
