@@ -10,7 +10,7 @@ ghost use Rattle.turns.specs.TurnsRun.{lent, follows, last_line, round_of, at_fi
 ghost use Rattle.turns.specs.BetweenRounds.{in_hand, holding, leaves, Placed};
 ghost use Rattle.turns.specs.RunFollows.{Outcome};
 
-use arrival::{IDLE_WORKER, Shape};
+use arrival::{Shape, Worker};
 use batch::{HeldPool, Stop, run_batch};
 use std::io;
 use std::io::{ErrorKind, Read, Write};
@@ -51,23 +51,31 @@ fn lent_words() -> [u64; WORDS]
     [0; WORDS]
 }
 
+// The shape before the first opening.
+fn no_shape() -> Shape
+    ensures { result ≡ zeros }
+{
+    Shape::default()
+}
+
+// The records that are lent: all workers are idle.
+#[tactic(auto, unfolding(crate::specs::TurnsRun::lent, calendar::specs::rules::Ranges::blank))]
+fn idle_records() -> [Worker; 64]
+    ensures { result ≡ lent.table }
+{
+    [Worker::default(); 64]
+}
+
 // Before the first opening: a shape of zeros and idle workers.
 fn fresh_pool(store: &[u64]) -> HeldPool
     ensures { Sound result store.now × (result.shape ≡ zeros) × (result.records ≡ 64) × (result.table ≡ lent.table) }
 {
-    let idle = IDLE_WORKER;
-    let shape = Shape {
-        workers: 0,
-        nodes: 0,
-        buckets: 0,
-        width: 0,
-    };
     HeldPool {
-        shape,
+        shape: no_shape(),
         sound: false,
         records: 64,
         held: 0,
-        table: [idle; 64],
+        table: idle_records(),
     }
 }
 
