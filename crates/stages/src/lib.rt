@@ -66,7 +66,7 @@ fn turn(w: Worker, store: &mut Store<'_>) -> Result<Reply, Refusal>
     ensures kept { Kept store.old store.new }
     ensures gives { left store.new (reply_of w result) ≡ local_step store.old.shape store.old.words.now w }
 {
-    // Kept: stages have no names, only their numbers: so do docs/RULES.md (I to K) and the record that C hands in.
+    // Kept: a match on numbers: stages have no names (docs/RULES.md, I to K), and closures in a table would hide which of them only read.
     Ok(match w.stage {
         1 => search::step_1(w, &store.view()),
         2 => search::step_2(w, &store.view()),

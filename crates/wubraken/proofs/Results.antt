@@ -7,12 +7,12 @@
 --     away_is                        so is the refusal of a worker past the workers' records
 --     opened_bound, open_is          no more than there are; with the store opened and the records cleared it is the opening
 -- Assumes nothing.
-use Rattle.std.specs.Prelude.{◌≡◌, List, ◌++◌, ◌≢◌, ℕ, zero, suc, ◌<◌, ◌≤◌, eqb, ltb, length, set, drop, replicate}
+use Rattle.std.specs.Prelude.{◌≡◌, List, ◌++◌, ◌≢◌, ℕ, zero, suc, ◌<◌, ◌≤◌, eqb, ltb, length, set, drop, replicate, is_some, Option, Some, None}
 use Rattle.std.proofs.Math.Path.{refl}
 use Rattle.std.proofs.Common.{sym, ap, ◌∙◌, arith}
 use Rattle.std.proofs.Math.Bool.{Bool, true, false, cond}
 use Rattle.std.proofs.lemmas.List.{set-get_or}
-use borrow.Author.Tests.{eqb-true, eqb-false, ltb-false, le-leb, lt-leb, le-ltb, eq-eqb, ne_eqb}
+use borrow.Author.Tests.{eqb-true, eqb-false, ltb-true, ltb-false, lt-ltb, le-leb, lt-leb, le-ltb, eq-eqb, ne_eqb}
 use Rattle.arrival.specs.declared.Shape.{Shape}
 use Rattle.arrival.specs.declared.Worker.{Worker}
 use Rattle.arrival.specs.declared.Response.{Response}
@@ -21,12 +21,14 @@ use Rattle.arrival.specs.declared.Action.{Action}
 use Rattle.arrival.specs.declared.Action.TheVariants.{Enqueue, Dequeue, Step}
 use Rattle.arrival.specs.declared.Request.{Request}
 use Rattle.arrival.specs.declared.Request.TheVariants.{Whole, Narrow}
+use Rattle.arrival.specs.Requests.{actor, action_of, turns_of, is_whole, looks_at_all}
 use Rattle.calendar.specs.rules.Ranges.{blank, worker, record_in_range, table_in_range}
+use Rattle.laws.specs.Tests.{never}
 use Rattle.calendar.specs.rules.Opening.{open_store, open_table}
 use Rattle.calendar.specs.rules.Refusals.{open_refusal}
-use Rattle.calendar.specs.rules.Operations.{Memory, Result, actor, act, open_pool}
+use Rattle.calendar.specs.rules.Operations.{Memory, Result, act, open_pool}
 use Rattle.calendar.specs.rules.NarrowCalls.{records_in_range, narrow_act, turns_after, narrow_call}
-use Rattle.calendar.specs.rules.HostHistory.{requested, action_of}
+use Rattle.calendar.specs.rules.HostHistory.{requested}
 use Rattle.calendar.specs.facts.Accepted.{Lent}
 use Rattle.calendar.proofs.facts.RangeFacts.{record_ranges}
 use Rattle.words.specs.Done.{Done, gives, refused}
@@ -41,16 +43,14 @@ use Rattle.admission.specs.Gate.{gate_of, sound_of, open_gate, open_response}
 use Rattle.admission.proofs.GateLaws.{sound_watched, shape_tests, refused_is, open_passed}
 use Rattle.admission.specs.NarrowGate.{RecordsSeen}
 use Rattle.admission.proofs.NarrowGate.{narrow_away}
-use Rattle.wubraken.specs.declared.table.Survey.{Survey}
 use Rattle.wubraken.specs.declared.answers.Answer.{Answer}
 use Rattle.wubraken.specs.Answers.{answer_of}
 use Rattle.wubraken.proofs.AnswerLaws.{answer_said}
-use Rattle.wubraken.specs.Survey.{Surveyed, surveyed, survey}
-use Rattle.wubraken.proofs.Survey.{surveyed_worker, survey_none, survey_ok_is, survey_low_is}
-use Rattle.wubraken.specs.Requests.{turns_of, is_whole, looks_at_all}
-use Rattle.wubraken.specs.LentGate.{flag_of, gate_on}
+use Rattle.wubraken.specs.Survey.{Surveyed, surveyed, survey, low_of}
+use Rattle.wubraken.proofs.Survey.{surveyed_worker, survey_none, survey_ok_is, survey_low_is, survey_tells, surveyed_bound}
+use Rattle.wubraken.specs.LentGate.{flag_of, gate_on, Passed}
 use Rattle.wubraken.proofs.LentGate.{passed}
-use Rattle.wubraken.specs.Results.{lent, leaves, told, gave, ActsAs, AnswersAs, near_by, act_on, records_opened}
+use Rattle.wubraken.specs.Results.{lent, leaves, told, gave, ActsAs, AnswersAs, near_by, near_at, act_on, records_opened}
 
 -- what is done on one record, put back
 pub put_back : (t : List Worker) (i : ℕ) (s : List ℕ) (r : Reply) (d : Done) → gives s r ≡ d → gave s (set t i r.worker) r.response ≡ back t i d
@@ -62,24 +62,24 @@ answered sh q s t r a s' t' acts answers =
     (λ k. leaves s' t' (answers k)) ∙ (λ k. record { memory = lent s' t'; answer = answer_of r; said = answer_said r k }) ∙ ap told acts
 
 -- by what the gate said
-module _ (sh : Shape) (q : Request) (n : ℕ) (seen : Survey) (s : List ℕ) (w : Worker) (k : ℕ)
+module _ (sh : Shape) (q : Request) (n : ℕ) (seen : Option ℕ) (s : List ℕ) (w : Worker) (k : ℕ)
     (is : k ≡ gate_on (is_whole q) sh s (actor (action_of q)) n (near_by sh q seen w)) where
   pub refused_on : k ≢ 0 → refused s w k ≡ act_on sh q n seen s w
   unfolding act_on
   refused_on h = rw (← is, ne_eqb k 0 h)
 
-  pub done_on : k ≡ 0 → local_turns sh (turns_of q) (local_act sh seen.low s (action_of q) w) ≡ act_on sh q n seen s w
+  pub done_on : k ≡ 0 → local_turns sh (turns_of q) (local_act sh (low_of seen) s (action_of q) w) ≡ act_on sh q n seen s w
   unfolding act_on
   done_on z = rw (← is, eq-eqb k 0 z)
 
 -- what no refusal of the gate's leaves: the record may be worked on
-pub admits : (sh : Shape) (q : Request) (n : ℕ) (seen : Survey) (s : List ℕ) (w : Worker) → Surveyed sh q seen w
+pub admits : (sh : Shape) (q : Request) (n : ℕ) (seen : Option ℕ) (s : List ℕ) (w : Worker) → Surveyed sh q seen w
     → gate_on (is_whole q) sh s (actor (action_of q)) n (near_by sh q seen w) ≡ 0 → Admitted sh s w
 admits sh q n seen s w S z =
     let p = passed (is_whole q) sh s (actor (action_of q)) n (near_by sh q seen w) z in
     record { limits = p.limits; laid = p.laid; words = p.words; worker = record_ranges sh w (go (looks_at_all q) refl p.records) }
   where
-    go : (b : Bool) → looks_at_all q ≡ b → cond b seen.ok (record_in_range sh w) ≡ true → record_in_range sh w ≡ true
+    go : (b : Bool) → looks_at_all q ≡ b → cond b (is_some seen) (record_in_range sh w) ≡ true → record_in_range sh w ≡ true
     go true e ok = S.ranged e ok
     go false e ok = ok
 
@@ -157,35 +157,42 @@ module _ (sh : Shape) (s : List ℕ) (t : List Worker) (q : Request) where
         ∙ ap (turns_after sh i (turns_of q)) (first_done z low f) ∙ request_is sh m q
 
   -- the look at the table tells what is asked of the records,
-  in_table : Lent sh s t → looks_at_all q ≡ true → (survey sh q t).ok ≡ table_in_range sh t
-  in_table l = survey_ok_is sh q t (shape_tests sh l.limits) (le-ltb (length t) sh.workers l.table)
+  table_is : Lent sh s t → looks_at_all q ≡ true → is_some (survey sh q t) ≡ table_in_range sh t
+  table_is l = survey_ok_is sh q t (shape_tests sh l.limits) (le-ltb (length t) sh.workers l.table)
 
   tells_near : i < sh.workers → Tells (near_by sh q (survey sh q t) (worker t i))
-  tells_near h l = go q (in_table l) h
+  tells_near h l = go q (table_is l) h
     where
-      go : (q : Request) → (looks_at_all q ≡ true → (survey sh q t).ok ≡ table_in_range sh t) → actor (action_of q) < sh.workers
+      go : (q : Request) → (looks_at_all q ≡ true → is_some (survey sh q t) ≡ table_in_range sh t) → actor (action_of q) < sh.workers
           → near_by sh q (survey sh q t) (worker t (actor (action_of q))) ≡ cond (is_whole q) (table_in_range sh t) (records_in_range sh t (action_of q))
       go (Whole x) e h = e refl
       go (Narrow (Enqueue j x) n) e h = e refl
       go (Narrow (Dequeue j) n) e h = rw (lt-leb sh.workers j h)
       go (Narrow (Step j) n) e h = rw (lt-leb sh.workers j h)
 
-  tells_away : sh.workers ≤ i → Tells (survey sh q t).ok
-  tells_away h l = go q (in_table l) (survey_none sh q t) h
+  tells_away : sh.workers ≤ i → Tells (is_some (survey sh q t))
+  tells_away h l = go q (table_is l) (survey_none sh q t) h
     where
-      go : (q : Request) → (looks_at_all q ≡ true → (survey sh q t).ok ≡ table_in_range sh t) → (looks_at_all q ≡ false → (survey sh q t).ok ≡ true)
-          → sh.workers ≤ actor (action_of q) → (survey sh q t).ok ≡ cond (is_whole q) (table_in_range sh t) (records_in_range sh t (action_of q))
+      go : (q : Request) → (looks_at_all q ≡ true → is_some (survey sh q t) ≡ table_in_range sh t) → (looks_at_all q ≡ false → is_some (survey sh q t) ≡ true)
+          → sh.workers ≤ actor (action_of q) → is_some (survey sh q t) ≡ cond (is_whole q) (table_in_range sh t) (records_in_range sh t (action_of q))
       go (Whole x) e f h = e refl
       go (Narrow (Enqueue j x) n) e f h = e refl
       go (Narrow (Dequeue j) n) e f h = rw (le-leb sh.workers j h) (f refl)
       go (Narrow (Step j) n) e f h = rw (le-leb sh.workers j h) (f refl)
 
   -- and, where they are in range, the least ticket
-  low_for_lem : Lent sh s t → near_by sh q (survey sh q t) (worker t i) ≡ true → LowFor sh t a (survey sh q t).low
-  low_for_lem l = go q (λ all. survey_low_is sh q t (shape_tests sh l.limits) (le-ltb (length t) sh.workers l.table) all)
+  low_is : Lent sh s t → looks_at_all q ≡ true → is_some (survey sh q t) ≡ true → low_of (survey sh q t) ≡ least_ticket t sh.workers
+  low_is l all = go (survey sh q t) refl
     where
-      go : (q : Request) → (looks_at_all q ≡ true → (survey sh q t).ok ≡ true → (survey sh q t).low ≡ least_ticket t sh.workers)
-          → near_by sh q (survey sh q t) (worker t (actor (action_of q))) ≡ true → LowFor sh t (action_of q) (survey sh q t).low
+      go : (o : Option ℕ) → survey sh q t ≡ o → is_some o ≡ true → low_of o ≡ least_ticket t sh.workers
+      go (Some low) e ok = survey_low_is sh q t (shape_tests sh l.limits) (le-ltb (length t) sh.workers l.table) all low e
+      go None e ok = never ok
+
+  low_for_lem : Lent sh s t → near_by sh q (survey sh q t) (worker t i) ≡ true → LowFor sh t a (low_of (survey sh q t))
+  low_for_lem l = go q (low_is l)
+    where
+      go : (q : Request) → (looks_at_all q ≡ true → is_some (survey sh q t) ≡ true → (low_of (survey sh q t)) ≡ least_ticket t sh.workers)
+          → near_by sh q (survey sh q t) (worker t (actor (action_of q))) ≡ true → LowFor sh t (action_of q) (low_of (survey sh q t))
       go (Whole (Enqueue j x)) e ok = e refl ok
       go (Whole (Dequeue j)) e ok = tt
       go (Whole (Step j)) e ok = tt
@@ -205,12 +212,12 @@ module _ (sh : Shape) (s : List ℕ) (t : List Worker) (q : Request) where
       exists = surveyed_worker sh (length t) i h
 
       go : (b : Bool) → eqb (gate near) 0 ≡ b
-          → back t i (cond b (local_turns sh (turns_of q) (local_act sh (survey sh q t).low s a (worker t i))) (refused s (worker t i) (gate near))) ≡
+          → back t i (cond b (local_turns sh (turns_of q) (local_act sh (low_of (survey sh q t)) s a (worker t i))) (refused s (worker t i) (gate near))) ≡
           requested sh m q
       go true e =
           let z = eqb-true _ 0 e in
           let p = passed (is_whole q) sh s i (length t) near z in
-          gate_lets near (tells_near exists) z (survey sh q t).low
+          gate_lets near (tells_near exists) z (low_of (survey sh q t))
           (low_for_lem (record { limits = p.limits; store = p.laid.fits; table = p.table }) p.records)
       go false e =
           ap (λ (u : List Worker). record { memory = lent s u; response = Refused (gate near) }) (set-get_or t i blank)
@@ -218,9 +225,9 @@ module _ (sh : Shape) (s : List ℕ) (t : List Worker) (q : Request) where
 
   -- Past the workers' records there is no worker, or the gate refuses anyway.
   pub away_is : ltb i (surveyed sh (length t)) ≡ false
-      → gave s t (Refused (gate_on (is_whole q) sh s i (length t) (survey sh q t).ok)) ≡ requested sh (lent s t) q
-  away_is beyond = gate_refuses (survey sh q t).ok tells (λ z.
-      let p = passed (is_whole q) sh s i (length t) (survey sh q t).ok z in
+      → gave s t (Refused (gate_on (is_whole q) sh s i (length t) (is_some (survey sh q t)))) ≡ requested sh (lent s t) q
+  away_is beyond = gate_refuses (is_some (survey sh q t)) tells (λ z.
+      let p = passed (is_whole q) sh s i (length t) (is_some (survey sh q t)) z in
       omega (arith, p.worker, past (record { limits = p.limits; store = p.laid.fits; table = p.table })))
     where
       past : Lent sh s t → sh.workers ≤ i
@@ -228,8 +235,67 @@ module _ (sh : Shape) (s : List ℕ) (t : List Worker) (q : Request) where
           let all : surveyed sh (length t) ≡ sh.workers = rw (shape_tests sh l.limits, le-ltb (length t) sh.workers l.table) in
           omega (arith, ltb-false i (surveyed sh (length t)) beyond, all)
 
-      tells : Tells (survey sh q t).ok
+      tells : Tells (is_some (survey sh q t))
       tells l = tells_away (past l) l
+
+  -- ── by the table ──
+  abbrev near_here : Bool
+  near_here = near_at sh q (survey sh q t) t
+
+  -- where the worker has a record, and where it has none
+  by_record : i < surveyed sh (length t) → near_here ≡ near_by sh q (survey sh q t) (worker t i)
+  by_record h = rw (lt-ltb i (surveyed sh (length t)) h) refl
+
+  by_none : ltb i (surveyed sh (length t)) ≡ false → near_here ≡ is_some (survey sh q t)
+  by_none h = go (looks_at_all q) refl
+    where
+      go : (b : Bool) → looks_at_all q ≡ b
+          → cond b (is_some (survey sh q t)) (cond (ltb i (surveyed sh (length t))) (record_in_range sh (worker t i)) true) ≡ is_some (survey sh q t)
+      go true e = refl
+      go false e = rw (h, survey_none sh q t e) refl
+
+  pub gate_here : (seen : Option ℕ) (near : Bool) (k : ℕ) → seen ≡ survey sh q t → near ≡ near_at sh q seen t → k ≡ gate near → k ≡ gate near_here
+  gate_here seen near k looked is gated = gated ∙ ap gate (is ∙ ap (λ (o : Option ℕ). near_at sh q o t) looked)
+
+  module _ (k : ℕ) (is : k ≡ gate near_here) where
+    -- What the gate refuses is refused,
+    pub refused_at : k ≢ 0 → gave s t (Refused k) ≡ requested sh (lent s t) q
+    refused_at n = go (ltb i (surveyed sh (length t))) refl
+      where
+        go : (b : Bool) → ltb i (surveyed sh (length t)) ≡ b → gave s t (Refused k) ≡ requested sh (lent s t) q
+        go true e =
+            let h = ltb-true i (surveyed sh (length t)) e in
+            let by = is ∙ ap gate (by_record h) in
+            sym (ap (λ (u : List Worker). record { memory = lent s u; response = Refused k }) (set-get_or t i blank))
+            ∙ ap (back t i) (refused_on sh q (length t) (survey sh q t) s (worker t i) k by n) ∙ acted h
+        go false e = ap (λ (j : ℕ). gave s t (Refused j)) (is ∙ ap gate (by_none e)) ∙ away_is e
+
+    module _ (z : k ≡ 0) where
+      lets : Passed sh s i (length t) near_here
+      lets = passed (is_whole q) sh s i (length t) near_here (sym is ∙ z)
+
+      -- and what it lets pass has a record,
+      pub has_record : i < surveyed sh (length t)
+      has_record =
+          let all : surveyed sh (length t) ≡ sh.workers = rw (shape_tests sh lets.limits, le-ltb (length t) sh.workers lets.table) in
+          omega (arith, lets.worker, all)
+
+      pub in_table : i < length t
+      in_table = omega (arith, has_record, surveyed_bound sh (length t))
+
+      -- which may be worked on,
+      pub admits_at : Admitted sh s (worker t i)
+      admits_at =
+          admits sh q (length t) (survey sh q t) s (worker t i) (survey_tells sh q t i has_record)
+          (sym (ap gate (by_record has_record)) ∙ sym is ∙ z)
+
+      -- and, put back, is what was requested.
+      pub done_at : (s' : List ℕ) (r : Reply)
+          → gives s' r ≡ local_turns sh (turns_of q) (local_act sh (low_of (survey sh q t)) s a (worker t i))
+          → gave s' (set t i r.worker) r.response ≡ requested sh (lent s t) q
+      done_at s' r given =
+          put_back t i s' r _ given
+          ∙ ap (back t i) (done_on sh q (length t) (survey sh q t) s (worker t i) k (is ∙ ap gate (by_record has_record)) z) ∙ acted has_record
 
 -- no more than there are
 pub opened_bound : (sh : Shape) (s : List ℕ) (n k : ℕ) → k ≡ open_gate sh (length s) n → records_opened sh k ≤ n
@@ -240,16 +306,30 @@ opened_bound sh s n k e = go (eqb k 0) refl
     go false z = omega arith
 
 -- with the store opened and the records cleared it is the opening
-pub open_is : (sh : Shape) (s : List ℕ) (t : List Worker) (k : ℕ) (s' : List ℕ) → k ≡ open_gate sh (length s) (length t)
-    → s' ≡ cond (eqb (open_gate sh (length s) (length t)) 0) (open_store sh s) s
-    → leaves s' (replicate (records_opened sh k) blank ++ drop (records_opened sh k) t) (answer_of (open_response k)) ≡ told (open_pool sh (lent s t))
-unfolding open_gate open_pool open_refusal open_table
-open_is sh s t k s' e w = rw (e, w) (go (eqb (open_gate sh (length s) (length t)) 0))
-  where
-    go : (b : Bool)
-        → leaves (cond b (open_store sh s) s) (replicate (cond b sh.workers 0) blank ++ drop (cond b sh.workers 0) t)
-        (answer_of (cond b Opened (Refused (open_gate sh (length s) (length t)))))
-        ≡ told (cond b (record { memory = lent (open_store sh s) (replicate sh.workers blank ++ drop sh.workers t); response = Opened })
-        (record { memory = lent s t; response = Refused (open_gate sh (length s) (length t)) }))
-    go true = refl
-    go false = refl
+module _ (sh : Shape) (s : List ℕ) (t : List Worker) (k : ℕ) (s' : List ℕ) (is : k ≡ open_gate sh (length s) (length t))
+    (opened : s' ≡ cond (eqb (open_gate sh (length s) (length t)) 0) (open_store sh s) s) where
+  pub opened_is : gave s' (replicate (records_opened sh k) blank ++ drop (records_opened sh k) t) (open_response k) ≡ open_pool sh (lent s t)
+  unfolding open_gate open_pool open_refusal open_table
+  opened_is = rw (is, opened) (go (eqb (open_gate sh (length s) (length t)) 0))
+    where
+      go : (b : Bool)
+          → gave (cond b (open_store sh s) s) (replicate (cond b sh.workers 0) blank ++ drop (cond b sh.workers 0) t)
+          (cond b Opened (Refused (open_gate sh (length s) (length t))))
+          ≡ cond b (record { memory = lent (open_store sh s) (replicate sh.workers blank ++ drop sh.workers t); response = Opened })
+          (record { memory = lent s t; response = Refused (open_gate sh (length s) (length t)) })
+      go true = refl
+      go false = refl
+
+  pub open_refused : k ≢ 0 → gave s' t (Refused k) ≡ open_pool sh (lent s t)
+  open_refused n = rw (ne_eqb k 0 n) at opened_is
+
+  pub open_done : k ≡ 0 → gave s' (replicate sh.workers blank ++ drop sh.workers t) Opened ≡ open_pool sh (lent s t)
+  open_done z = rw (eq-eqb k 0 z) at opened_is
+
+  pub open_is : leaves s' (replicate (records_opened sh k) blank ++ drop (records_opened sh k) t) (answer_of (open_response k)) ≡ told (open_pool sh (lent s t))
+  open_is =
+      (λ j. record {
+        memory = lent s' (replicate (records_opened sh k) blank ++ drop (records_opened sh k) t);
+        answer = answer_of (open_response k);
+        said = answer_said (open_response k) j;
+      }) ∙ ap told opened_is

@@ -1,9 +1,19 @@
 -- A response in numbers, and that the numbers tell the response. Assumes nothing.
-use Rattle.std.specs.Prelude.{[], ◌∷◌, ℕ, get_or}
+use Rattle.std.specs.Prelude.{[], ◌∷◌, ℕ, get_or, Result, Ok, Err}
+use Rattle.arrival.specs.declared.refusals.Refusal.{Refusal}
+use Rattle.arrival.specs.Refusals.{number}
 use Rattle.arrival.specs.declared.Response.{Response}
 use Rattle.arrival.specs.declared.Response.TheVariants.{Opened, Begun, On, Stored, Took, Empty, Refused}
 use Rattle.arrival.specs.Responses.{Said}
 use Rattle.wubraken.specs.declared.answers.Answer.{Answer}
+
+-- a response, or what refuses, which is a response too
+abbrev pub Outcome : Type 0
+Outcome = Result Response Refusal
+
+abbrev pub responded : Outcome → Response
+responded (Ok response) = response
+responded (Err refusal) = Refused (number refusal)
 
 -- of one value at most
 abbrev pub brief : ℕ → ℕ → ℕ → Answer

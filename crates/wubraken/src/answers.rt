@@ -1,12 +1,25 @@
 // A response in numbers, as other languages read it.
 ghost use Rattle.std.specs.Prelude.{◌≡◌};
-ghost use Rattle.wubraken.specs.Answers.{brief, answer_of};
+ghost use Rattle.wubraken.specs.Answers.{responded, answer_of};
 
 use arrival::Response;
+use arrival::refusals::Refusal;
 
-// kind: 0 open, 1 begun, 2 on, 3 stored, 4 took, 5 empty, 6 refused. `number` is the refusal's. What a response does not carry is 0.
+// What an answer says, by its number.
+#[derive(Clone, Copy, PartialEq, Eq, Debug)]
+pub enum Kind {
+    Open = 0,
+    Begun = 1,
+    On = 2,
+    Stored = 3,
+    Took = 4,
+    Empty = 5,
+    Refused = 6,
+}
+
+// kind: a `Kind`'s number. `number` is the refusal's. What a response does not carry is 0.
 #[repr(C)]
-#[derive(Clone, Copy)]
+#[derive(Clone, Copy, Default)]
 pub struct Answer {
     pub kind: u64,
     pub number: u64,
@@ -18,47 +31,65 @@ pub struct Answer {
     pub energy: u64,
 }
 
-// An answer of one value at most.
-fn brief_answer(kind: u64, number: u64, ticket: u64) -> Answer
-    ensures { result ≡ brief kind number ticket }
-{
-    Answer {
-        kind,
-        number,
-        ticket,
-        time: 0,
-        path: 0,
-        order: 0,
-        distance: 0,
-        energy: 0,
+impl From<Response> for Answer {
+    ghost from_gives = { λ response answer. answer ≡ answer_of response };
+
+    fn from(response: Response) -> Answer {
+        let none = Answer::default();
+        match response {
+            Response::Opened => Answer {
+                kind: Kind::Open as u64,
+                ..none
+            },
+            Response::Begun(ticket) => Answer {
+                kind: Kind::Begun as u64,
+                ticket,
+                ..none
+            },
+            Response::On => Answer {
+                kind: Kind::On as u64,
+                ..none
+            },
+            Response::Stored(ticket) => Answer {
+                kind: Kind::Stored as u64,
+                ticket,
+                ..none
+            },
+            Response::Took {
+                time,
+                path,
+                order,
+                distance,
+                energy,
+            } => Answer {
+                kind: Kind::Took as u64,
+                time,
+                path,
+                order,
+                distance,
+                energy,
+                ..none
+            },
+            Response::Empty => Answer {
+                kind: Kind::Empty as u64,
+                ..none
+            },
+            Response::Refused(number) => Answer {
+                kind: Kind::Refused as u64,
+                number,
+                ..none
+            },
+        }
     }
 }
 
-pub fn answer_of(response: Response) -> Answer
-    ensures { result ≡ answer_of response }
-{
-    match response {
-        Response::Opened => brief_answer(0, 0, 0),
-        Response::Begun(ticket) => brief_answer(1, 0, ticket),
-        Response::On => brief_answer(2, 0, 0),
-        Response::Stored(ticket) => brief_answer(3, 0, ticket),
-        Response::Took {
-            time,
-            path,
-            order,
-            distance,
-            energy,
-        } => Answer {
-            kind: 4,
-            number: 0,
-            ticket: 0,
-            time,
-            path,
-            order,
-            distance,
-            energy,
-        },
-        Response::Empty => brief_answer(5, 0, 0),
-        Response::Refused(number) => brief_answer(6, number, 0),
+impl From<Result<Response, Refusal>> for Answer {
+    ghost from_gives = { λ outcome answer. answer ≡ answer_of (responded outcome) };
+
+    fn from(outcome: Result<Response, Refusal>) -> Answer {
+        match outcome {
+            Ok(response) => Answer::from(response),
+            Err(refusal) => Answer::from(Response::from(refusal)),
+        }
     }
 }
