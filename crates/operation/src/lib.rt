@@ -24,7 +24,7 @@ use words::store::Store;
 pub mod leaks;
 
 // The action on its worker's record w; low: the least ticket in progress, which only a put asks for.
-#[tactic(auto, using(crate::proofs::LocalAct::local_enqueue_lem, crate::proofs::LocalAct::local_dequeue_lem, crate::proofs::LocalAct::local_step_lem, crate::proofs::LocalAct::ready))]
+#[tactic(auto, using(crate::proofs::LocalAct::local_enqueue_lem, crate::proofs::LocalAct::local_dequeue_lem, crate::proofs::LocalAct::local_step_lem))]
 pub fn perform(low: u64, action: Action, w: Worker, store: &mut Store<'_>) -> Result<Reply, Refusal>
     requires admitted { Admitted store.old.shape store.old.words.now w }
     requires low_bound { low ≤ 4294967296 }
