@@ -12,7 +12,7 @@ use Rattle.std.proofs.Math.Path.{refl}
 use Rattle.std.proofs.Common.{sym, ap, ◌∙◌, arith}
 use Rattle.std.proofs.Math.Bool.{Bool, true, false, cond}
 use Rattle.std.proofs.lemmas.List.{set-get_or}
-use borrow.Author.Tests.{eqb-true, eqb-false, ltb-true, ltb-false, lt-ltb, le-leb, lt-leb, le-ltb, eq-eqb, ne_eqb}
+use borrow.Author.Tests.{eqb-true, eqb-false, ltb-false, le-leb, lt-leb, le-ltb, eq-eqb, ne_eqb}
 use Rattle.arrival.specs.declared.Shape.{Shape}
 use Rattle.arrival.specs.declared.Worker.{Worker}
 use Rattle.arrival.specs.declared.Response.{Response}
@@ -47,10 +47,10 @@ use Rattle.wubraken.specs.declared.answers.Answer.{Answer}
 use Rattle.wubraken.specs.Answers.{answer_of}
 use Rattle.wubraken.proofs.AnswerLaws.{answer_said}
 use Rattle.wubraken.specs.Survey.{Surveyed, surveyed, survey, low_of}
-use Rattle.wubraken.proofs.Survey.{surveyed_worker, survey_none, survey_ok_is, survey_low_is, survey_tells, surveyed_bound}
+use Rattle.wubraken.proofs.Survey.{surveyed_worker, survey_none, survey_ok_is, survey_low_is, survey_tells}
 use Rattle.wubraken.specs.LentGate.{flag_of, gate_on, Passed}
 use Rattle.wubraken.proofs.LentGate.{passed}
-use Rattle.wubraken.specs.Results.{lent, leaves, told, gave, ActsAs, AnswersAs, near_by, near_at, act_on, records_opened}
+use Rattle.wubraken.specs.Results.{lent, leaves, told, gave, ActsAs, AnswersAs, near_by, act_on, records_opened}
 
 -- what is done on one record, put back
 pub put_back : (t : List Worker) (i : ℕ) (s : List ℕ) (r : Reply) (d : Done) → gives s r ≡ d → gave s (set t i r.worker) r.response ≡ back t i d
@@ -238,64 +238,40 @@ module _ (sh : Shape) (s : List ℕ) (t : List Worker) (q : Request) where
       tells : Tells (is_some (survey sh q t))
       tells l = tells_away (past l) l
 
-  -- ── by the table ──
-  abbrev near_here : Bool
-  near_here = near_at sh q (survey sh q t) t
+  -- A worker without a record is refused.
+  pub away_at : (seen : Option ℕ) (near : Bool) (k : ℕ) → surveyed sh (length t) ≤ i → seen ≡ survey sh q t → near ≡ is_some seen → k ≡ gate near
+      → gave s t (Refused k) ≡ requested sh (lent s t) q
+  away_at seen near k h looked is gated =
+      ap (λ (j : ℕ). gave s t (Refused j)) (gated ∙ ap gate (is ∙ ap (λ (o : Option ℕ). is_some o) looked)) ∙ away_is (le-ltb i _ h)
 
-  -- where the worker has a record, and where it has none
-  by_record : i < surveyed sh (length t) → near_here ≡ near_by sh q (survey sh q t) (worker t i)
-  by_record h = rw (lt-ltb i (surveyed sh (length t)) h) refl
+  pub none_let : (near : Bool) → surveyed sh (length t) ≤ i → gate near ≡ 0 → ⊥
+  none_let near h z =
+      let p = passed (is_whole q) sh s i (length t) near z in
+      let all : surveyed sh (length t) ≡ sh.workers = rw (shape_tests sh p.limits, le-ltb (length t) sh.workers p.table) in
+      omega (arith, p.worker, all)
 
-  by_none : ltb i (surveyed sh (length t)) ≡ false → near_here ≡ is_some (survey sh q t)
-  by_none h = go (looks_at_all q) refl
-    where
-      go : (b : Bool) → looks_at_all q ≡ b
-          → cond b (is_some (survey sh q t)) (cond (ltb i (surveyed sh (length t))) (record_in_range sh (worker t i)) true) ≡ is_some (survey sh q t)
-      go true e = refl
-      go false e = rw (h, survey_none sh q t e) refl
+  -- of a worker with a record, by what the code has found
+  module _ (h : i < surveyed sh (length t)) (seen : Option ℕ) (near : Bool) (k : ℕ) (looked : seen ≡ survey sh q t)
+      (is : near ≡ near_by sh q seen (worker t i)) (gated : k ≡ gate near) where
+    by : k ≡ gate (near_by sh q (survey sh q t) (worker t i))
+    by = gated ∙ ap gate (is ∙ ap (λ (o : Option ℕ). near_by sh q o (worker t i)) looked)
 
-  pub gate_here : (seen : Option ℕ) (near : Bool) (k : ℕ) → seen ≡ survey sh q t → near ≡ near_at sh q seen t → k ≡ gate near → k ≡ gate near_here
-  gate_here seen near k looked is gated = gated ∙ ap gate (is ∙ ap (λ (o : Option ℕ). near_at sh q o t) looked)
-
-  module _ (k : ℕ) (is : k ≡ gate near_here) where
     -- What the gate refuses is refused,
     pub refused_at : k ≢ 0 → gave s t (Refused k) ≡ requested sh (lent s t) q
-    refused_at n = go (ltb i (surveyed sh (length t))) refl
-      where
-        go : (b : Bool) → ltb i (surveyed sh (length t)) ≡ b → gave s t (Refused k) ≡ requested sh (lent s t) q
-        go true e =
-            let h = ltb-true i (surveyed sh (length t)) e in
-            let by = is ∙ ap gate (by_record h) in
-            sym (ap (λ (u : List Worker). record { memory = lent s u; response = Refused k }) (set-get_or t i blank))
-            ∙ ap (back t i) (refused_on sh q (length t) (survey sh q t) s (worker t i) k by n) ∙ acted h
-        go false e = ap (λ (j : ℕ). gave s t (Refused j)) (is ∙ ap gate (by_none e)) ∙ away_is e
+    refused_at n =
+        sym (ap (λ (u : List Worker). record { memory = lent s u; response = Refused k }) (set-get_or t i blank))
+        ∙ ap (back t i) (refused_on sh q (length t) (survey sh q t) s (worker t i) k by n) ∙ acted h
 
-    module _ (z : k ≡ 0) where
-      lets : Passed sh s i (length t) near_here
-      lets = passed (is_whole q) sh s i (length t) near_here (sym is ∙ z)
+    -- what it lets pass may be worked on,
+    pub admits_at : k ≡ 0 → Admitted sh s (worker t i)
+    admits_at z = admits sh q (length t) (survey sh q t) s (worker t i) (survey_tells sh q t i h) (sym by ∙ z)
 
-      -- and what it lets pass has a record,
-      pub has_record : i < surveyed sh (length t)
-      has_record =
-          let all : surveyed sh (length t) ≡ sh.workers = rw (shape_tests sh lets.limits, le-ltb (length t) sh.workers lets.table) in
-          omega (arith, lets.worker, all)
-
-      pub in_table : i < length t
-      in_table = omega (arith, has_record, surveyed_bound sh (length t))
-
-      -- which may be worked on,
-      pub admits_at : Admitted sh s (worker t i)
-      admits_at =
-          admits sh q (length t) (survey sh q t) s (worker t i) (survey_tells sh q t i has_record)
-          (sym (ap gate (by_record has_record)) ∙ sym is ∙ z)
-
-      -- and, put back, is what was requested.
-      pub done_at : (s' : List ℕ) (r : Reply)
-          → gives s' r ≡ local_turns sh (turns_of q) (local_act sh (low_of (survey sh q t)) s a (worker t i))
-          → gave s' (set t i r.worker) r.response ≡ requested sh (lent s t) q
-      done_at s' r given =
-          put_back t i s' r _ given
-          ∙ ap (back t i) (done_on sh q (length t) (survey sh q t) s (worker t i) k (is ∙ ap gate (by_record has_record)) z) ∙ acted has_record
+    -- and, put back, is what was requested.
+    pub done_at : k ≡ 0 → (s' : List ℕ) (r : Reply)
+        → gives s' r ≡ local_turns sh (turns_of q) (local_act sh (low_of (survey sh q t)) s a (worker t i))
+        → gave s' (set t i r.worker) r.response ≡ requested sh (lent s t) q
+    done_at z s' r given =
+        put_back t i s' r _ given ∙ ap (back t i) (done_on sh q (length t) (survey sh q t) s (worker t i) k by z) ∙ acted h
 
 -- no more than there are
 pub opened_bound : (sh : Shape) (s : List ℕ) (n k : ℕ) → k ≡ open_gate sh (length s) n → records_opened sh k ≤ n

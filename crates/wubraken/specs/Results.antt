@@ -3,7 +3,7 @@
 --     gave                           memory and response; what is done on one record, put back in the table
 --     memory_of, gave_by, SameLent     of what is lent: its memory, that with a response or a refusal, and that it is the same
 --     ActsAs, AnswersAs              the claims of a function that does what is requested, and of one that answers it
---     near_by, near_at                whether the records that a request looks at are in range, by its worker's and by the table
+--     near_by                         whether the records that a request looks at are in range
 --     act_on                          refused by 1 to 4, or done; by what the gate said
 --     records_opened                  how many records an opening clears, by the number that refuses it
 -- Assumes nothing.
@@ -69,12 +69,6 @@ AnswersAs sh q s t a s' t' = leaves s' t' a ≡ told (requested sh (lent s t) q)
 -- the records that the request looks at are in range; w is its worker's
 abbrev pub near_by : Shape → Request → Option ℕ → Worker → Bool
 near_by sh q seen w = cond (looks_at_all q) (is_some seen) (record_in_range sh w)
-
--- the same by the table, whether or not the worker has a record
-abbrev pub near_at : Shape → Request → Option ℕ → List Worker → Bool
-near_at sh q seen t =
-    cond (looks_at_all q) (is_some seen)
-    (cond (ltb (actor (action_of q)) (surveyed sh (length t))) (record_in_range sh (worker t (actor (action_of q)))) true)
 
 -- refused by 1 to 4, or done, with n records lent
 unfoldable pub act_on : Shape → Request → ℕ → Option ℕ → List ℕ → Worker → Done

@@ -1,17 +1,18 @@
 // What a host lends for a pool, whatever it holds: opening it, and what is requested of it.
-ghost use Rattle.std.specs.Prelude.{◌≡◌, ◌≤◌, length};
+ghost use Rattle.std.specs.Prelude.{◌≡◌, ◌≤◌, true, length};
 ghost use Rattle.arrival.specs.Refusals.{refusal_of};
 ghost use Rattle.arrival.specs.Requests.{actor, action_of, turns_of, is_whole};
+ghost use Rattle.calendar.specs.rules.Ranges.{shape_in_range};
 ghost use Rattle.calendar.specs.rules.HostHistory.{requested};
 ghost use Rattle.calendar.specs.rules.Operations.{open_pool};
 ghost use Rattle.operation.specs.LocalAct.{Admitted, local_act};
 ghost use Rattle.operation.specs.LocalTurns.{local_turns};
 ghost use Rattle.words.specs.Done.{gives};
-ghost use Rattle.wubraken.specs.Results.{SameLent, memory_of, gave_by, near_at};
+ghost use Rattle.wubraken.specs.Results.{SameLent, memory_of, gave_by, near_by};
 ghost use Rattle.wubraken.specs.LentGate.{flag_of, gate_on};
 ghost use Rattle.wubraken.specs.Survey.{survey};
 
-use super::table::{records_surveyed, survey_table};
+use super::table::{clear_table, records_surveyed, survey_table};
 use admission::ranges::record_in_range;
 use admission::{gate, is_near, is_sound};
 use arrival::refusals::Refusal;
@@ -27,6 +28,25 @@ pub struct Lent<'a> {
     pub shape: Shape,
     pub store: &'a mut [u64],
     pub table: &'a mut [Worker],
+}
+
+// The worker that a request is for, as an index.
+pub fn index_of(request: Request) -> usize
+    ensures { result ≡ actor (action_of request) }
+{
+    request.action().worker() as usize
+}
+
+// Whether the records that the request looks at are in range: all workers', by what a look over them has found, or its own worker's, w.
+fn are_near(shape: Shape, request: Request, seen: Option<u64>, w: Worker) -> bool
+    requires { shape_in_range shape ≡ true }
+    ensures { result ≡ near_by shape request seen w }
+{
+    if request.looks_at_all() {
+        seen.is_some()
+    } else {
+        record_in_range(shape, w)
+    }
 }
 
 // The start or turn that is asked for, of record w, and the turns that may follow it.
@@ -46,7 +66,7 @@ impl Lent<'_> {
         ensures opened { gave_by self.new result ≡ open_pool self.old.shape (memory_of self.old) }
     {
         open_lent(self.shape, self.table.len(), self.store)?;
-        self.table[..self.shape.workers as usize].fill(Worker::default());
+        clear_table(self.table, self.shape.workers as usize);
         Ok(Response::Opened)
     }
 
@@ -57,10 +77,14 @@ impl Lent<'_> {
     {
         let shape = self.shape;
         let seen = self.survey(request);
-        let near = self.near(request, seen);
-        self.gate(request, near)?;
-        let i = request.action().worker() as usize;
+        let i = index_of(request);
+        if records_surveyed(shape, self.table.len()) <= i {
+            self.gate(request, seen.is_some())?;
+            return Err(Refusal::NoWorker);
+        }
         let w = self.table[i];
+        let near = are_near(shape, request, seen, w);
+        self.gate(request, near)?;
         let low = seen.unwrap_or(word::COUNTS);
         let reply = perform_on(shape, low, request, w, self.store);
         self.table[i] = reply.worker;
@@ -72,18 +96,6 @@ impl Lent<'_> {
         ensures { result ≡ survey self.now.shape request self.now.table.now }
     {
         survey_table(self.shape, request, self.table)
-    }
-
-    // Whether the records that the request looks at are in range: all workers', by what a look over them has found, or its own worker's, if it has one.
-    fn near(&self, request: Request, seen: Option<u64>) -> bool
-        ensures { result ≡ near_at self.now.shape request seen self.now.table.now }
-    {
-        if request.looks_at_all() {
-            return seen.is_some();
-        }
-        let i = request.action().worker() as usize;
-        let records = records_surveyed(self.shape, self.table.len());
-        (records <= i) || record_in_range(self.shape, self.table[i])
     }
 
     // The flag that the gate goes by: by a look at all words, or at the three first; near: the records that the request looks at are in range.

@@ -1,67 +1,55 @@
 -- What is requested is done on its worker's record, or refused. Assumes nothing.
-use Rattle.std.proofs.Common.{◌≡◌, ◌<◌, ◌∙◌, ℕ, Bool, List, Option, refl, ap, arith, rules, length}
+use Rattle.std.proofs.Common.{◌≡◌, ◌<◌, ◌≤◌, ◌∙◌, refl, sym, ap, arith, length}
 use Rattle.std.proofs.lemmas.Result.{err_from_is_err_and}
-use Rattle.arrival.specs.declared.Action.{Action}
-use Rattle.arrival.specs.declared.Request.{Request}
-use Rattle.arrival.specs.declared.Shape.{Shape}
-use Rattle.arrival.specs.declared.Worker.{Worker}
 use Rattle.arrival.specs.Refusals.{number}
-use Rattle.arrival.specs.Requests.{actor, action_of, is_whole, turns_of}
+use Rattle.arrival.specs.Requests.{actor, action_of, turns_of}
 use Rattle.calendar.specs.rules.Ranges.{blank, worker}
 use Rattle.operation.specs.LocalAct.{local_act}
 use Rattle.operation.specs.LocalTurns.{local_turns}
-use Rattle.wubraken.specs.LentGate.{gate_on}
-use Rattle.wubraken.specs.Survey.{survey, low_of}
-use Rattle.wubraken.specs.Results.{near_at}
-use Rattle.wubraken.proofs.Survey.{low_bound}
 use Rattle.starts.proofs.Refusing.{some}
-use Rattle.wubraken.proofs.Results.{gate_here, refused_at, in_table, admits_at, done_at}
+use Rattle.wubraken.specs.Results.{near_by}
+use Rattle.wubraken.specs.Survey.{surveyed, low_of}
+use Rattle.wubraken.proofs.Survey.{low_bound}
+use Rattle.wubraken.proofs.Results.{away_at, none_let, refused_at, admits_at, done_at}
 use Rattle.wubraken.proofs.lent.Lent.act.Goals as goal
-
--- the worker's record is one of the table, where the gate lets it pass
-inside : (sh : Shape) (s : List ℕ) (t : List Worker) (q : Request) {seen : Option ℕ} {near : Bool} {i : ℕ} {a : Action} → seen ≡ survey sh q t
-    → near ≡ near_at sh q seen t → 0 ≡ gate_on (is_whole q) sh s (actor (action_of q)) (length t) near → i ≡ actor a → a ≡ action_of q → i < length t
-inside sh s t q looked is gated of_action of_request =
-    rw (of_action, of_request) (in_table sh s t q 0 (gate_here sh s t q _ _ _ looked is gated) refl)
 
 pub returns-in_err-gate-clause-acted : goal.returns-in_err-gate-clause-acted
 returns-in_err-gate-clause-acted c =
     let m = c.args.self.now in
-    let r = c.in_err-gate.field-0.0 in
     let p = err_from_is_err_and c.from_residual.result c.from_residual.ensures.1 in
-    let is = gate_here m.shape m.store.now m.table.now c.args.request _ _ _ c.survey-seen.ensures c.near-near.ensures c.in_err-gate.ensures in
-    rw (p.1, p.2) (refused_at m.shape m.store.now m.table.now c.args.request (number r) is (some r))
+    let past : surveyed m.shape (length m.table.now) ≤ actor (action_of c.args.request) =
+    omega (arith, c.if-records_surveyed-i.true, c.records_surveyed.ensures, c.index_of-i.ensures) in
+    rw (p.1, p.2) (away_at m.shape m.store.now m.table.now c.args.request _ _ (number c.in_err-gate.field-0.0) past c.survey-seen.ensures c.is_some.ensures
+    c.in_err-gate.ensures)
 
-pub bounds-self-i : goal.bounds-self-i
-bounds-self-i c =
+pub returns-then-records_surveyed-i-clause-acted : goal.returns-then-records_surveyed-i-clause-acted
+returns-then-records_surveyed-i-clause-acted c =
     let m = c.args.self.now in
-    inside m.shape m.store.now m.table.now c.args.request c.survey-seen.ensures c.near-near.ensures c.in_ok-gate.ensures c.worker-i.ensures c.action.ensures
+    let past : surveyed m.shape (length m.table.now) ≤ actor (action_of c.args.request) =
+    omega (arith, c.if-records_surveyed-i.true, c.records_surveyed.ensures, c.index_of-i.ensures) in
+    absurd (none_let m.shape m.store.now m.table.now c.args.request _ past (sym c.in_ok-gate.ensures))
 
-pub bounds-self-i-2 : goal.bounds-self-i-2
-bounds-self-i-2 c =
+pub returns-in_err-gate-2-clause-acted : goal.returns-in_err-gate-2-clause-acted
+unfolding blank
+returns-in_err-gate-2-clause-acted c =
     let m = c.args.self.now in
-    inside m.shape m.store.now m.table.now c.args.request c.survey-seen.ensures c.near-near.ensures c.in_ok-gate.ensures c.worker-i.ensures c.action.ensures
-
-pub offset_bounds-self-i : goal.offset_bounds-self-i
-offset_bounds-self-i c =
-    let m = c.args.self.now in
-    let lt = inside m.shape m.store.now m.table.now c.args.request c.survey-seen.ensures c.near-near.ensures c.in_ok-gate.ensures c.worker-i.ensures
-    c.action.ensures in
-    search rules
-
-pub offset_bounds-self-i-2 : goal.offset_bounds-self-i-2
-offset_bounds-self-i-2 c =
-    let m = c.args.self.now in
-    let lt = inside m.shape m.store.now m.table.now c.args.request c.survey-seen.ensures c.near-near.ensures c.in_ok-gate.ensures c.worker-i.ensures
-    c.action.ensures in
-    search rules
+    let q = c.args.request in
+    let r = c.in_err-gate-2.field-0.0 in
+    let p = err_from_is_err_and c.from_residual-in_err-gate-2.result c.from_residual-in_err-gate-2.ensures.1 in
+    let here : actor (action_of q) < surveyed m.shape (length m.table.now) =
+    omega (arith, c.if-records_surveyed-i.false, c.records_surveyed.ensures, c.index_of-i.ensures) in
+    let near = c.are_near-near.ensures ∙ ap (λ i. near_by m.shape q c.survey-seen.result (worker m.table.now i)) c.index_of-i.ensures in
+    rw (p.1, p.2) (refused_at m.shape m.store.now m.table.now q here _ _ (number r) c.survey-seen.ensures near c.in_err-gate-2.ensures (some r))
 
 pub perform_on-reply-requires-clause-admitted : goal.perform_on-reply-requires-clause-admitted
 unfolding blank
 perform_on-reply-requires-clause-admitted c =
     let m = c.args.self.now in
-    let is = gate_here m.shape m.store.now m.table.now c.args.request _ _ _ c.survey-seen.ensures c.near-near.ensures c.in_ok-gate.ensures in
-    rw (c.worker-i.ensures, c.action.ensures) (admits_at m.shape m.store.now m.table.now c.args.request 0 is refl)
+    let q = c.args.request in
+    let here : actor (action_of q) < surveyed m.shape (length m.table.now) =
+    omega (arith, c.if-records_surveyed-i.false, c.records_surveyed.ensures, c.index_of-i.ensures) in
+    let near = c.are_near-near.ensures ∙ ap (λ i. near_by m.shape q c.survey-seen.result (worker m.table.now i)) c.index_of-i.ensures in
+    rw c.index_of-i.ensures (admits_at m.shape m.store.now m.table.now q here _ _ 0 c.survey-seen.ensures near c.in_ok-gate-2.ensures refl)
 
 pub perform_on-reply-requires-clause-low_bound : goal.perform_on-reply-requires-clause-low_bound
 perform_on-reply-requires-clause-low_bound c =
@@ -72,8 +60,11 @@ unfolding blank
 returns-clause-acted c =
     let m = c.args.self.now in
     let q = c.args.request in
-    let is = gate_here m.shape m.store.now m.table.now q _ _ _ c.survey-seen.ensures c.near-near.ensures c.in_ok-gate.ensures in
-    let i = c.worker-i.ensures ∙ ap actor c.action.ensures in
+    let here : actor (action_of q) < surveyed m.shape (length m.table.now) =
+    omega (arith, c.if-records_surveyed-i.false, c.records_surveyed.ensures, c.index_of-i.ensures) in
+    let i = c.index_of-i.ensures in
+    let near = c.are_near-near.ensures ∙ ap (λ i. near_by m.shape q c.survey-seen.result (worker m.table.now i)) i in
     let low = c.unwrap_or-low.ensures ∙ ap low_of c.survey-seen.ensures in
-    rw i (done_at m.shape m.store.now m.table.now q 0 is refl c.perform_on-reply.new.words c.perform_on-reply.result (c.perform_on-reply.ensures
+    rw i (done_at m.shape m.store.now m.table.now q here _ _ 0 c.survey-seen.ensures near c.in_ok-gate-2.ensures refl c.perform_on-reply.new.words
+    c.perform_on-reply.result (c.perform_on-reply.ensures
     ∙ (λ j. local_turns m.shape (turns_of q) (local_act m.shape (low j) m.store.now (action_of q) (worker m.table.now (i j))))))
