@@ -11,6 +11,7 @@ use operation::goes_on;
 use std::ops::ControlFlow;
 
 // A run that goes on: the candidate to be looked at and how many are left with it, the worker served last, the turns made.
+// Kept: 0 < rest and made < turns stay clauses, no ghost fields: started_at and passed_by of dealer/Runs are of every shape and limit, where neither need hold.
 #[derive(Clone, Copy)]
 pub struct Going {
     pub ask: Ask,
@@ -31,8 +32,8 @@ pub struct Ended {
 impl Ask {
     // Before the first turn: past refusals 1 to 4, or ended by one of them.
     #[tactic(auto, using(crate::proofs::DealLoop::flag_tight), unfolding(crate::specs::Runs::begun))]
-    pub fn begin(self, n: usize, low: Option<u64>, store: &[u64]) -> ControlFlow<Ended, Going>
-        ensures { result ≡ begun self store.now n (is_some low) }
+    pub fn begin(self, n: usize, seen: Option<u64>, store: &[u64]) -> ControlFlow<Ended, Going>
+        ensures { result ≡ begun self store.now n (is_some seen) }
     {
         let idle = Ended {
             last: self.dealer,
@@ -42,7 +43,7 @@ impl Ask {
         if self.turns == 0 {
             return ControlFlow::Break(idle);
         }
-        let flag = self.flag_of(n, low.is_some(), store);
+        let flag = self.flag_of(n, seen.is_some(), store);
         match gate(self.shape, store.len(), n, self.dealer, flag) {
             Ok(()) => ControlFlow::Continue(Going::started_at(self, self.dealer, 0)),
             Err(refusal) => ControlFlow::Break(Ended {

@@ -35,7 +35,7 @@ pub fn deal_lent(ask: Ask, store: &mut [u64], table: &mut [Worker]) -> Ended
     ensures { leaves_deal store.new table.new result
         ≡ dealt_run (is_whole ask.look) ask.shape ask.turns (lent store.old table.old) ask.dealer }
 {
-    let low = survey_table(ask.shape, ask.request(), table);
-    let start = ask.begin(table.len(), low, store);
+    let seen = survey_table(ask.shape, ask.request(), table);
+    let start = ask.begin(table.len(), seen, store);
     deal_turns(start, store, table)
 }

@@ -13,16 +13,16 @@ use Rattle.dealer.specs.Tour.{Sound, wanted}
 use Rattle.dealer.proofs.Tour.{sound_start, wanted_start}
 use Rattle.dealer.proofs.turns.deal_lent.Goals as goal
 
-begins : (a : Ask) (s : List ℕ) (t : List Worker) (look : Request) (low : Option ℕ) (x : Run) → look ≡ turn_of (is_whole a.look) 0
-    → low ≡ survey a.shape look t → x ≡ begun a s (length t) (is_some low) → x ≡ begun a s (length t) (ok_of (is_whole a.look) a.shape t)
-begins a s t look low x e f g =
+begins : (a : Ask) (s : List ℕ) (t : List Worker) (look : Request) (seen : Option ℕ) (x : Run) → look ≡ turn_of (is_whole a.look) 0
+    → seen ≡ survey a.shape look t → x ≡ begun a s (length t) (is_some seen) → x ≡ begun a s (length t) (ok_of (is_whole a.look) a.shape t)
+begins a s t look seen x e f g =
     g ∙ (λ j. begun a s (length t) (is_some (f j))) ∙ (λ j. begun a s (length t) (is_some (survey a.shape (e j) t)))
 
 pub deal_turns-requires : goal.deal_turns-requires
 deal_turns-requires c =
     let a = c.args in
     subst (λ (x : Run). Sound x a.store.now a.table.now)
-    (sym (begins a.ask a.store.now a.table.now _ _ _ c.request.ensures c.survey_table-low.ensures c.begin-start.ensures))
+    (sym (begins a.ask a.store.now a.table.now _ _ _ c.request.ensures c.survey_table-seen.ensures c.begin-start.ensures))
     (sound_start a.ask a.store.now a.table.now)
 
 pub returns : goal.returns
@@ -30,5 +30,5 @@ returns c =
     let a = c.args in
     c.deal_turns.ensures
     ∙ ap (λ (x : Run). wanted x a.store.now a.table.now)
-    (begins a.ask a.store.now a.table.now _ _ _ c.request.ensures c.survey_table-low.ensures c.begin-start.ensures)
+    (begins a.ask a.store.now a.table.now _ _ _ c.request.ensures c.survey_table-seen.ensures c.begin-start.ensures)
     ∙ wanted_start a.ask a.store.now a.table.now
