@@ -70,7 +70,8 @@ step_back numbers out words i some h start end at s line built before place room
     let less' : at - 1 ≤ start = omega arith in (
       drop-set out (at - 1) 32 (omega arith)
           ∙ ap (λ (k : ℕ). 32 ∷ drop k out) e
-          ∙ ap (λ (b : List ℕ). 32 ∷ b) (written ∙ ap (λ (b : List ℕ). std.decimal x ++ b) built ∙ sym (append_assoc (std.decimal x) (values (drop i numbers)) (drop end s)))
+          ∙ ap (λ (b : List ℕ). 32 ∷ b) (written ∙ ap (λ (b : List ℕ). std.decimal x ++ b) built)
+          ∙ ap (λ (b : List ℕ). 32 ∷ b) (sym (append_assoc (std.decimal x) (values (drop i numbers)) (drop end s)))
           ∙ ap (λ (b : List ℕ). b ++ drop end s) (sym (values_before numbers words i some h)),
       take-set out (at - 1) 32
           ∙ sym (take-take (at - 1) at out less) ∙ ap (take (at - 1)) kept ∙ take-take (at - 1) at line less

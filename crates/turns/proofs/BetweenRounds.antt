@@ -3,7 +3,7 @@
 --     read_behind, nothing_read      what a read handed over stands behind what was kept; nothing was
 --     round_left                     the code's round is the definition's
 -- Assumes nothing.
-use Rattle.std.specs.Prelude.{◌≡◌, refl, Bool, true, false, cond, List, [], ◌∷◌, ◌++◌, ◌⊎◌, ℕ, ◌+◌, ◌-◌, ◌≤◌, ◌<◌, eqb, length, take, drop}
+use Rattle.std.specs.Prelude.{◌≡◌, refl, Bool, true, false, List, [], ◌∷◌, ◌++◌, ◌⊎◌, ℕ, ◌+◌, ◌-◌, ◌≤◌, ◌<◌, eqb, length, take, drop}
 use Rattle.std.proofs.Common.{sym, ◌∙◌, inl, inr, arith, length-drop, take-append-drop, drop-drop, take-take, take_at, length-take-le, eqb-true, eq-eqb, ne_eqb}
 use Rattle.std.proofs.Math.Path.{ap, subst⁻¹}
 use Rattle.std.proofs.lemmas.Bool.{eqb-false}
@@ -25,7 +25,7 @@ use Rattle.batch.proofs.WithinBuffers.{within}
 use Rattle.batch.proofs.PartOfFile.{Reason}
 use Rattle.batch.proofs.PartOfFile.{part_of_file}
 use Rattle.turns.specs.declared.Next.{Next}
-use Rattle.turns.specs.declared.Next.TheVariants.{Read, Last}
+use Rattle.turns.specs.declared.Next.TheVariants.{Read}
 use Rattle.turns.specs.declared.Round.{Round}
 use Rattle.turns.specs.TurnsRun.{follows, last_line, rounded, round_of, is_empty}
 use Rattle.turns.specs.BetweenRounds.{in_hand, holding, leaves, Placed}

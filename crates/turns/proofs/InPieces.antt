@@ -4,9 +4,8 @@
 --     all_rounds_lem                   how much is to come; enough rounds work through it
 --     in_pieces                    cut anywhere, the file is the same
 -- Assumes nothing.
-use Rattle.std.specs.Prelude.{◌≡◌, refl, Bool, true, false, cond, List, [], ◌∷◌, ◌++◌, ◌⊎◌, ℕ, zero, suc, ◌+◌, ◌≤◌, ◌<◌, eqb, length, take, drop, Err}
+use Rattle.std.specs.Prelude.{◌≡◌, refl, Bool, true, false, List, [], ◌∷◌, ◌++◌, ◌⊎◌, ℕ, zero, suc, ◌+◌, ◌≤◌, ◌<◌, length, take, drop, Err}
 use Rattle.std.proofs.Common.{sym, ap, ◌∙◌, append_assoc, append-nil, inl, inr, arith, length-append, length-drop, drop_of_length-le}
-use Rattle.std.proofs.lemmas.Bool.{eqb-false}
 use Rattle.arrival.specs.declared.Response.TheVariants as response
 use Rattle.turn_file.specs.declared.Unreadable.{Unreadable}
 use Rattle.turn_file.specs.declared.Unreadable.TheVariants.{UnknownMark, CutRecord}

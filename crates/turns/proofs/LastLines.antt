@@ -1,6 +1,6 @@
 -- How a round ends: a last line that is none leaves the buffer as it was, and what follows by each way out of a batch. Assumes nothing.
-use Rattle.std.specs.Prelude.{◌≡◌, refl, Bool, true, false, cond, List, [], ◌++◌, ◌≢◌, ℕ, ◌+◌, leb, length, take, drop}
-use Rattle.std.proofs.Common.{sym, ap, ◌∙◌, append-nil, add-zero, take-append-drop, ne_eqb}
+use Rattle.std.specs.Prelude.{◌≡◌, refl, Bool, true, false, cond, List, [], ◌++◌, ℕ, ◌+◌, leb, length, take, drop}
+use Rattle.std.proofs.Common.{sym, ap, ◌∙◌, append-nil, add-zero, take-append-drop}
 use Rattle.turn_file.specs.Buffer.{written, after}
 use Rattle.turn_file.specs.declared.Unreadable.{Unreadable}
 use Rattle.turn_file.specs.declared.Unreadable.TheVariants.{UnknownMark, CutRecord}

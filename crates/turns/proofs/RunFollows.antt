@@ -21,11 +21,10 @@ use Rattle.std.specs.Result.{IsErr}
 use Rattle.turns.specs.declared.Ended.{Ended}
 use Rattle.turns.specs.declared.Next.{Next}
 use Rattle.turns.specs.declared.Next.TheVariants.{More, Read, End, Last}
-use Rattle.turns.specs.declared.Round.{Round}
 use Rattle.turns.specs.TurnsRun.{lent, Held, Rounded, round_of, Reads, worked_on, read_on, next_round, rounds, at_first}
 use Rattle.turns.specs.InPieces.{load}
 use Rattle.turns.proofs.InPieces.{in_pieces}
-use Rattle.turns.specs.BetweenRounds.{in_hand, holding, leaves}
+use Rattle.turns.specs.BetweenRounds.{in_hand, holding}
 use Rattle.turns.proofs.BetweenRounds.{further_on, read_behind, nothing_read}
 use Rattle.turns.specs.RunFollows.{all_rounds, Followed, Whole, After, Interrupted, Outcome, Ends}
 

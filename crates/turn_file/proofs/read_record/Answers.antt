@@ -71,8 +71,12 @@ returns c =
     let some : at < length s = omega arith in
     let two : 2 ≤ length (take (length s - at) (drop at s)) = omega (arith, c.in_ok-front.ensures) in
     elim c.match-branch-offset0.branch [
-      | in-OP+in_ok-front-in-OP w ↦ rw w.record-is ((search rules) ∙ whole_left s at some OP (omega arith) two (search rules) (omega (arith, w.in_ok-front-in-OP.ensures)))
-      | in-PU+in_ok-front-in-PU w ↦ rw w.record-is ((search rules) ∙ whole_left s at some PU (omega arith) two (search rules) (omega (arith, w.in_ok-front-in-PU.ensures)))
-      | in-TA+in_ok-front-in-TA w ↦ rw w.record-is ((search rules) ∙ whole_left s at some TA (omega arith) two (search rules) (omega (arith, w.in_ok-front-in-TA.ensures)))
-      | in-TU+in_ok-front-in-TU w ↦ rw w.record-is ((search rules) ∙ whole_left s at some TU (omega arith) two (search rules) (omega (arith, w.in_ok-front-in-TU.ensures)))
+      | in-OP+in_ok-front-in-OP w ↦ rw w.record-is
+          ((search rules) ∙ whole_left s at some OP (omega arith) two (search rules) (omega (arith, w.in_ok-front-in-OP.ensures)))
+      | in-PU+in_ok-front-in-PU w ↦ rw w.record-is
+          ((search rules) ∙ whole_left s at some PU (omega arith) two (search rules) (omega (arith, w.in_ok-front-in-PU.ensures)))
+      | in-TA+in_ok-front-in-TA w ↦ rw w.record-is
+          ((search rules) ∙ whole_left s at some TA (omega arith) two (search rules) (omega (arith, w.in_ok-front-in-TA.ensures)))
+      | in-TU+in_ok-front-in-TU w ↦ rw w.record-is
+          ((search rules) ∙ whole_left s at some TU (omega arith) two (search rules) (omega (arith, w.in_ok-front-in-TU.ensures)))
     ]

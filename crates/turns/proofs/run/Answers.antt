@@ -64,16 +64,16 @@ loop-round-preserved g c =
     let start = at_first lent c.args.out.now in
     elim c.match-r.branch [
       | in-More w ↦ record {
-          sound = e.1;
-          at = omega (arith, size, e.2.at, w.at-is, w.have-is);
-          have = omega (arith, i.have, w.have-is);
-          store = omega arith;
-          input = omega arith;
-          out = omega (arith, e.3, i.out);
-          followed = rw (w.ended-is, w.at-is, w.have-is, w.input-is)
-              (after_round start r.result.pool l.at r.result.at l.have l.input r.new.out r.new.store l.ended _
-              (working start _ _ i.followed (leaves r.result _ r.new.out r.new.store) e.0 _ (omega arith) w.in-More.is));
-        }
+        sound = e.1;
+        at = omega (arith, size, e.2.at, w.at-is, w.have-is);
+        have = omega (arith, i.have, w.have-is);
+        store = omega arith;
+        input = omega arith;
+        out = omega (arith, e.3, i.out);
+        followed = rw (w.ended-is, w.at-is, w.have-is, w.input-is)
+            (after_round start r.result.pool l.at r.result.at l.have l.input r.new.out r.new.store l.ended _
+            (working start _ _ i.followed (leaves r.result _ r.new.out r.new.store) e.0 _ (omega arith) w.in-More.is));
+      }
       | in-Read w ↦
           let kept = w.keep_rest-kept.ensures in
           let read = w.read_more-have.ensures in

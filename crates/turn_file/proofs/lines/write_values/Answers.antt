@@ -51,7 +51,8 @@ loop-i-preserved c =
     let room = values_room n words l.i (omega arith) (omega arith) in
     let size = values_size n words l.i (omega arith) (omega arith) in
     let done = step_back n d.new.buf words l.i (omega arith) (omega arith) l.start c.args.end d.result c.args.out.now l.out l.invariant.built l.invariant.before
-    d.ensures.start (omega (arith, room, l.invariant.start, d.ensures.start)) (omega (arith, l.invariant.start, length-set {A = ℕ})) d.ensures.written d.ensures.before
+    d.ensures.start (omega (arith, room, l.invariant.start, d.ensures.start)) (omega (arith, l.invariant.start, length-set {A = ℕ}))
+    d.ensures.written d.ensures.before
     (omega arith) in
     record {
       start = omega (arith, size, room, l.invariant.start, d.ensures.start);
