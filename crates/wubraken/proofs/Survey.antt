@@ -124,10 +124,10 @@ pub survey_start : (sh : Shape) (t : List Worker) → Some 4294967296 ≡ survey
 unfolding survey_of unseen
 survey_start sh t = refl
 
-pub survey_more : (sh : Shape) (t : List Worker) (k low : ℕ) → survey_of sh t k ≡ Some low → record_in_range sh (worker t k) ≡ true
-    → survey_of sh t (k + 1) ≡ Some (lower low (worker t k))
-unfolding survey_of seen
-survey_more sh t k low e inside = rw (add-one, e, inside)
+pub survey_more : (sh : Shape) (t : List Worker) (k low : ℕ) → survey_of sh t k ≡ Some low
+    → survey_of sh t (k + 1) ≡ seen sh (Some low) (worker t k)
+unfolding survey_of
+survey_more sh t k low e = rw (add-one, e)
 
 -- behind a record out of range it stays as it is
 pub survey_ends : (sh : Shape) (t : List Worker) (k d : ℕ) → survey_of sh t k ≡ None → survey_of sh t (k + d) ≡ None
@@ -135,10 +135,8 @@ unfolding survey_of seen
 survey_ends sh t k zero out = rw add-zero out
 survey_ends sh t k (suc d) out = rw (add-suc, survey_ends sh t k d out)
 
-pub survey_out : (sh : Shape) (t : List Worker) (k n low : ℕ) → survey_of sh t k ≡ Some low → record_in_range sh (worker t k) ≡ false → k < n
+pub survey_out : (sh : Shape) (t : List Worker) (k n low : ℕ) → survey_of sh t k ≡ Some low → seen sh (Some low) (worker t k) ≡ None → k < n
     → survey_of sh t n ≡ None
-unfolding survey_of seen
 survey_out sh t k n low e out lt =
-    let at : survey_of sh t (k + 1) ≡ None = rw (add-one, e, out) in
     let is : n ≡ k + 1 + (n - (k + 1)) = omega arith in
-    rw is (survey_ends sh t (k + 1) (n - (k + 1)) at)
+    rw is (survey_ends sh t (k + 1) (n - (k + 1)) (survey_more sh t k low e ∙ out))

@@ -1,7 +1,7 @@
 -- A look over the workers' records: the least ticket in progress, where all are in range. Assumes nothing.
 use Rattle.std.specs.Prelude.{◌≡◌, List, cond, ltb, length, is_some, Option, Some, None}
 use Rattle.std.specs.Option.{unwrap_or}
-use Rattle.std.proofs.Math.Bool.{true, false}
+use Rattle.std.proofs.Math.Bool.{true}
 use Prim.Native.Nat.{ℕ, zero, suc, ◌≤◌}
 use Rattle.arrival.specs.declared.Shape.{Shape}
 use Rattle.arrival.specs.declared.Worker.{Worker}

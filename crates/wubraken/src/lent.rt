@@ -11,7 +11,7 @@ ghost use Rattle.wubraken.specs.Results.{SameLent, memory_of, gave_by, near_at};
 ghost use Rattle.wubraken.specs.LentGate.{flag_of, gate_on};
 ghost use Rattle.wubraken.specs.Survey.{survey};
 
-use super::table::{records_surveyed, survey_table};
+use super::table::{clear_table, records_surveyed, survey_table};
 use admission::ranges::record_in_range;
 use admission::{gate, is_near, is_sound};
 use arrival::refusals::Refusal;
@@ -27,6 +27,13 @@ pub struct Lent<'a> {
     pub shape: Shape,
     pub store: &'a mut [u64],
     pub table: &'a mut [Worker],
+}
+
+// The worker that a request is for, as an index.
+pub fn index_of(request: Request) -> usize
+    ensures { result ≡ actor (action_of request) }
+{
+    request.action().worker() as usize
 }
 
 // The start or turn that is asked for, of record w, and the turns that may follow it.
@@ -46,7 +53,7 @@ impl Lent<'_> {
         ensures opened { gave_by self.new result ≡ open_pool self.old.shape (memory_of self.old) }
     {
         open_lent(self.shape, self.table.len(), self.store)?;
-        self.table[..self.shape.workers as usize].fill(Worker::default());
+        clear_table(self.table, self.shape.workers as usize);
         Ok(Response::Opened)
     }
 
@@ -59,7 +66,7 @@ impl Lent<'_> {
         let seen = self.survey(request);
         let near = self.near(request, seen);
         self.gate(request, near)?;
-        let i = request.action().worker() as usize;
+        let i = index_of(request);
         let w = self.table[i];
         let low = seen.unwrap_or(word::COUNTS);
         let reply = perform_on(shape, low, request, w, self.store);
@@ -81,7 +88,7 @@ impl Lent<'_> {
         if request.looks_at_all() {
             return seen.is_some();
         }
-        let i = request.action().worker() as usize;
+        let i = index_of(request);
         let records = records_surveyed(self.shape, self.table.len());
         (records <= i) || record_in_range(self.shape, self.table[i])
     }

@@ -1,6 +1,7 @@
-// The look over the lent table's records: all workers', or none.
-ghost use Rattle.std.specs.Prelude.{◌≡◌};
-ghost use Rattle.wubraken.specs.Survey.{surveyed, looked_at, survey};
+// The lent table's records: one look over the workers', and clearing them.
+ghost use Rattle.std.specs.Prelude.{◌≡◌, ◌++◌, ◌≤◌, true, Some, length, drop, replicate};
+ghost use Rattle.calendar.specs.rules.Ranges.{shape_in_range, blank};
+ghost use Rattle.wubraken.specs.Survey.{seen, surveyed, looked_at, survey};
 
 use admission::ranges::{record_in_range, shape_in_range};
 use arrival::{Request, Shape, Worker};
@@ -27,17 +28,35 @@ pub fn records_looked_at(shape: Shape, request: Request, n: usize) -> usize
     records_surveyed(shape, n)
 }
 
-// The least ticket in progress by these records, unless one is out of range.
+// The least ticket in progress with one record more, unless that is out of range.
+#[tactic(auto, unfolding(crate::specs::Survey::seen))]
+pub fn look(shape: Shape, low: u64, w: Worker) -> Option<u64>
+    requires { shape_in_range shape ≡ true }
+    ensures { result ≡ seen shape (Some low) w }
+{
+    if !record_in_range(shape, w) {
+        return None;
+    }
+    Some(lower_ticket(low, w))
+}
+
+// The look over the workers' records, to the first that is out of range.
 pub fn survey_table(shape: Shape, request: Request, table: &[Worker]) -> Option<u64>
     ensures { result ≡ survey shape request table.now }
 {
     let n = records_looked_at(shape, request, table.len());
     let mut low = word::COUNTS;
     for w in &table[..n] {
-        if !record_in_range(shape, *w) {
-            return None;
-        }
-        low = lower_ticket(low, *w);
+        low = look(shape, low, *w)?;
     }
     Some(low)
+}
+
+// The first n records become idle, all fields 0.
+#[tactic(auto, unfolding(calendar::specs::rules::Ranges::blank))]
+pub fn clear_table(table: &mut [Worker], n: usize)
+    requires { n ≤ length table.old }
+    ensures { table.new ≡ replicate n blank ++ drop n table.old }
+{
+    table[..n].fill(Worker::default());
 }
