@@ -8,7 +8,6 @@
 use Rattle.std.specs.Prelude.{◌≡◌, refl, List, [], ◌∷◌, ◌++◌, Bool, true, false, cond, ◌&&◌, ℕ, zero, suc, ◌+◌, ◌<◌, ◌≤◌, ltb, length, get_or, set, take, drop, replicate, min, max}
 use Rattle.std.proofs.Common.{sym, ap, ◌∙◌, append-nil, arith, add-one, take_all, ltb-true, ltb-false, le-ltb}
 use Rattle.std.specs.List.{fold}
-use Rattle.std.proofs.lemmas.List.{same_lists, get_or_default}
 use Rattle.std.proofs.lemmas.List.Sums.{fold-append}
 use Rattle.std.proofs.Math.Seq.{drop-length, take-suc}
 use Rattle.laws.specs.Storing.{store_next}
@@ -18,7 +17,7 @@ use Rattle.arrival.specs.declared.Action.{Action}
 use Rattle.arrival.specs.declared.Action.TheVariants.{Enqueue, Dequeue, Step}
 use Rattle.calendar.specs.rules.Ranges.{blank, worker}
 use Rattle.calendar.specs.rules.Reclaim.{in_progress}
-use Rattle.starts.specs.LeastTicket.{least_ticket, least_bound}
+use Rattle.starts.specs.LeastTicket.{lower, least_ticket, least_bound}
 use Rattle.operation.specs.LocalAct.{LowFor}
 use Rattle.batch.specs.Held.{greater}
 use Rattle.batch.specs.Tickets.{ticket_of, tickets_of, least, least_of, low_for}
@@ -92,45 +91,14 @@ tickets_more t k ts h l =
 pub tickets_all : (t : List Worker) (k : ℕ) (ts : List ℕ) → length t ≡ k → length ts ≡ k → take k (tickets_of t) ++ drop k ts ≡ tickets_of t
 tickets_all t k ts e f = rw (take_all k (tickets_of t) (omega (arith, tickets_length t)), ← f, drop-length ts) (append-nil (tickets_of t))
 
--- cleared records, cleared tickets
-none_cleared : (n : ℕ) → tickets_of (replicate n blank ++ []) ≡ replicate n 4294967296 ++ []
-unfolding tickets_of blank
-none_cleared zero = refl
-none_cleared (suc n) = ap (λ (ts : List ℕ). 4294967296 ∷ ts) (none_cleared n)
-
-pub tickets_cleared : (t : List Worker) (n : ℕ) → tickets_of (replicate n blank ++ drop n t) ≡ replicate n 4294967296 ++ drop n (tickets_of t)
-unfolding tickets_of blank
-tickets_cleared t zero = refl
-tickets_cleared [] (suc n) = ap (λ (ts : List ℕ). 4294967296 ∷ ts) (none_cleared n)
-tickets_cleared (w ∷ t) (suc n) = ap (λ (ts : List ℕ). 4294967296 ∷ ts) (tickets_cleared t n)
-
 -- the least by a fold over the first n
-min_least : (low x : ℕ) → min low x ≡ least low x
-min_least low x = go (ltb x low) refl
-  where
-    go : (b : Bool) → ltb x low ≡ b → min low x ≡ cond b x low
-    go true e = let h = ltb-true x low e in omega arith
-    go false e = let h = ltb-false x low e in omega arith
-
-pub least_folded : (ts : List ℕ) (n : ℕ) → n ≤ length ts → fold min 4294967296 (take n ts) ≡ least_of ts n
-unfolding least_of
-least_folded ts zero h = refl
-least_folded ts (suc n) h =
-    ap (fold min 4294967296) (take-suc ts n 0 (omega arith))
-    ∙ fold-append min 4294967296 (take n ts) (get_or ts n 0 ∷ [])
-    ∙ min_least (fold min 4294967296 (take n ts)) (get_or ts n 0)
-    ∙ ap (λ (low : ℕ). least low (get_or ts n 0)) (least_folded ts n (omega arith))
-
-pub least_bounded : (ts : List ℕ) (n : ℕ) → least_of ts n ≤ 4294967296
-unfolding least_of
-least_bounded ts zero = omega arith
-least_bounded ts (suc n) = least_at_most (least_of ts n) (get_or ts n 0) 4294967296 (least_bounded ts n)
-
--- tickets that are those of the records, one by one
-pub tickets_same : (ts : List ℕ) (t : List Worker) → length ts ≡ length t → ((k d : ℕ) → k < length ts → get_or ts k d ≡ ticket_of (worker t k))
-    → ts ≡ tickets_of t
-tickets_same ts t long each = same_lists ts (tickets_of t) (long ∙ sym (tickets_length t))
-    (λ k d h. each k d h ∙ sym (tickets_at t k (omega (arith, long))) ∙ get_or_default (tickets_of t) k 0 d (omega (arith, long, tickets_length t)))
+pub least_folded : (t : List Worker) (n : ℕ) → n ≤ length t → fold lower 4294967296 (take n t) ≡ least_ticket t n
+unfolding least_ticket blank
+least_folded t zero h = refl
+least_folded t (suc n) h =
+    ap (fold lower 4294967296) (take-suc t n blank (omega arith))
+    ∙ fold-append lower 4294967296 (take n t) (worker t n ∷ [])
+    ∙ ap (λ (low : ℕ). lower low (worker t n)) (least_folded t n (omega arith))
 
 pub greater_max : (a b : ℕ) → max a b ≡ greater a b
 greater_max a b = go (ltb a b) refl

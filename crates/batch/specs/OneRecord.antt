@@ -9,7 +9,6 @@ use Rattle.arrival.specs.declared.Response.{Response}
 use Rattle.turn_file.specs.declared.Record.{Record}
 use Rattle.batch.specs.declared.HeldPool.{HeldPool}
 use Rattle.batch.specs.declared.known.Known.{Known}
-use Rattle.batch.specs.declared.records.Records.{Records}
 use Rattle.batch.specs.Batch.{Pool, result_of, pool_after}
 use Rattle.batch.specs.Held.{held_after}
 use Rattle.batch.specs.CodeView.{Sound, lent_to}
@@ -18,8 +17,8 @@ abbrev pub pool_of : HeldPool → List ℕ → Pool
 pool_of d s = record { shape = d.shape; memory = lent_to d s }
 
 -- the pool of what is known and of the records
-abbrev pub holding : Known → Records → HeldPool
-holding k r = record { shape = k.shape; sound = k.sound; records = k.records; held = k.held; table = r.table }
+abbrev pub holding : Known → List Worker → HeldPool
+holding k t = record { shape = k.shape; sound = k.sound; records = k.records; held = k.held; table = t }
 
 -- the record w at i
 abbrev pub with_record : HeldPool → ℕ → Worker → HeldPool

@@ -13,11 +13,9 @@ ghost use Rattle.arrival.specs.Refusals.{refusal_of};
 use arrival::refusals::Refusal;
 use arrival::{Action, Shape, Worker};
 use known::Known;
-use records::Records;
 use turn_file::{Record, Unreadable, read_record, write_line, write_opened, write_refusal};
 
 mod known;
-mod records;
 pub mod table;
 pub mod tickets;
 
@@ -90,7 +88,7 @@ pub fn run_batch(
         × Sound result.pool store.new × (result.pool.records ≡ pool.records)
         × (result.pool.held ≡ held_all input.now pool.held (begins pool store.old at out.old to)) }
 {
-    let mut all = Records::of(pool.table);
+    let mut table = pool.table;
     let mut known = Known {
         shape: pool.shape,
         sound: pool.sound,
@@ -105,15 +103,15 @@ pub fn run_batch(
             Ok(Some((found, next))) => {
                 match found {
                     Record::Open(shape) => {
-                        let opened = known.open(shape, &mut all, store);
+                        let opened = known.open(shape, &mut table, store);
                         to = write_opening(opened, out, to);
                     }
                     Record::Act(action) => {
                         let i = place_of(action);
-                        match known.act(action, all.table[i], &all, store) {
+                        match known.act(action, table[i], &table, store) {
                             Ok(reply) => {
                                 to = write_line(reply.response, out, to);
-                                all.put(i, reply.worker);
+                                table[i] = reply.worker;
                             }
                             Err(refusal) => {
                                 to = write_refusal(refusal.number(), out, to);
@@ -127,7 +125,6 @@ pub fn run_batch(
             Err(why) => break Stop::Halted(why),
         }
     };
-    let table = all.table;
     let pool = HeldPool {
         shape: known.shape,
         sound: known.sound,

@@ -2,7 +2,7 @@
 ghost use Rattle.std.specs.Prelude.{◌≡◌, ◌++◌, ◌≤◌, length, take, drop, replicate};
 ghost use Rattle.calendar.specs.rules.Ranges.{blank};
 
-use arrival::{Worker};
+use arrival::Worker;
 
 // An array of the table's first n records, and idle ones behind them.
 #[tactic(auto, unfolding(calendar::specs::rules::Ranges::blank))]

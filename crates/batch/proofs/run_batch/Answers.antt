@@ -17,17 +17,6 @@ use Rattle.batch.proofs.OneRecord.{with_table, goes_on}
 use Rattle.batch.proofs.run_batch.Goals as goal
 use Rattle.batch.proofs.run_batch.Goals.{then-not-has_room, else-not-has_room+in-Ok-None, else-not-has_room+in-Err}
 
-pub loop-at-init : goal.loop-at-init
-loop-at-init c =
-    let a = c.args in
-    let p = a.pool in
-    let s = a.store.now in
-    subst⁻¹ (λ (t : List Worker). let d : HeldPool = record { shape = p.shape; sound = p.sound; records = p.records; held = p.held; table = t } in record {
-      going : Going a.input.now (begins p s a.at a.out.now a.to) p.held (begins d s a.at a.out.now a.to) p.held p.sound;
-      sound : Sound d s;
-      records : p.records ≡ p.records;
-    }) c.of-all.ensures (record { going = going _ _ _ _ c.requires.2; sound = c.requires; records = λ _. p.records })
-
 pub loop-at-smaller-in-Open : goal.loop-at-smaller-in-Open
 loop-at-smaller-in-Open c =
     let (on, end) = read_on c.args.input.now c.loop-at.at _ _ (sym (rw c.in-Ok-Some.field-0-is at c.in-Ok-Some.ensures)) in
@@ -51,7 +40,7 @@ loop-at-smaller c =
 
 pub act-requires : goal.act-requires
 unfolding blank
-act-requires c = (c.loop-at.invariant.sound, ap (worker c.loop-at.all.table) c.place_of-i.ensures.0)
+act-requires c = (c.loop-at.invariant.sound, ap (worker c.loop-at.table) c.place_of-i.ensures.0)
 
 pub loop-at-smaller-in-Ok : goal.loop-at-smaller-in-Ok
 loop-at-smaller-in-Ok c =
@@ -62,8 +51,8 @@ pub loop-at-preserved-in-Ok : goal.loop-at-preserved-in-Ok
 loop-at-preserved-in-Ok c =
     let inv = c.loop-at.invariant in
     let w = c.in-Ok.reply.worker in
-    let D = with_table (holding c.act.new.self c.loop-at.all) _ _ c.in-Ok.ensures c.put.new.self.table
-    (c.put.ensures ∙ ap (λ (i : ℕ). set c.loop-at.all.table i w) c.place_of-i.ensures.0) in
+    let D = with_table (holding c.act.new.self c.loop-at.table) _ _ c.in-Ok.ensures (set c.loop-at.table c.place_of-i.result w)
+    (ap (λ (i : ℕ). set c.loop-at.table i w) c.place_of-i.ensures.0) in
     record {
       going = goes_on inv.going (sym c.has_room.ensures ∙ c.if-not-has_room.false) _ _ (rw (c.in-Ok-Some.field-0-is, c.in-Act.is) at c.in-Ok-Some.ensures) D
           c.write_line-to.ensures;
@@ -76,9 +65,9 @@ pub loop-at-preserved : goal.loop-at-preserved
 unfolding blank
 loop-at-preserved c =
     let inv = c.loop-at.invariant in
-    let t = c.loop-at.all.table in
+    let t = c.loop-at.table in
     let i = place_of c.in-Act.action in
-    let D = with_table (holding c.act.new.self c.loop-at.all) _ _ c.in-Err-act.ensures t
+    let D = with_table (holding c.act.new.self c.loop-at.table) _ _ c.in-Err-act.ensures t
     (sym (ap (λ (j : ℕ). set t i (worker t j)) c.place_of-i.ensures.0 ∙ set-get_or t i blank)) in
     record {
       going = goes_on inv.going (sym c.has_room.ensures ∙ c.if-not-has_room.false) _ _ (rw (c.in-Ok-Some.field-0-is, c.in-Act.is) at c.in-Ok-Some.ensures) D
@@ -92,7 +81,7 @@ returns c =
     let l = c.loop-at in
     let G = l.invariant.going in
     let room = c.has_room.ensures in
-    let left : Stop → Stopped = λ stop. record { progress = begins (holding l.known l.all) l.store l.at l.out l.to; stop = stop } in
+    let left : Stop → Stopped = λ stop. record { progress = begins (holding l.known l.table) l.store l.at l.out l.to; stop = stop } in
     elim c.if-not-has_room.branch [
       | then-not-has_room w ↦
           let (same, holds) = full _ _ _ _ _ _ G (sym room ∙ w.if-not-has_room.true) in

@@ -35,7 +35,7 @@ returns c =
     let long : length a.table ≡ 64 = search rules in
     let first = c.records_surveyed-held.ensures ∙ ap (surveyed a.shape) (sym (length-take-le a.n a.table (omega arith))) in (
       ap (λ (e : BatchEnd). account p.new.store (take a.n r.pool.table) p.new.out e) c.from.ensures
-      ∙ ap (λ (m : ℕ). account p.new.store (take m r.pool.table) p.new.out (end_of r)) (sym p.ensures.2)
-      ∙ ap account_of p.ensures.0,
+          ∙ ap (λ (m : ℕ). account p.new.store (take m r.pool.table) p.new.out (end_of r)) (sym p.ensures.2)
+          ∙ ap account_of p.ensures.0,
       p.ensures.3 ∙ ap (λ k. held_all a.input.now k (at_work a.shape a.store.now (take a.n a.table) 0 a.out.now 0)) first,
     )

@@ -15,7 +15,7 @@ use Rattle.batch.proofs.known.Known.open.Goals as goal
 pub returns-in_err-open_lent : goal.returns-in_err-open_lent
 returns-in_err-open_lent c =
     let a = c.args in
-    let d = holding a.self.now a.all.now in
+    let d = holding a.self.now a.table.now in
     let e = c.in_err-open_lent in
     let k = number e.field-0.0 in
     let same = e.ensures.opened ∙ ap (λ (m : ℕ). cond (eqb m 0) (open_store a.shape a.store.now) a.store.now) (sym e.ensures.refused) ∙ rw (ne_eqb k 0 (some _)) in
@@ -24,12 +24,12 @@ returns-in_err-open_lent c =
     (subst⁻¹ (λ (s : List ℕ). Does (Open a.shape) d a.store.now (Refused k) d s) same (refused_open d a.store.now c.requires a.shape k e.ensures.refused (some _)))
 
 pub clear-requires : goal.clear-requires
-clear-requires c = small_shape (holding c.args.self.now c.args.all.now) c.args.store.now c.requires c.args.shape (sym c.in_ok-open_lent.ensures.refused)
+clear-requires c = small_shape (holding c.args.self.now c.args.table.now) c.args.store.now c.requires c.args.shape (sym c.in_ok-open_lent.ensures.refused)
 
 pub returns : goal.returns
 returns c =
     let a = c.args in
     let k = c.in_ok-open_lent.ensures in
     let opens = k.opened ∙ ap (λ (m : ℕ). cond (eqb m 0) (open_store a.shape a.store.now) a.store.now) (sym k.refused) in
-    did_open (holding a.self.now a.all.now) a.store.now c.requires a.shape (sym k.refused) _ opens _ c.clear.ensures _
+    did_open (holding a.self.now a.table.now) a.store.now c.requires a.shape (sym k.refused) _ opens _ c.clear.ensures _
     (c.max-self.ensures ∙ greater_max a.self.now.held a.shape.workers)
