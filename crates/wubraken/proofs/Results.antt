@@ -5,7 +5,12 @@
 --     admits                         what the gate lets pass may be worked on
 --     acted                          what is done on one record and put back is what was requested
 --     away_is                        so is the refusal of a worker past the workers' records
---     opened_bound, open_is          no more than there are; with the store opened and the records cleared it is the opening
+--     away_at, none_let               by what the code has found: it is refused, and the gate lets none pass
+--     refused_at, admits_at, done_at   of a worker with a record: refused, or worked on and put back
+--     opened_bound                    no more than there are
+--     opened_is                       with the store opened and the records cleared it is the opening
+--     open_refused, open_done          what refuses it, and what it leaves
+--     open_is                         the same of its answer
 -- Assumes nothing.
 use Rattle.std.specs.Prelude.{◌≡◌, List, ◌++◌, ◌≢◌, ℕ, zero, suc, ◌<◌, ◌≤◌, eqb, ltb, length, set, drop, replicate, is_some, Option, Some, None}
 use Rattle.std.proofs.Math.Path.{refl}
@@ -48,7 +53,7 @@ use Rattle.wubraken.specs.Answers.{answer_of}
 use Rattle.wubraken.proofs.AnswerLaws.{answer_said}
 use Rattle.wubraken.specs.Survey.{Surveyed, surveyed, survey, low_of}
 use Rattle.wubraken.proofs.Survey.{surveyed_worker, survey_none, survey_ok_is, survey_low_is, survey_tells}
-use Rattle.wubraken.specs.LentGate.{flag_of, gate_on, Passed}
+use Rattle.wubraken.specs.LentGate.{flag_of, gate_on}
 use Rattle.wubraken.proofs.LentGate.{passed}
 use Rattle.wubraken.specs.Results.{lent, leaves, told, gave, ActsAs, AnswersAs, near_by, act_on, records_opened}
 

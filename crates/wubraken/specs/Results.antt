@@ -7,7 +7,7 @@
 --     act_on                          refused by 1 to 4, or done; by what the gate said
 --     records_opened                  how many records an opening clears, by the number that refuses it
 -- Assumes nothing.
-use Rattle.std.specs.Prelude.{◌≡◌, List, ℕ, eqb, ltb, length, true, is_some, Option}
+use Rattle.std.specs.Prelude.{◌≡◌, List, ℕ, eqb, is_some, Option}
 use Rattle.std.proofs.Math.Bool.{Bool, cond}
 use Rattle.arrival.specs.declared.Shape.{Shape}
 use Rattle.arrival.specs.declared.Worker.{Worker}
@@ -15,7 +15,7 @@ use Rattle.arrival.specs.declared.Response.{Response}
 use Rattle.arrival.specs.declared.Request.{Request}
 use Rattle.arrival.specs.Responses.{Said, said}
 use Rattle.arrival.specs.Requests.{actor, action_of, turns_of, is_whole, looks_at_all}
-use Rattle.calendar.specs.rules.Ranges.{record_in_range, worker}
+use Rattle.calendar.specs.rules.Ranges.{record_in_range}
 use Rattle.calendar.specs.rules.Operations.{Memory, Result}
 use Rattle.calendar.specs.rules.HostHistory.{requested}
 use Rattle.words.specs.Done.{Done, unless_refused}
@@ -23,9 +23,8 @@ use Rattle.operation.specs.LocalAct.{local_act}
 use Rattle.operation.specs.LocalTurns.{local_turns}
 use Rattle.wubraken.specs.declared.lent.Lent.{Lent}
 use Rattle.wubraken.specs.declared.answers.Answer.{Answer}
-use Rattle.wubraken.specs.Answers.{answer_of, said_by}
-use Rattle.wubraken.specs.Answers.{Outcome, responded}
-use Rattle.wubraken.specs.Survey.{surveyed, low_of}
+use Rattle.wubraken.specs.Answers.{Outcome, responded, answer_of, said_by}
+use Rattle.wubraken.specs.Survey.{low_of}
 use Rattle.wubraken.specs.LentGate.{gate_on}
 
 -- ── what a call leaves ──

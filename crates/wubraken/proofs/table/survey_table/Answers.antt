@@ -15,7 +15,8 @@ returns-in_err-low c =
     let n = c.records_looked_at-n.result in
     let inside : c.loop-w.w-index < n = omega (arith, c.loop-w-test.true, length-take n a.table.now) in
     let is = ap (seen a.shape (Some c.loop-w.low)) (get_or-take n a.table.now c.loop-w.w-index blank inside) in
-    rw c.from_residual.ensures (sym (survey_out a.shape a.table.now c.loop-w.w-index n c.loop-w.low c.loop-w.invariant (sym is ∙ sym c.in_err-low.ensures) inside)
+    rw c.from_residual.ensures (sym (survey_out a.shape a.table.now c.loop-w.w-index n c.loop-w.low c.loop-w.invariant
+    (sym is ∙ sym c.in_err-low.ensures) inside)
     ∙ ap (survey_of a.shape a.table.now) c.records_looked_at-n.ensures)
 
 pub loop-w-preserved : goal.loop-w-preserved

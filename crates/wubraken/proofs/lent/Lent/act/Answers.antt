@@ -1,5 +1,5 @@
 -- What is requested is done on its worker's record, or refused. Assumes nothing.
-use Rattle.std.proofs.Common.{◌≡◌, ◌<◌, ◌≤◌, ◌∙◌, refl, sym, ap, arith, length}
+use Rattle.std.proofs.Common.{◌<◌, ◌≤◌, ◌∙◌, refl, sym, ap, arith, length}
 use Rattle.std.proofs.lemmas.Result.{err_from_is_err_and}
 use Rattle.arrival.specs.Refusals.{number}
 use Rattle.arrival.specs.Requests.{actor, action_of, turns_of}
