@@ -2,10 +2,11 @@
 --     act_length                      an action leaves the store as long as it was
 --     turns_back                      put back into the table, they are the turns behind it in lent memory
 --     turns_over, turns_none          what has ended, or may have no turn more, stays
+--     ended, not_ended                by the test of the loop
 --     going                           what is known where a call goes on: only `right` and `seen` can be out of range
 --     turns_out, turns_on, goes_back  one of them is, and the next turn is refused by 3; or they are not, and it is made
 -- Assumes nothing.
-use Rattle.std.specs.Prelude.{◌≡◌, ◌&&◌, ◌≢◌, eqb, length, set}
+use Rattle.std.specs.Prelude.{◌≡◌, not, ◌&&◌, ◌||◌, ◌≢◌, eqb, length, set}
 use Rattle.std.proofs.Math.Path.{refl, sym, ap}
 use Rattle.std.proofs.Common.{◌∙◌, arith, length-set, set-set, get_or-set_same, eqb-true, le-leb, eq-eqb}
 use mathlib.Core.List.{List}
@@ -16,6 +17,7 @@ use Rattle.arrival.specs.declared.Shape.{Shape}
 use Rattle.arrival.specs.declared.Worker.{Worker}
 use Rattle.arrival.specs.declared.Action.{Action}
 use Rattle.arrival.specs.declared.Action.TheVariants.{Enqueue, Dequeue, Step}
+use Rattle.arrival.specs.declared.Response.{Response}
 use Rattle.arrival.specs.declared.Response.TheVariants.{Refused}
 use Rattle.laws.specs.Tests.{never}
 use Rattle.calendar.specs.rules.Layout.{layout, write_all, started}
@@ -131,6 +133,23 @@ turns_over sh (suc n) d e = rw e
 pub turns_none : (sh : Shape) (n : ℕ) (d : Done) → n ≡ 0 → local_turns sh n d ≡ d
 unfolding local_turns
 turns_none sh n d e = rw e
+
+-- by the test of the loop, where g says whether the call goes on
+pub ended : (sh : Shape) (n : ℕ) (d : Done) (g : Bool) → g ≡ goes_on d.response → (eqb n 0 || not g) ≡ true → local_turns sh n d ≡ d
+ended sh n d g is e = go (eqb n 0) refl g is e
+  where
+    go : (b : Bool) → eqb n 0 ≡ b → (g : Bool) → g ≡ goes_on d.response → (b || not g) ≡ true → local_turns sh n d ≡ d
+    go true z g is e = turns_none sh n d (eqb-true n 0 z)
+    go false z true is e = never e
+    go false z false is e = turns_over sh n d (sym is)
+
+pub not_ended : (n : ℕ) (r : Response) (g : Bool) → g ≡ goes_on r → (eqb n 0 || not g) ≡ false → (n ≢ 0) × (goes_on r ≡ true)
+not_ended n r g is e = go (eqb n 0) refl g is e
+  where
+    go : (b : Bool) → eqb n 0 ≡ b → (g : Bool) → g ≡ goes_on r → (b || not g) ≡ false → (n ≢ 0) × (goes_on r ≡ true)
+    go true z g is e = never (sym e)
+    go false z true is e = (eqb-false n 0 z, sym is)
+    go false z false is e = never (sym e)
 
 -- one turn more
 one_more : (sh : Shape) (n : ℕ) (d : Done) → n ≢ 0 → goes_on d.response ≡ true → local_turns sh n d ≡ local_turns sh (n - 1)
