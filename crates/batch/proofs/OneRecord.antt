@@ -1,38 +1,35 @@
 -- One record of the file on a held pool: what the code does is what the definition says. Assumes nothing.
---     few_workers, let_in           what a gate that refuses nothing tells
---     small_shape                   what an opening that is not refused tells
---     refused_act, did_act          a start or turn
---     refused_open, did_open        an opening
+--     refused_act                   a start or turn that the gate refuses
+--     few_workers, admits, did_act   one that it lets in
+--     refused_open                  an opening that is refused
+--     small_shape, did_open         one that is not
 --     with_table                    a record put back
 --     goes_on                       a record answered, its line written: the rest of the batch is as it was
-use Rattle.std.specs.Prelude.{◌≡◌, refl, List, ◌++◌, true, not, ◌≢◌, ℕ, ◌+◌, ◌<◌, ◌≤◌, eqb, leb, length, take, set, drop, replicate}
+use Rattle.std.specs.Prelude.{◌≡◌, refl, List, [], ◌++◌, true, not, ◌≢◌, ℕ, ◌+◌, ◌≤◌, eqb, leb, length, take, set, drop, replicate}
 use Rattle.std.proofs.Math.Path.{sym, ap, subst⁻¹}
-use Rattle.std.proofs.Common.{◌∙◌, subst, arith, length-set, length-take-le, get_or-take}
+use Rattle.std.proofs.Common.{◌∙◌, arith, length-set}
 use Rattle.std.proofs.Math.Seq.{take-set-lt}
 use Rattle.std.proofs.lemmas.List.{set-get_or}
 use borrow.Author.Tests.{eq-eqb, ne_eqb}
 use Rattle.arrival.specs.declared.Shape.{Shape}
 use Rattle.arrival.specs.declared.Worker.{Worker}
 use Rattle.arrival.specs.declared.Action.{Action}
-use Rattle.arrival.specs.declared.Action.TheVariants.{Enqueue, Dequeue, Step}
 use Rattle.arrival.specs.declared.Response.{Response}
 use Rattle.arrival.specs.declared.Response.TheVariants.{Opened, Refused}
 use Rattle.calendar.specs.rules.Ranges.{blank, worker}
 use Rattle.calendar.specs.rules.Refusals.{open_refusal}
 use Rattle.calendar.specs.rules.Opening.{open_store, open_table}
 use Rattle.calendar.specs.facts.Accepted.{Lent, Usable}
-use Rattle.calendar.proofs.facts.Accepted.{open_accepted}
 use Rattle.calendar.specs.rules.Operations.{Memory, Result, actor, act, open_pool}
 use Rattle.calendar.proofs.facts.Untouched.{act_same_size, open_same_size}
-use Rattle.words.specs.Done.{Done}
 use Rattle.operation.specs.LocalAct.{Admitted, local_act, LowFor, back}
-use Rattle.operation.proofs.LocalAct.{admitted, act_is}
+use Rattle.operation.proofs.LocalAct.{act_is}
 use Rattle.operation.specs.Leaks.{action_leaks}
 use Rattle.operation.proofs.LeakLaws.{act_watched}
 use Rattle.admission.specs.Watched.{Watched}
 use Rattle.admission.proofs.Watched.{opened_sound}
 use Rattle.admission.specs.Gate.{gate_of, open_gate}
-use Rattle.admission.proofs.GateLaws.{gate_opens, open_gate_is, usable, refused_is}
+use Rattle.admission.proofs.GateLaws.{gate_opens, refused_is}
 use Rattle.laws.specs.Storing.{over_taken}
 use Rattle.turn_file.specs.Lines.{line_of}
 use Rattle.turn_file.specs.Buffer.{written, after}
@@ -44,30 +41,26 @@ use Rattle.batch.specs.Batch.{Progress, shape_after}
 use Rattle.batch.specs.Held.{greater}
 use Rattle.batch.specs.Tickets.{tickets_of, low_for}
 use Rattle.batch.proofs.TicketLaws.{low_is}
-use Rattle.batch.proofs.LentPart.{least_taken, over_length}
+use Rattle.batch.proofs.LentPart.{over_length}
 use Rattle.batch.specs.ActHeld.{place_of}
 use Rattle.batch.proofs.ActHeld.{own_place}
-use Rattle.batch.specs.BatchLoop.{Going}
+use Rattle.batch.specs.BatchLoop.{Going, at_work}
 use Rattle.batch.proofs.BatchLoop.{go_on}
 use Rattle.batch.specs.CodeView.{Sound, lent_records, lent_to, begins}
-use Rattle.batch.specs.RoundArms.{Line}
+use Rattle.batch.specs.RoundArms.{Round, Line}
+use Rattle.batch.proofs.RoundArms.{counted, gate_here, open_gate_here, passes, in_use, below_64, is_lent, own, let_in, no_refusal, lent_to_lem, lent_low, first_round}
 use Rattle.batch.specs.OneRecord.{pool_of, with_record, Does}
 
 module _ (d : HeldPool) (s : List ℕ) (S : Sound d s) where
-  counted : d.records ≡ length (take d.records d.table)
-  counted = sym (length-take-le d.records d.table (omega (arith, S.0, S.1)))
-
-  gate_here : (i : ℕ) → gate_of d.shape (length s) d.records i d.sound ≡ gate_of d.shape (length s) (length (take d.records d.table)) i d.sound
-  gate_here i = ap (λ n. gate_of d.shape (length s) n i d.sound) counted
-
-  open_gate_here : (sh : Shape) → open_gate sh (length s) d.records ≡ open_refusal sh s (take d.records d.table)
-  open_gate_here sh = ap (open_gate sh (length s)) counted ∙ open_gate_is sh (lent_to d s)
+  -- what a round of no bytes tells (proofs/RoundArms)
+  R : Round [] (at_work d.shape s (lent_records d) 0 [] 0) d.held (length s) d.records 0 d.shape s d.table 0 [] 0 d.sound d.held
+  R = first_round [] d.shape s d.records d.table 0 [] 0 d.sound d.held S.2 S.0 S.1 (length s) 0 refl refl S.3
 
   -- ── a start or turn ──
   pub refused_act : (a : Action) (k : ℕ) → k ≡ gate_of d.shape (length s) d.records (actor a) d.sound → k ≢ 0
       → Does (Act a) d s (Refused k) (with_record d (place_of a) (worker d.table (place_of a))) s
   refused_act a k is n =
-      let g = is ∙ gate_here (actor a) in
+      let g = is ∙ gate_here R (actor a) in
       let r : record { memory = lent_to d s; response = Refused k } ≡ act d.shape (lent_to d s) a =
       ap (λ (j : ℕ). record { memory = lent_to d s; response = Refused j }) g ∙ refused_is d.shape (lent_to d s) d.sound S.2 a (λ z. n (g ∙ z)) in
       subst⁻¹ (λ (t : List Worker). Does (Act a) d s (Refused k) (record { shape = d.shape; sound = d.sound; records = d.records; held = d.held; table = t }) s)
@@ -82,38 +75,20 @@ module _ (d : HeldPool) (s : List ℕ) (S : Sound d s) where
 
   -- a gate that refuses nothing
   module _ (a : Action) (z : gate_of d.shape (length s) d.records (actor a) d.sound ≡ 0) where
-    passes : gate_of d.shape (length s) (length (take d.records d.table)) (actor a) d.sound ≡ 0
-    passes = sym (gate_here (actor a)) ∙ z
-
-    in_use : Usable d.shape s (take d.records d.table) (actor a)
-    in_use = usable d.shape (lent_to d s) d.sound S.2 (actor a) passes
+    U : Usable d.shape s (take d.records d.table) (actor a)
+    U = in_use R (actor a) (gate_of d.shape (length s) d.records (actor a) d.sound) refl z
 
     pub few_workers : d.shape.workers ≤ 64
-    few_workers = in_use.lent.limits.workers
+    few_workers = U.lent.limits.workers
 
     at_place : place_of a ≡ actor a
-    at_place = own_place a (omega (arith, in_use.exists, few_workers))
+    at_place = own_place a (below_64 R (actor a) _ refl z)
 
     enough : d.shape.workers ≤ d.records
-    enough = omega (arith, in_use.lent.table, counted)
+    enough = omega (arith, U.lent.table, counted R)
 
-    is_lent : actor a < d.records
-    is_lent = omega (arith, in_use.exists, enough)
-
-    -- its record, in the array
-    own : worker (take d.records d.table) (actor a) ≡ worker d.table (actor a)
-    own = get_or-take d.records d.table (actor a) blank is_lent
-
-    pub let_in : Admitted d.shape s (worker d.table (place_of a))
-    let_in =
-        subst⁻¹ (λ (i : ℕ). Admitted d.shape s (worker d.table i)) at_place
-        (subst (λ (w : Worker). Admitted d.shape s w) own (admitted d.shape s (take d.records d.table) (actor a) in_use))
-
-    -- the least ticket of the array's workers is that of the lent ones
-    lent_low : (b : Action) (low : ℕ) → LowFor d.shape d.table b low → LowFor d.shape (take d.records d.table) b low
-    lent_low (Enqueue i x) low e = e ∙ sym (least_taken d.records d.table d.shape.workers enough)
-    lent_low (Dequeue i) low e = tt
-    lent_low (Step i) low e = tt
+    pub admits : Admitted d.shape s (worker d.table (place_of a))
+    admits = subst⁻¹ (λ (i : ℕ). Admitted d.shape s (worker d.table i)) at_place (let_in R (actor a) _ refl z)
 
     -- done to it, and not yet put back
     abbrev leaving : ℕ → HeldPool
@@ -137,7 +112,7 @@ module _ (d : HeldPool) (s : List ℕ) (S : Sound d s) where
         length-set d.table i w' ∙ S.0,
         S.1,
         subst⁻¹ (λ (x : Result). Watched d.shape x.memory (not (action_leaks d.shape s a (worker d.table i)))) r
-            (subst⁻¹ (λ (w : Worker). Watched d.shape (act d.shape m a).memory (not (action_leaks d.shape s a w))) (sym own) (act_watched d.shape m d.sound S.2 a passes)),
+            (subst⁻¹ (λ (w : Worker). Watched d.shape (act d.shape m a).memory (not (action_leaks d.shape s a w))) (sym (own R i _ refl z)) (act_watched d.shape m d.sound S.2 a (passes R i _ refl z))),
         λ up. ap (λ (n : ℕ). open_gate d.shape n d.records) same_length ∙ gate_opens d.shape (length s) d.records i d.sound z,
       );
     }
@@ -153,9 +128,9 @@ module _ (d : HeldPool) (s : List ℕ) (S : Sound d s) where
 
         r : record { memory = record { store = s'; table = take d.records (set d.table i w') }; response = l } ≡ act d.shape m a
         r =
-            ap (λ (u : List Worker). record { memory = record { store = s'; table = u }; response = l }) (take-set-lt d.records d.table i w' is_lent)
-            ∙ ap (back (take d.records d.table) i) (e ∙ ap (local_act d.shape (low_for a ts d.shape.workers) s a) (sym own))
-            ∙ act_is d.shape m d.sound S.2 a (low_for a ts d.shape.workers) (lent_low a _ low) passes
+            ap (λ (u : List Worker). record { memory = record { store = s'; table = u }; response = l }) (take-set-lt d.records d.table i w' (is_lent R i _ refl z))
+            ∙ ap (back (take d.records d.table) i) (e ∙ ap (local_act d.shape (low_for a ts d.shape.workers) s a) (sym (own R i _ refl z)))
+            ∙ act_is d.shape m d.sound S.2 a (low_for a ts d.shape.workers) (lent_low R a _ low enough) (passes R i _ refl z)
 
         same_length : length s' ≡ length s
         same_length = ap (λ (x : Result). length x.memory.store) r ∙ (act_same_size d.shape m a).store
@@ -171,13 +146,13 @@ module _ (d : HeldPool) (s : List ℕ) (S : Sound d s) where
   pub refused_open : (sh : Shape) (k : ℕ) → k ≡ open_gate sh (length s) d.records → k ≢ 0 → Does (Open sh) d s (Refused k) d s
   unfolding open_pool
   refused_open sh k is n =
-      let g = is ∙ open_gate_here sh in
+      let g = is ∙ open_gate_here R sh in
       let none = ne_eqb (open_refusal sh s (take d.records d.table)) 0 (λ z. n (g ∙ z)) in
       record { pool = rw none; response = rw (none, g); held = rw none; records = refl; sound = S }
 
   module _ (sh : Shape) (z : open_gate sh (length s) d.records ≡ 0) where
     fits : Lent sh s (take d.records d.table)
-    fits = open_accepted sh s (take d.records d.table) (sym (open_gate_here sh) ∙ z)
+    fits = lent_to_lem R sh _ refl z
 
     pub small_shape : sh.workers ≤ 64
     small_shape = fits.limits.workers
@@ -200,11 +175,11 @@ module _ (d : HeldPool) (s : List ℕ) (S : Sound d s) where
     }
       where
         all : eqb (open_refusal sh s (take d.records d.table)) 0 ≡ true
-        all = eq-eqb (open_refusal sh s (take d.records d.table)) 0 (sym (open_gate_here sh) ∙ z)
+        all = eq-eqb (open_refusal sh s (take d.records d.table)) 0 (no_refusal R sh _ refl z)
 
         first : take d.records t' ≡ open_table sh (take d.records d.table)
         first = ap (take d.records) table
-            ∙ over_taken blank d.records d.table sh.workers (omega (arith, fits.table, counted)) (omega (arith, S.0, S.1))
+            ∙ over_taken blank d.records d.table sh.workers (omega (arith, fits.table, counted R)) (omega (arith, S.0, S.1))
 
         shape : sh ≡ shape_after (Open sh) (pool_of d s)
         shape = rw all

@@ -1,46 +1,21 @@
 -- Records past the 64th, of which no shape has a worker.
 --     all_beyond     they do not matter to a batch, and stay
 -- Assumes nothing.
-use Rattle.std.specs.Prelude.{◌≡◌, Bool, ◌≢◌, ltb, length, take}
-use Rattle.std.proofs.Math.Path.{refl, ap, subst}
-use Rattle.std.proofs.Common.{sym, ◌∙◌, length-append, length-drop, take-append-drop, length-take-le, take_at}
-use Rattle.std.proofs.Math.Bool.{true, false, cond}
+use Rattle.std.specs.Prelude.{◌≡◌, length, take}
+use Rattle.std.proofs.Math.Path.{refl, ap}
+use Rattle.std.proofs.Common.{sym, ◌∙◌, length-append}
 use mathlib.Core.List.{List, [], ◌∷◌, ◌++◌, append_assoc}
-use Prim.Native.Nat.{ℕ, zero, suc, ◌+◌, ◌≤◌}
+use Prim.Native.Nat.{ℕ, zero, suc, ◌≤◌}
 use native.Mathlib.Omega.{arith}
-use Rattle.std.proofs.Math.Dec.{eqb}
-use Rattle.std.proofs.Math.ListN.{drop, replicate}
-use Rattle.std.proofs.lemmas.List.{length-replicate, drop-append-le}
-use borrow.Author.Tests.{eqb-true, eqb-false, ne_eqb, ltb-true, ltb-false}
-use Rattle.arrival.specs.declared.Shape.{Shape}
+use Rattle.std.proofs.Math.ListN.{drop}
+use Rattle.std.proofs.lemmas.List.{drop-append-le}
 use Rattle.arrival.specs.declared.Worker.{Worker}
-use Rattle.arrival.specs.declared.Action.{Action}
-use Rattle.arrival.specs.declared.Response.TheVariants as response
-use Rattle.calendar.specs.rules.Ranges.{shape_in_range, blank}
 use Rattle.calendar.proofs.facts.RangeFacts.{limits}
-use Rattle.calendar.specs.rules.Refusals.{open_refusal}
-use Rattle.calendar.proofs.facts.Accepted.{open_accepted}
-use Rattle.calendar.proofs.facts.RefusalParts.{refused_first}
-use Rattle.calendar.specs.rules.Opening.{open_store, open_table}
-use Rattle.calendar.specs.rules.Operations.{Result, act, open_pool}
-use Rattle.calendar.proofs.facts.Untouched.{act_same_size, open_same_size}
-use Rattle.calendar.specs.facts.RecordsBeyond.{keeping}
-use Rattle.calendar.proofs.facts.RecordsBeyond.{act_same}
-use Rattle.admission.proofs.GateLaws.{shape_tests}
-use Rattle.turn_file.specs.declared.Record.{Record}
-use Rattle.turn_file.specs.declared.Record.TheVariants.{Open, Act}
-use Rattle.turn_file.specs.Reading.{record_at}
-use Rattle.turn_file.specs.Lines.{line_of}
-use Rattle.turn_file.specs.Buffer.{written, after}
-use Rattle.batch.specs.declared.Stop.{Stop}
-use Rattle.batch.specs.declared.Stop.TheVariants.{Drained, Full, Halted}
-use Rattle.batch.specs.Batch.{Pool, result_of, shape_after, Progress, Stopped, has_room, wrote, onward, worked, worked_all}
+use Rattle.batch.specs.Batch.{Progress, Stopped, worked_all}
 use Rattle.batch.specs.RecordsCounted.{counted_of}
-use Rattle.batch.proofs.RecordsCounted.{counted_bound, count_tells, counts}
-use Rattle.batch.specs.Held.{greater, held_after, held, held_all}
-use Rattle.batch.specs.Held as holding
-use Rattle.laws.specs.Storing.{over_taken}
-use Rattle.batch.specs.RecordsNotHeld.{Alike, Covers, over, on_table, keeping_from, more}
+use Rattle.batch.proofs.RecordsCounted.{counted_bound, counts}
+use Rattle.batch.specs.Held.{held_all}
+use Rattle.batch.specs.RecordsNotHeld.{Alike, Covers, over, on_table, more}
 use Rattle.batch.proofs.RecordsNotHeld.{all_within, all_alike}
 
 take_append_le : (k : ℕ) (t u : List Worker) → k ≤ length t → take k (t ++ u) ≡ take k t

@@ -41,7 +41,7 @@ use Rattle.batch.proofs.RecordsCounted.{counted_bound, count_tells, counts}
 use Rattle.batch.specs.Held.{greater, held_after, held, held_all}
 use Rattle.batch.specs.Held as holding
 use Rattle.laws.specs.Storing.{over_taken}
-use Rattle.batch.specs.RecordsNotHeld.{Alike, Covers, over, on_table, keeping_from, more}
+use Rattle.batch.specs.RecordsNotHeld.{Alike, Covers, over, on_table, keeping_from}
 
 -- ── tables that are alike ──
 module _ {k : ℕ} {t u : List Worker} (A : Alike k t u) where

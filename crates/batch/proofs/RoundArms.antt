@@ -64,18 +64,18 @@ module _ {bytes : List ℕ} {p₀ : Progress} {h₀ words records space : ℕ} {
   W : Watched sh (record { store = s; table = take records t }) sound
   W = R.going.watched
 
-  counted : records ≡ length (take records t)
+  pub counted : records ≡ length (take records t)
   counted = sym (length-take-le records t (omega (arith, R.array, R.lent)))
 
-  gate_here : (i : ℕ) → gate_of sh words records i sound ≡ gate_of sh (length s) (length (take records t)) i sound
+  pub gate_here : (i : ℕ) → gate_of sh words records i sound ≡ gate_of sh (length s) (length (take records t)) i sound
   gate_here i = ap (λ n. gate_of sh n records i sound) R.store ∙ ap (λ n. gate_of sh (length s) n i sound) counted
 
-  open_gate_here : (sh' : Shape) → open_gate sh' words records ≡ open_refusal sh' s (take records t)
+  pub open_gate_here : (sh' : Shape) → open_gate sh' words records ≡ open_refusal sh' s (take records t)
   open_gate_here sh' = ap (λ n. open_gate sh' n records) R.store ∙ ap (open_gate sh' (length s)) counted ∙ open_gate_is sh' m
 
   -- what a gate that refuses nothing tells
   module _ (i k : ℕ) (is : k ≡ gate_of sh words records i sound) (z : k ≡ 0) where
-    passes : gate_of sh (length s) (length (take records t)) i sound ≡ 0
+    pub passes : gate_of sh (length s) (length (take records t)) i sound ≡ 0
     passes = sym (gate_here i) ∙ sym is ∙ z
 
     pub in_use : Usable sh s (take records t) i
@@ -84,11 +84,11 @@ module _ {bytes : List ℕ} {p₀ : Progress} {h₀ words records space : ℕ} {
     pub below_64 : i < 64
     below_64 = omega (arith, in_use.exists, in_use.lent.limits.workers)
 
-    is_lent : i < records
+    pub is_lent : i < records
     is_lent = omega (arith, in_use.exists, in_use.lent.table, counted)
 
     -- worker i's record, in the array
-    own : worker (take records t) i ≡ worker t i
+    pub own : worker (take records t) i ≡ worker t i
     own = get_or-take records t i blank is_lent
 
     pub let_in : Admitted sh s (worker t i)
@@ -96,7 +96,7 @@ module _ {bytes : List ℕ} {p₀ : Progress} {h₀ words records space : ℕ} {
 
   -- an opening that is not refused
   module _ (sh' : Shape) (k : ℕ) (is : k ≡ open_gate sh' words records) (z : k ≡ 0) where
-    no_refusal : open_refusal sh' s (take records t) ≡ 0
+    pub no_refusal : open_refusal sh' s (take records t) ≡ 0
     no_refusal = sym (open_gate_here sh') ∙ sym is ∙ z
 
     pub lent_to_lem : Lent sh' s (take records t)
@@ -106,7 +106,7 @@ module _ {bytes : List ℕ} {p₀ : Progress} {h₀ words records space : ℕ} {
     array_cleared t' table = ap length table ∙ over_length blank t sh'.workers (omega (arith, lent_to_lem.limits.workers, R.array)) ∙ R.array
 
   -- the least ticket of the array's workers is that of the lent ones
-  lent_low : (a : Action) (low : ℕ) → LowFor sh t a low → sh.workers ≤ records → LowFor sh (take records t) a low
+  pub lent_low : (a : Action) (low : ℕ) → LowFor sh t a low → sh.workers ≤ records → LowFor sh (take records t) a low
   lent_low (Enqueue i x) low e k = e ∙ sym (least_taken records t sh.workers k)
   lent_low (Dequeue i) low e k = tt
   lent_low (Step i) low e k = tt

@@ -5,7 +5,8 @@
 --     least_is                                the least of the list is the least ticket in progress
 --     low_is                                   the least where an action asks for it; it is that of the records
 --     tickets_more, tickets_all               a loop that stores ticket after ticket; at its end
-use Rattle.std.specs.Prelude.{◌≡◌, refl, List, [], ◌∷◌, ◌++◌, Bool, true, false, cond, ◌&&◌, ℕ, zero, suc, ◌+◌, ◌<◌, ◌≤◌, ltb, length, get_or, set, take, drop, replicate, min, max}
+--     least_folded                            the least by a fold over the records
+use Rattle.std.specs.Prelude.{◌≡◌, refl, List, [], ◌∷◌, ◌++◌, Bool, true, false, cond, ◌&&◌, ℕ, zero, suc, ◌+◌, ◌<◌, ◌≤◌, ltb, length, get_or, set, take, drop}
 use Rattle.std.proofs.Common.{sym, ap, ◌∙◌, append-nil, arith, add-one, take_all, ltb-true, ltb-false, le-ltb}
 use Rattle.std.specs.List.{fold}
 use Rattle.std.proofs.lemmas.List.Sums.{fold-append}
@@ -19,7 +20,6 @@ use Rattle.calendar.specs.rules.Ranges.{blank, worker}
 use Rattle.calendar.specs.rules.Reclaim.{in_progress}
 use Rattle.starts.specs.LeastTicket.{lower, least_ticket, least_bound}
 use Rattle.operation.specs.LocalAct.{LowFor}
-use Rattle.batch.specs.Held.{greater}
 use Rattle.batch.specs.Tickets.{ticket_of, tickets_of, least, least_of, low_for}
 
 pub least_at_most : (low x bound : ℕ) → low ≤ bound → least low x ≤ bound
@@ -99,10 +99,3 @@ least_folded t (suc n) h =
     ap (fold lower 4294967296) (take-suc t n blank (omega arith))
     ∙ fold-append lower 4294967296 (take n t) (worker t n ∷ [])
     ∙ ap (λ (low : ℕ). lower low (worker t n)) (least_folded t n (omega arith))
-
-pub greater_max : (a b : ℕ) → max a b ≡ greater a b
-greater_max a b = go (ltb a b) refl
-  where
-    go : (x : Bool) → ltb a b ≡ x → max a b ≡ cond x b a
-    go true e = let h = ltb-true a b e in omega arith
-    go false e = let h = ltb-false a b e in omega arith

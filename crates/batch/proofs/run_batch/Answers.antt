@@ -1,18 +1,14 @@
 -- Each round is a record more (proofs/OneRecord), and each of the three ends is the definition's (proofs/BatchLoop).
-use Rattle.std.proofs.Common.{◌≡◌, List, ℕ, set, sym, ap, ◌∙◌, arith}
-use Rattle.std.proofs.Math.Path.{subst⁻¹}
+use Rattle.std.proofs.Common.{ℕ, set, sym, ap, ◌∙◌, arith}
 use Rattle.std.proofs.lemmas.List.{set-get_or}
 use Rattle.calendar.specs.rules.Ranges.{blank, worker}
 use Rattle.turn_file.proofs.OneReading.{read_on}
-use Rattle.arrival.specs.declared.Worker.{Worker}
-use Rattle.batch.specs.declared.HeldPool.{HeldPool}
 use Rattle.batch.specs.declared.Stop.{Stop}
 use Rattle.batch.specs.Batch.{Stopped}
-use Rattle.batch.specs.BatchLoop.{Going}
-use Rattle.batch.specs.CodeView.{Sound, begins}
+use Rattle.batch.specs.CodeView.{begins}
 use Rattle.batch.specs.ActHeld.{place_of}
 use Rattle.batch.specs.OneRecord.{holding}
-use Rattle.batch.proofs.BatchLoop.{going, drained, halted, full}
+use Rattle.batch.proofs.BatchLoop.{drained, halted, full}
 use Rattle.batch.proofs.OneRecord.{with_table, goes_on}
 use Rattle.batch.proofs.run_batch.Goals as goal
 use Rattle.batch.proofs.run_batch.Goals.{then-not-has_room, else-not-has_room+in-Ok-None, else-not-has_room+in-Err}

@@ -1,5 +1,5 @@
 -- The fold is the least, one by one.
-use Rattle.std.proofs.Common.{rules, ◌≡◌, ◌∙◌, arith, take, length}
+use Rattle.std.proofs.Common.{rules, ◌≡◌, ◌∙◌, arith, take}
 use Rattle.std.specs.List.{fold}
 use Rattle.starts.specs.LeastTicket.{lower, least_bound}
 use Rattle.batch.proofs.TicketLaws.{least_folded}

@@ -1,7 +1,6 @@
 -- A start or turn is a record of the file: refused by the gate, or done to the record of its worker.
 use Rattle.std.proofs.Common.{rules, refl, List, ◌≡◌, sym, ap, ◌∙◌, ℕ}
 use Rattle.std.proofs.lemmas.Result.{err_from_is_err_and}
-use Rattle.calendar.specs.rules.Ranges.{blank, worker}
 use Rattle.arrival.specs.declared.Worker.{Worker}
 use Rattle.arrival.specs.declared.Response.{Response}
 use Rattle.words.specs.Done.{Done}
@@ -10,7 +9,7 @@ use Rattle.operation.proofs.LocalAct.{ready}
 use Rattle.starts.proofs.Refusing.{some}
 use Rattle.batch.specs.Tickets.{tickets_of}
 use Rattle.batch.specs.OneRecord.{holding}
-use Rattle.batch.proofs.OneRecord.{few_workers, let_in, refused_act, did_act}
+use Rattle.batch.proofs.OneRecord.{few_workers, admits, refused_act, did_act}
 use Rattle.batch.proofs.known.Known.act.Goals as goal
 
 pub returns-in_err-gate : goal.returns-in_err-gate
@@ -23,14 +22,14 @@ returns-in_err-gate c =
 pub invariant_of-laid : goal.invariant_of-laid
 invariant_of-laid c =
     let a = c.args in
-    record { laid = (let_in (holding a.self.now a.table.now) a.store.now c.requires.0 a.action (sym (rw c.worker.ensures at c.in_ok-gate.ensures))).laid }
+    record { laid = (admits (holding a.self.now a.table.now) a.store.now c.requires.0 a.action (sym (rw c.worker.ensures at c.in_ok-gate.ensures))).laid }
 
 pub action_leaks-requires : goal.action_leaks-requires
 action_leaks-requires c =
     let a = c.args in
     let d = holding a.self.now a.table.now in
     rw (c.view.ensures.0, c.view.ensures.1, c.requires.1)
-    (ready d.shape a.store.now _ (let_in d a.store.now c.requires.0 a.action (sym (rw c.worker.ensures at c.in_ok-gate.ensures))))
+    (ready d.shape a.store.now _ (admits d a.store.now c.requires.0 a.action (sym (rw c.worker.ensures at c.in_ok-gate.ensures))))
 
 pub low_for-low-requires : goal.low_for-low-requires
 low_for-low-requires c =
@@ -40,7 +39,7 @@ low_for-low-requires c =
 pub perform-requires-clause-admitted : goal.perform-requires-clause-admitted
 perform-requires-clause-admitted c =
     let a = c.args in
-    rw c.requires.1 (let_in (holding a.self.now a.table.now) a.store.now c.requires.0 a.action (sym (rw c.worker.ensures at c.in_ok-gate.ensures)))
+    rw c.requires.1 (admits (holding a.self.now a.table.now) a.store.now c.requires.0 a.action (sym (rw c.worker.ensures at c.in_ok-gate.ensures)))
 
 -- the store as it is lent is the store that was laid out in it
 with_store : (s t : List ℕ) (w : Worker) (l : Response) (done : Done) → s ≡ t → record { store = t; worker = w; response = l } ≡ done

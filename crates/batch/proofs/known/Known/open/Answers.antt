@@ -1,5 +1,5 @@
 -- An opening is a record of the file: refused, or done to records and tickets.
-use Rattle.std.proofs.Common.{◌≡◌, sym, ap, ◌∙◌, ℕ, List, cond, eqb, ne_eqb, eq-eqb}
+use Rattle.std.proofs.Common.{◌≡◌, refl, Bool, true, false, ltb, max, ltb-true, ltb-false, arith, sym, ap, ◌∙◌, ℕ, List, cond, eqb, ne_eqb}
 use Rattle.std.proofs.Math.Path.{subst⁻¹}
 use Rattle.std.proofs.lemmas.Result.{err_from_is_err_and}
 use Rattle.arrival.specs.declared.Response.TheVariants.{Refused}
@@ -9,7 +9,7 @@ use Rattle.starts.proofs.Refusing.{some}
 use Rattle.turn_file.specs.declared.Record.TheVariants.{Open}
 use Rattle.batch.specs.OneRecord.{Does, holding}
 use Rattle.batch.proofs.OneRecord.{small_shape, refused_open, did_open}
-use Rattle.batch.proofs.TicketLaws.{greater_max}
+use Rattle.batch.specs.Held.{greater}
 use Rattle.batch.proofs.known.Known.open.Goals as goal
 
 pub returns-in_err-open_lent : goal.returns-in_err-open_lent
@@ -25,6 +25,14 @@ returns-in_err-open_lent c =
 
 pub clear-requires : goal.clear-requires
 clear-requires c = small_shape (holding c.args.self.now c.args.table.now) c.args.store.now c.requires c.args.shape (sym c.in_ok-open_lent.ensures.refused)
+
+-- the greater of two numbers is std's
+greater_max : (a b : ℕ) → max a b ≡ greater a b
+greater_max a b = go (ltb a b) refl
+  where
+    go : (x : Bool) → ltb a b ≡ x → max a b ≡ cond x b a
+    go true e = let h = ltb-true a b e in omega arith
+    go false e = let h = ltb-false a b e in omega arith
 
 pub returns : goal.returns
 returns c =
