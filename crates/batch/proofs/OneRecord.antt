@@ -48,7 +48,8 @@ use Rattle.batch.specs.BatchLoop.{Going, at_work}
 use Rattle.batch.proofs.BatchLoop.{go_on}
 use Rattle.batch.specs.CodeView.{Sound, lent_records, lent_to, begins}
 use Rattle.batch.specs.RoundArms.{Round, Line}
-use Rattle.batch.proofs.RoundArms.{counted, gate_here, open_gate_here, passes, in_use, below_64, is_lent, own, let_in, no_refusal, lent_to_lem, lent_low, first_round}
+use Rattle.batch.proofs.RoundArms.{counted, gate_here, open_gate_here, passes, in_use, below_64, is_lent, own, let_in, no_refusal, lent_to_lem, lent_low}
+use Rattle.batch.proofs.RoundArms.{first_round}
 use Rattle.batch.specs.OneRecord.{pool_of, with_record, Does}
 
 module _ (d : HeldPool) (s : List ℕ) (S : Sound d s) where
@@ -112,7 +113,8 @@ module _ (d : HeldPool) (s : List ℕ) (S : Sound d s) where
         length-set d.table i w' ∙ S.0,
         S.1,
         subst⁻¹ (λ (x : Result). Watched d.shape x.memory (not (action_leaks d.shape s a (worker d.table i)))) r
-            (subst⁻¹ (λ (w : Worker). Watched d.shape (act d.shape m a).memory (not (action_leaks d.shape s a w))) (sym (own R i _ refl z)) (act_watched d.shape m d.sound S.2 a (passes R i _ refl z))),
+            (subst⁻¹ (λ (w : Worker). Watched d.shape (act d.shape m a).memory (not (action_leaks d.shape s a w))) (sym (own R i _ refl z))
+            (act_watched d.shape m d.sound S.2 a (passes R i _ refl z))),
         λ up. ap (λ (n : ℕ). open_gate d.shape n d.records) same_length ∙ gate_opens d.shape (length s) d.records i d.sound z,
       );
     }
@@ -128,7 +130,8 @@ module _ (d : HeldPool) (s : List ℕ) (S : Sound d s) where
 
         r : record { memory = record { store = s'; table = take d.records (set d.table i w') }; response = l } ≡ act d.shape m a
         r =
-            ap (λ (u : List Worker). record { memory = record { store = s'; table = u }; response = l }) (take-set-lt d.records d.table i w' (is_lent R i _ refl z))
+            ap (λ (u : List Worker). record { memory = record { store = s'; table = u }; response = l })
+            (take-set-lt d.records d.table i w' (is_lent R i _ refl z))
             ∙ ap (back (take d.records d.table) i) (e ∙ ap (local_act d.shape (low_for a ts d.shape.workers) s a) (sym (own R i _ refl z)))
             ∙ act_is d.shape m d.sound S.2 a (low_for a ts d.shape.workers) (lent_low R a _ low enough) (passes R i _ refl z)
 

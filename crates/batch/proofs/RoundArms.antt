@@ -9,7 +9,8 @@
 --     nearer                                the next record is nearer to the end
 --     first_round                           before the loop
 -- Assumes nothing.
-use Rattle.std.specs.Prelude.{◌≡◌, refl, List, ◌++◌, Bool, false, cond, not, ◌≢◌, ℕ, ◌+◌, ◌-◌, ◌≤◌, ◌<◌, eqb, leb, length, take, set, drop, replicate, None, Ok, Err}
+use Rattle.std.specs.Prelude.{◌≡◌, refl, List, ◌++◌, Bool, false, cond, not, ◌≢◌, ℕ, ◌+◌, ◌-◌, ◌≤◌, ◌<◌, eqb, leb, length, take, set, drop, replicate}
+use Rattle.std.specs.Prelude.{None, Ok, Err}
 use Rattle.std.proofs.Math.Path.{sym, ap, subst⁻¹}
 use Rattle.std.proofs.Common.{◌∙◌, subst, arith, length-set, length-take-le, get_or-take}
 use Rattle.std.proofs.Math.Bool.{true}
@@ -146,7 +147,8 @@ module _ {bytes : List ℕ} {p₀ : Progress} {h₀ words records space : ℕ} {
         }
 
     -- refused by 1 to 4
-    pub turned_away_lem : (a : Action) → whole (Act a) next ≡ record_at bytes at → (k : ℕ) → k ≡ gate_of sh words records (actor a) sound → k ≢ 0 → l ≡ Refused k
+    pub turned_away_lem : (a : Action) → whole (Act a) next ≡ record_at bytes at → (k : ℕ) → k ≡ gate_of sh words records (actor a) sound → k ≢ 0
+        → l ≡ Refused k
         → Round bytes p₀ h₀ words records space sh s t next lines' to' sound h
     turned_away_lem a e k is n said =
         let g = is ∙ gate_here (actor a) in

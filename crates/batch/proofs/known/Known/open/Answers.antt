@@ -1,4 +1,4 @@
--- An opening is a record of the file: refused, or done to records and tickets.
+-- An opening is a record of the file: refused, or done.
 use Rattle.std.proofs.Common.{◌≡◌, refl, Bool, true, false, ltb, max, ltb-true, ltb-false, arith, sym, ap, ◌∙◌, ℕ, List, cond, eqb, ne_eqb}
 use Rattle.std.proofs.Math.Path.{subst⁻¹}
 use Rattle.std.proofs.lemmas.Result.{err_from_is_err_and}
@@ -18,10 +18,12 @@ returns-in_err-open_lent c =
     let d = holding a.self.now a.table.now in
     let e = c.in_err-open_lent in
     let k = number e.field-0.0 in
-    let same = e.ensures.opened ∙ ap (λ (m : ℕ). cond (eqb m 0) (open_store a.shape a.store.now) a.store.now) (sym e.ensures.refused) ∙ rw (ne_eqb k 0 (some _)) in
+    let same = e.ensures.opened ∙ ap (λ (m : ℕ). cond (eqb m 0) (open_store a.shape a.store.now) a.store.now) (sym e.ensures.refused)
+    ∙ rw (ne_eqb k 0 (some _)) in
     let p = err_from_is_err_and c.from_residual.result c.from_residual.ensures.1 in
     rw (p.1, p.2, ne_eqb k 0 (some _))
-    (subst⁻¹ (λ (s : List ℕ). Does (Open a.shape) d a.store.now (Refused k) d s) same (refused_open d a.store.now c.requires a.shape k e.ensures.refused (some _)))
+    (subst⁻¹ (λ (s : List ℕ). Does (Open a.shape) d a.store.now (Refused k) d s) same
+    (refused_open d a.store.now c.requires a.shape k e.ensures.refused (some _)))
 
 pub clear-requires : goal.clear-requires
 clear-requires c = small_shape (holding c.args.self.now c.args.table.now) c.args.store.now c.requires c.args.shape (sym c.in_ok-open_lent.ensures.refused)
