@@ -5,4 +5,6 @@ use Rattle.turns.proofs.fresh_pool.Goals as goal
 
 pub returns : goal.returns
 unfolding lent
-returns c = rw (c.no_shape.ensures, c.idle_records.ensures) ((refl, omega arith, λ l. absurd (omega (arith, l.limits.some_worker)), λ up. absurd (cc)), refl, refl, refl)
+returns c =
+    rw (c.no_shape.ensures, c.idle_records.ensures)
+    ((refl, omega arith, λ l. absurd (omega (arith, l.limits.some_worker)), λ up. absurd (cc)), refl, refl, refl)
