@@ -29,6 +29,7 @@ pub enum Stop {
 
 // A pool between two batches: the shape so far, whether store and table are in range, the workers' records.
 // `records` are lent, of which the first `held` stand in the array; what stands behind those says nothing of the lent ones.
+// Kept: 64 records with their number beside, since memory is fixed; `sound` is no Option, since shape and records stand either way.
 #[derive(Clone, Copy)]
 pub struct HeldPool {
     pub shape: Shape,
@@ -74,6 +75,7 @@ fn write_opening(opened: Result<(), Refusal>, out: &mut [u8], to: usize) -> usiz
     }
 }
 
+// Kept: positions beside the bytes, since `begins` and `worked_all` speak of any, past the end too.
 // Works through the records from `at` on and writes their lines from `to` on, while the longest line fits.
 pub fn run_batch(
     pool: HeldPool,

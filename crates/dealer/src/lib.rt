@@ -17,6 +17,7 @@ pub mod runs;
 pub mod turns;
 pub mod visits;
 
+// Kept: a function for each name that C calls, and a number for a dealer, which C keeps.
 // What a new dealer remembers: the shape's last worker.
 pub fn wubraken_new_dealer(shape: Shape) -> u64
     ensures { result ≡ new_dealer shape }

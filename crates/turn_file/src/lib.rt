@@ -44,6 +44,7 @@ fn front<const N: usize>(left: &[u8]) -> Result<&[u8; N], Unreadable>
 }
 
 // The record at a position, wherever that is, and the position after it; none at the end.
+// Kept: positions beside the bytes, here and below, since `record_at`, `written` and `after` speak of any, past the end too.
 pub fn read_record(bytes: &[u8], at: usize) -> Result<Option<(Record, usize)>, Unreadable>
     ensures { result ≡ record_at bytes.now at }
 {

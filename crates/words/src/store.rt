@@ -3,6 +3,7 @@ ghost use Rattle.words.specs.Laid.{Laid};
 
 use arrival::Shape;
 
+// Kept: two types, since none is over both `&` and `&mut`; a Store reads as a View.
 #[derive(Clone, Copy)]
 pub struct View<'a> {
     pub shape: Shape,

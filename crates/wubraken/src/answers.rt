@@ -17,6 +17,7 @@ pub enum Kind {
     Refused = 6,
 }
 
+// Kept: numbers, which C reads; `From` makes them, and nothing else does.
 // kind: a `Kind`'s number. `number` is the refusal's. What a response does not carry is 0.
 #[repr(C)]
 #[derive(Clone, Copy, Default)]

@@ -20,6 +20,7 @@ pub mod answers;
 pub mod lent;
 pub mod table;
 
+// Kept: a function for each name that C calls, and 0 for no words, which C reads.
 // How many words to lend for a shape; 0 where it is outside its limits.
 pub fn wubraken_words(shape: Shape) -> usize
     ensures { result ≡ cond (shape_in_range shape) (layout shape) 0 }

@@ -12,6 +12,7 @@ use wubraken::table::records_surveyed;
 
 // The shape after a batch, the bytes read and written, and why it was left: 0 all bytes are worked through, 1 the next line may not fit, 7 or 8 what
 // follows is refused by that number.
+// Kept: `stop` is a number, which C reads; `From` makes it, and nothing else does.
 #[repr(C)]
 #[derive(Clone, Copy)]
 pub struct BatchEnd {
@@ -43,6 +44,7 @@ impl From<Progress> for BatchEnd {
 }
 
 // What a batch leaves of the records, how many of them it held, and its account.
+// Kept: 64 records with their number beside, here and in copies.rt: memory is fixed, there is no heap.
 #[derive(Clone, Copy)]
 pub struct HeldBatch {
     pub table: [Worker; 64],
