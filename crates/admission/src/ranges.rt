@@ -105,6 +105,7 @@ pub fn store_in_range(view: &View<'_>) -> bool
 }
 
 // Which call a record is of: its stage, its kind, its node. Stages 4 to 7 are a put's, 8 to 13 a take's.
+// Kept: the kind by one comparison: by two ranges of stages a record took 3.0 ns, and so it takes 2.4 (docs/PERFORMANCE.md).
 fn call_in_range(shape: Shape, w: Worker) -> bool
     ensures { result ≡ call_in_range shape w }
 {
@@ -113,6 +114,7 @@ fn call_in_range(shape: Shape, w: Worker) -> bool
 }
 
 // Where its call stands: not at the last bucket at 12, and right is no end at 2, 3, 10 and 11.
+// Kept: stages compared and no `matches!`, with which a record took 63 instructions: so it takes 59.
 fn place_in_range(shape: Shape, w: Worker) -> bool
     requires some_bucket { 1 ≤ shape.buckets }
     requires nodes_bound { shape.buckets + shape.nodes < 65536 }
@@ -123,7 +125,7 @@ fn place_in_range(shape: Shape, w: Worker) -> bool
         & !((k == 12) & (w.bucket == shape.buckets - 1))
         & (w.left < shape.buckets + shape.nodes)
         & (w.right <= shape.nodes)
-        & !(matches!(k, 2..=3 | 10..=11) & (w.right == shape.nodes))
+        & !(((2 <= k) & (k <= 3) | (10 <= k) & (k <= 11)) & (w.right == shape.nodes))
 }
 
 // The words that it holds from the store, and its ticket.
