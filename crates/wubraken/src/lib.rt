@@ -1,5 +1,6 @@
 // The library for hosts, single calls: entry points over lent memory, whatever it holds, which wubraken_c exports. A start or turn copies one record out,
 // calls a function by value, and stores the record back.
+// Kept: six entries, each with shape, store and table by themselves: they are what C calls (host/include/wubraken.h).
 #![tactic(auto)]
 
 ghost use Rattle.std.specs.Prelude.{◌≡◌, cond};
