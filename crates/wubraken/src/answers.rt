@@ -17,8 +17,8 @@ pub enum Kind {
     Refused = 6,
 }
 
-// Kept: numbers, which C reads; `From` makes them, and nothing else does.
-// kind: a `Kind`'s number. `number` is the refusal's. What a response does not carry is 0.
+// `kind` is a `Kind`'s number, `number` the refusal's. What a response does not carry is 0.
+// Kept as a number: C reads `kind` (host/include/wubraken.h), and an `Answer` is laid out as there.
 #[repr(C)]
 #[derive(Clone, Copy, Default)]
 pub struct Answer {

@@ -1,5 +1,6 @@
 // The library for hosts, single calls: entry points over lent memory, whatever it holds, which wubraken_c exports. A start or turn copies one record out,
 // calls a function by value, and stores the record back.
+// Kept: six entries, each with shape, store and table by themselves: they are what C calls (host/include/wubraken.h).
 #![tactic(auto)]
 
 ghost use Rattle.std.specs.Prelude.{◌≡◌, cond};
@@ -20,7 +21,7 @@ pub mod answers;
 pub mod lent;
 pub mod table;
 
-// Kept: a function for each name that C calls, and 0 for no words, which C reads.
+// Kept: 0 and no Option, since C reads it.
 // How many words to lend for a shape; 0 where it is outside its limits.
 pub fn wubraken_words(shape: Shape) -> usize
     ensures { result ≡ cond (shape_in_range shape) (layout shape) 0 }
