@@ -4,7 +4,7 @@
 --     turns_over, turns_none          what has ended, or may have no turn more, stays
 --     ended, not_ended                by the test of the loop
 --     going                           what is known where a call goes on: only `right` and `seen` can be out of range
---     turns_out, turns_on, goes_back  one of them is, and the next turn is refused by 3; or they are not, and it is made
+--     turns_out, turns_on, stays_admitted, goes_back  one of them is, and the next turn is refused by 3; or they are not, and it is made
 -- Assumes nothing.
 use Rattle.std.specs.Prelude.{◌≡◌, not, ◌&&◌, ◌||◌, ◌≢◌, eqb, length, set}
 use Rattle.std.proofs.Math.Path.{refl, sym, ap}
@@ -220,5 +220,16 @@ module _ (sh : Shape) (n : ℕ) (d : Done) (G : Going sh d.store d.worker) (some
       inside b f = rw (f, word_tests sh d.store G.words)
 
 -- where the links are in range a turn may be made
-pub goes_back : (sh : Shape) (s : List ℕ) (w : Worker) → Limits sh → Laid sh s → Going sh s w → links_in_range sh w ≡ true → Admitted sh s w
-goes_back sh s w limits laid G e = record { limits = limits; laid = laid; words = G.words; worker = record_ranges sh w (G.tests ∙ e) }
+pub stays_admitted : (sh : Shape) (s : List ℕ) (w : Worker) → Limits sh → Laid sh s → Going sh s w → links_in_range sh w ≡ true → Admitted sh s w
+stays_admitted sh s w limits laid G e = record { limits = limits; laid = laid; words = G.words; worker = record_ranges sh w (G.tests ∙ e) }
+
+pub goes_back : (sh : Shape) (low : ℕ) (s : List ℕ) (w : Worker) (a : Action) (d : Done) → Admitted sh s w → d ≡ local_act sh low s a w
+    → Going sh d.store d.worker → links_in_range sh d.worker ≡ true → Admitted sh d.store d.worker
+goes_back sh low s w a d A is G e =
+    let laid : Laid sh d.store = record {
+      some_bucket = A.laid.some_bucket;
+      buckets = A.laid.buckets;
+      nodes = A.laid.nodes;
+      fits = omega (arith, A.laid.fits, ap (λ (x : Done). length x.store) is ∙ act_length sh low s a w);
+    } in
+    stays_admitted sh d.store d.worker A.limits laid G e

@@ -43,19 +43,3 @@ decimal_most (suc k) x h =
 
 pub decimal_word : (x : ℕ) → x < 2 ^ 64 → length (decimal x) ≤ 20
 decimal_word x h = decimal_most 19 x (omega arith)
-
--- and one that is at least a power of ten has more digits than the power has zeros.
-pub decimal_more_than : (k x : ℕ) → 10 ^ k ≤ x → suc k ≤ length (decimal x)
-decimal_more_than zero x h = decimal_least x
-decimal_more_than (suc k) x h =
-    omega (
-      arith,
-      pow-succ' 10 k,
-      pow_pos k,
-      length_more x (omega (arith, pow-succ' 10 k, pow_pos k)),
-      decimal_more_than k (x / 10) (omega (arith, pow-succ' 10 k)),
-    )
-  where
-    pow_pos : (k : ℕ) → 0 < 10 ^ k
-    pow_pos zero = omega arith
-    pow_pos (suc k) = omega (arith, pow-succ' 10 k, pow_pos k)

@@ -10,4 +10,3 @@ pub mod OneReading
 pub mod Buffer
 pub mod FileExample
 pub mod LineLaws
-pub mod Values

@@ -77,19 +77,19 @@ pub fn write_line(response: Response, out: &mut [u8], at: usize) -> usize
         × (length (line_of response) ≤ 89) }
 {
     match response {
-        Response::Opened => lines::write(b"open", &[], out, at),
-        Response::Begun(ticket) => lines::write(b"begun", &[ticket], out, at),
-        Response::On => lines::write(b"on", &[], out, at),
-        Response::Stored(ticket) => lines::write(b"stored", &[ticket], out, at),
+        Response::Opened => lines::word_line(b"open\n", out, at),
+        Response::Begun(ticket) => lines::number_line(b"begun ", ticket, out, at),
+        Response::On => lines::word_line(b"on\n", out, at),
+        Response::Stored(ticket) => lines::number_line(b"stored ", ticket, out, at),
         Response::Took {
             time,
             path,
             order,
             distance: _,
             energy,
-        } => lines::write(b"took", &[time, path, order, energy], out, at),
-        Response::Empty => lines::write(b"empty", &[], out, at),
-        Response::Refused(number) => lines::write(b"no", &[number], out, at),
+        } => lines::took_line(time, path, order, energy, out, at),
+        Response::Empty => lines::word_line(b"empty\n", out, at),
+        Response::Refused(number) => lines::number_line(b"no ", number, out, at),
     }
 }
 
@@ -100,7 +100,7 @@ pub fn write_refusal(number: u64, out: &mut [u8], at: usize) -> usize
         × (out.new ≡ written out.old at (line_of (Refused number)))
         × (length (line_of (Refused number)) ≤ 89) }
 {
-    lines::write(b"no", &[number], out, at)
+    lines::number_line(b"no ", number, out, at)
 }
 
 #[tactic(auto, using(crate::proofs::LineLaws::line_most), unfolding(crate::specs::Lines::line_of))]
@@ -109,5 +109,5 @@ pub fn write_opened(out: &mut [u8], at: usize) -> usize
         × (out.new ≡ written out.old at (line_of Opened))
         × (length (line_of Opened) ≤ 89) }
 {
-    lines::write(b"open", &[], out, at)
+    lines::word_line(b"open\n", out, at)
 }

@@ -124,10 +124,14 @@ pub survey_start : (sh : Shape) (t : List Worker) → Some 4294967296 ≡ survey
 unfolding survey_of unseen
 survey_start sh t = refl
 
-pub survey_more : (sh : Shape) (t : List Worker) (k low : ℕ) → survey_of sh t k ≡ Some low
+pub survey_more : (sh : Shape) (t : List Worker) (k : ℕ) → seen sh (survey_of sh t k) (worker t k) ≡ survey_of sh t (k + 1)
+unfolding survey_of
+survey_more sh t k = rw add-one
+
+pub survey_next : (sh : Shape) (t : List Worker) (k low : ℕ) → survey_of sh t k ≡ Some low
     → survey_of sh t (k + 1) ≡ seen sh (Some low) (worker t k)
 unfolding survey_of
-survey_more sh t k low e = rw (add-one, e)
+survey_next sh t k low e = rw (add-one, e)
 
 -- behind a record out of range it stays as it is
 pub survey_ends : (sh : Shape) (t : List Worker) (k d : ℕ) → survey_of sh t k ≡ None → survey_of sh t (k + d) ≡ None
@@ -139,4 +143,4 @@ pub survey_out : (sh : Shape) (t : List Worker) (k n low : ℕ) → survey_of sh
     → survey_of sh t n ≡ None
 survey_out sh t k n low e out lt =
     let is : n ≡ k + 1 + (n - (k + 1)) = omega arith in
-    rw is (survey_ends sh t (k + 1) (n - (k + 1)) (survey_more sh t k low e ∙ out))
+    rw is (survey_ends sh t (k + 1) (n - (k + 1)) (survey_next sh t k low e ∙ out))

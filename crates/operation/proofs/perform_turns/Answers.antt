@@ -2,7 +2,7 @@
 use Rattle.std.proofs.Common.{sym, ap, ◌∙◌}
 use Rattle.words.specs.Done.{left}
 use Rattle.operation.specs.LocalTurns.{local_turns}
-use Rattle.operation.proofs.LocalTurns.{ended, not_ended, going, turns_out, turns_on, goes_back}
+use Rattle.operation.proofs.LocalTurns.{ended, not_ended, going, turns_out, turns_on, stays_admitted}
 use Rattle.operation.proofs.perform_turns.Goals as goal
 
 pub returns-then-left-goes_on-clause-gives : goal.returns-then-left-goes_on-clause-gives
@@ -35,7 +35,7 @@ loop-left-preserved c =
     let G = going _ _ _ _ A l.action d did on in
     let inside = sym c.if-not-links_in_range.ensures in (
       (p.ensures.kept.0 ∙ kept.0, p.ensures.kept.1 ∙ kept.1),
-      goes_back _ _ _ (rw p.ensures.kept.1 A.limits) p.new.store.laid (rw p.ensures.kept.1 G) inside,
+      stays_admitted _ _ _ (rw p.ensures.kept.1 A.limits) p.new.store.laid (rw p.ensures.kept.1 G) inside,
       rw p.ensures.kept.1
           (turns_on l.store.shape l.left d G some on c.args.low c.worker.result (rw (← p.ensures.kept.1) inside)
           ∙ ap (local_turns l.store.shape l.left) did ∙ e),

@@ -6,4 +6,4 @@ use Rattle.turn_file.proofs.write_refusal.Goals as goal
 
 pub returns : goal.returns
 unfolding line_of
-returns c = (c.write.ensures.0, c.write.ensures.1, line_most (Refused c.args.number) (omega arith))
+returns c = (c.number_line.ensures.0, c.number_line.ensures.1, line_most (Refused c.args.number) (omega arith))

@@ -2,7 +2,7 @@
 use Rattle.std.proofs.Common.{◌<◌, ◌∙◌, Some, sym, ap, arith, length-take, get_or-take}
 use Rattle.calendar.specs.rules.Ranges.{blank}
 use Rattle.wubraken.specs.Survey.{seen, survey_of}
-use Rattle.wubraken.proofs.Survey.{survey_start, survey_more, survey_out}
+use Rattle.wubraken.proofs.Survey.{survey_start, survey_next, survey_out}
 use Rattle.wubraken.proofs.table.survey_table.Goals as goal
 
 pub loop-w-init : goal.loop-w-init
@@ -26,4 +26,4 @@ loop-w-preserved c =
     let n = c.records_looked_at-n.result in
     let inside : c.loop-w.w-index < n = omega (arith, c.loop-w-test.true, length-take n a.table.now) in
     let is = ap (seen a.shape (Some c.loop-w.low)) (get_or-take n a.table.now c.loop-w.w-index blank inside) in
-    survey_more a.shape a.table.now c.loop-w.w-index c.loop-w.low c.loop-w.invariant ∙ sym is ∙ sym c.in_ok-low.ensures
+    survey_next a.shape a.table.now c.loop-w.w-index c.loop-w.low c.loop-w.invariant ∙ sym is ∙ sym c.in_ok-low.ensures
