@@ -17,6 +17,7 @@ fn least_of(table: &[Worker; 64], n: usize) -> u64
         .fold(word::COUNTS, |low, w| lower_ticket(low, *w))
 }
 
+// Kept: 0 where no ticket is asked for, and no Option: `low_for` (batch/Tickets) has it, and `perform` does not read it then.
 // The same where the action asks for it.
 pub fn low_for(action: Action, table: &[Worker; 64], n: usize) -> u64
     requires { n ≤ 64 }

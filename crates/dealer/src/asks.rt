@@ -38,6 +38,7 @@ impl Ask {
         }
     }
 
+    // Kept: beside the flag of crates/wubraken: before the first narrow turn no record is looked at, so it has `true` there (`flag_of`, dealer/Looks).
     // The flag for refusal 3 before the first turn: by a look at everything, or at the three first words.
     #[tactic(auto, unfolding(crate::specs::Looks::flag_of))]
     pub fn flag_of(self, n: usize, ok: bool, store: &[u64]) -> bool

@@ -12,6 +12,7 @@ use arrival::Worker;
 use std::ops::ControlFlow;
 use wubraken::table::survey_table;
 
+// Kept: store and table one by one, here and below: a `Lent` has a shape, and so has the Ask that a run goes by.
 // From candidate to candidate, as long as the run goes on.
 pub fn deal_turns(
     start: ControlFlow<Ended, Going>,

@@ -1,4 +1,5 @@
 // The echogram for C, `libechogram.a`: each export calls the function of its name, under the same clauses.
+// Kept: parameters one by one, and numbers for answers, since C calls these, by these names.
 #![tactic(auto)]
 
 ghost use Rattle.std.specs.Prelude.{◌≡◌};

@@ -93,6 +93,7 @@ fn follow(stop: Stop, ended: bool) -> Next
 }
 
 // Writes the last line, where there is one: the place behind it.
+// Kept: a place beside the buffer, here and in `Round`, since `written` and `after` are of any place, past the end too.
 fn close(next: Next, out: &mut [u8], to: usize) -> usize
     ensures { (result ≡ after out.old to (last_line next)) × (out.new ≡ written out.old to (last_line next)) }
 {
