@@ -1,5 +1,5 @@
 // A run of dealt turns, by value: how it begins, and how it moves on from candidate to candidate.
-ghost use Rattle.std.specs.Prelude.{◌≡◌, ◌<◌, is_some};
+ghost use Rattle.std.specs.Prelude.{◌≡◌, ◌<◌, is_ok};
 ghost use Rattle.dealer.specs.Runs.{stopped_by, started_at, begun, passed_by, moved_on};
 
 use super::asks::Ask;
@@ -32,8 +32,8 @@ pub struct Ended {
 impl Ask {
     // Before the first turn: past refusals 1 to 4, or ended by one of them.
     #[tactic(auto, using(crate::proofs::DealLoop::flag_tight), unfolding(crate::specs::Runs::begun))]
-    pub fn begin(self, n: usize, seen: Option<u64>, store: &[u64]) -> ControlFlow<Ended, Going>
-        ensures { result ≡ begun self store.now n (is_some seen) }
+    pub fn begin(self, n: usize, seen: Result<u64, u64>, store: &[u64]) -> ControlFlow<Ended, Going>
+        ensures { result ≡ begun self store.now n (is_ok seen) }
     {
         let idle = Ended {
             last: self.dealer,
@@ -43,7 +43,7 @@ impl Ask {
         if self.turns == 0 {
             return ControlFlow::Break(idle);
         }
-        let flag = self.flag_of(n, seen.is_some(), store);
+        let flag = self.flag_of(n, seen.is_ok(), store);
         match gate(self.shape, store.len(), n, self.dealer, flag) {
             Ok(()) => ControlFlow::Continue(Going::started_at(self, self.dealer, 0)),
             Err(refusal) => ControlFlow::Break(Ended {
