@@ -10,7 +10,7 @@ use arrival::rounds::after;
 use operation::goes_on;
 use std::ops::ControlFlow;
 
-// A run that goes on: the candidate to be looked at and how many are left with it, the worker served last, the turns made.
+// A run that goes on: the candidate to be looked at and how many are left with it, the worker served last, the turns made, the last response.
 // Kept: 0 < rest and made < turns stay clauses, no ghost fields: started_at and passed_by of dealer/Runs are of every shape and limit, where neither need hold.
 #[derive(Clone, Copy)]
 pub struct Going {
@@ -19,11 +19,14 @@ pub struct Going {
     pub rest: u64,
     pub last: u64,
     pub made: u64,
+    pub response: Response,
 }
 
-// One that has ended: the worker served last, the turns made, the last response.
+// One that has ended: the same, where it stood.
 #[derive(Clone, Copy)]
 pub struct Ended {
+    pub at: usize,
+    pub rest: u64,
     pub last: u64,
     pub made: u64,
     pub response: Response,
@@ -36,6 +39,8 @@ impl Ask {
         ensures { result ≡ begun self store.now n (is_some seen) }
     {
         let idle = Ended {
+            at: 0,
+            rest: 0,
             last: self.dealer,
             made: 0,
             response: Response::On,
@@ -65,6 +70,7 @@ impl Going {
             rest: ask.shape.workers,
             last,
             made,
+            response: Response::On,
         }
     }
 
@@ -73,6 +79,8 @@ impl Going {
         ensures { result ≡ stopped_by response self }
     {
         Ended {
+            at: self.at,
+            rest: self.rest,
             last: self.last,
             made: self.made,
             response,
