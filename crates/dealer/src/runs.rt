@@ -22,14 +22,15 @@ pub struct Going {
     pub response: Response,
 }
 
-// One that has ended: the same, where it stood.
+// One that has ended: the worker served last, the turns made, the last response; the candidate at which it stood, and how many were left with it.
+// Kept: at and rest behind the others: in front of them narrow runs count 1 to 9 per cent more instructions.
 #[derive(Clone, Copy)]
 pub struct Ended {
-    pub at: usize,
-    pub rest: u64,
     pub last: u64,
     pub made: u64,
     pub response: Response,
+    pub at: usize,
+    pub rest: u64,
 }
 
 impl Ask {
