@@ -10,7 +10,7 @@ use arrival::rounds::after;
 use operation::goes_on;
 use std::ops::ControlFlow;
 
-// A run that goes on: the candidate to be looked at and how many are left with it, the worker served last, the turns made.
+// A run that goes on: the candidate to be looked at and how many are left with it, the worker served last, the turns made, the last response.
 // Kept: 0 < rest and made < turns stay clauses, no ghost fields: started_at and passed_by of dealer/Runs are of every shape and limit, where neither need hold.
 #[derive(Clone, Copy)]
 pub struct Going {
@@ -19,14 +19,18 @@ pub struct Going {
     pub rest: u64,
     pub last: u64,
     pub made: u64,
+    pub response: Response,
 }
 
-// One that has ended: the worker served last, the turns made, the last response.
+// One that has ended: the worker served last, the turns made, the last response; the candidate at which it stood, and how many were left with it.
+// Kept: at and rest behind the others: in front of them narrow runs count 1 to 9 per cent more instructions.
 #[derive(Clone, Copy)]
 pub struct Ended {
     pub last: u64,
     pub made: u64,
     pub response: Response,
+    pub at: usize,
+    pub rest: u64,
 }
 
 impl Ask {
@@ -36,6 +40,8 @@ impl Ask {
         ensures { result ≡ begun self store.now n (is_ok seen) }
     {
         let idle = Ended {
+            at: 0,
+            rest: 0,
             last: self.dealer,
             made: 0,
             response: Response::On,
@@ -65,6 +71,7 @@ impl Going {
             rest: ask.shape.workers,
             last,
             made,
+            response: Response::On,
         }
     }
 
@@ -73,6 +80,8 @@ impl Going {
         ensures { result ≡ stopped_by response self }
     {
         Ended {
+            at: self.at,
+            rest: self.rest,
             last: self.last,
             made: self.made,
             response,
