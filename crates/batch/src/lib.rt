@@ -13,7 +13,10 @@ ghost use Rattle.arrival.specs.Refusals.{refusal_of};
 use arrival::refusals::Refusal;
 use arrival::{Action, Shape, Worker};
 use known::Known;
+use starts::free::lower_ticket;
+use tickets::tickets_of;
 use turn_file::{Record, Unreadable, read_record, write_line, write_opened, write_refusal};
+use words::word;
 
 mod known;
 pub mod table;
@@ -91,6 +94,7 @@ pub fn run_batch(
         × (result.pool.held ≡ held_all input.now pool.held (begins pool store.old at out.old to)) }
 {
     let mut table = pool.table;
+    let mut tickets = tickets_of(&table);
     let mut known = Known {
         shape: pool.shape,
         sound: pool.sound,
@@ -105,15 +109,17 @@ pub fn run_batch(
             Ok(Some((found, next))) => {
                 match found {
                     Record::Open(shape) => {
-                        let opened = known.open(shape, &mut table, store);
+                        let opened = known.open(shape, &mut table, &mut tickets, store);
                         to = write_opening(opened, out, to);
                     }
                     Record::Act(action) => {
                         let i = place_of(action);
-                        match known.act(action, table[i], &table, store) {
+                        let w = table[i];
+                        match known.act(action, w, &tickets, store) {
                             Ok(reply) => {
                                 to = write_line(reply.response, out, to);
                                 table[i] = reply.worker;
+                                tickets[i] = lower_ticket(word::COUNTS, reply.worker);
                             }
                             Err(refusal) => {
                                 to = write_refusal(refusal.number(), out, to);
