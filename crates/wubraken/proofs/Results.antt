@@ -6,7 +6,7 @@
 --     acted                          what is done on one record and put back is what was requested
 --     away_is                        so is the refusal of a worker past the workers' records
 --     away_at, none_let               by what the code has found: it is refused, and the gate lets none pass
---     done_at, refused_at              of a worker with a record: worked on and put back, or refused
+--     tells_at, done_at, refused_at    of a worker with a record: what the look tells of it; worked on and put back, or refused
 --     opened_bound                    no more than there are
 --     opened_is                       with the store opened and the records cleared it is the opening
 --     open_refused, open_done          what refuses it, and what it leaves
@@ -51,7 +51,7 @@ use Rattle.wubraken.specs.declared.answers.Answer.{Answer}
 use Rattle.wubraken.specs.Answers.{answer_of}
 use Rattle.wubraken.proofs.AnswerLaws.{answer_said}
 use Rattle.wubraken.specs.Survey.{Survey, Surveyed, surveyed, survey, low_of}
-use Rattle.wubraken.proofs.Survey.{surveyed_worker, survey_none, survey_ok_is, survey_low_is}
+use Rattle.wubraken.proofs.Survey.{surveyed_worker, survey_none, survey_ok_is, survey_low_is, survey_tells}
 use Rattle.wubraken.specs.LentGate.{flag_of, gate_on}
 use Rattle.wubraken.proofs.LentGate.{passed}
 use Rattle.wubraken.specs.Results.{lent, leaves, told, gave, ActsAs, AnswersAs, near_by, act_on, records_opened}
@@ -250,18 +250,23 @@ module _ (sh : Shape) (s : List ℕ) (t : List Worker) (q : Request) where
       let all : surveyed sh (length t) ≡ sh.workers = rw (shape_tests sh p.limits, le-ltb (length t) sh.workers p.table) in
       omega (arith, p.worker, all)
 
-  -- Of a worker with a record, by what the code has found: what is done on it, put back, is what was requested,
-  module _ (h : i < surveyed sh (length t)) (seen : Survey) (j : ℕ) (looked : seen ≡ survey sh q t) (is : j ≡ i) (s' : List ℕ) where
-    pub done_at : (r : Reply) → gives s' r ≡ act_on sh q (length t) seen s (worker t j) → gave s' (set t j r.worker) r.response ≡ requested sh (lent s t) q
-    done_at r given =
+  -- Of a worker with a record, by what the code has found: the look tells of it,
+  module _ (h : i < surveyed sh (length t)) (seen : Survey) (j : ℕ) (looked : seen ≡ survey sh q t) (is : j ≡ i) where
+    pub tells_at : Surveyed sh q seen (worker t j)
+    tells_at = rw (looked, is) (survey_tells sh q t i h)
+
+    -- what is done on it, put back, is what was requested,
+    pub done_at : (s' : List ℕ) (r : Reply) → gives s' r ≡ act_on sh q (length t) seen s (worker t j)
+        → gave s' (set t j r.worker) r.response ≡ requested sh (lent s t) q
+    done_at s' r given =
         put_back t j s' r _ given ∙ (λ k. back t (is k) (act_on sh q (length t) (looked k) s (worker t (is k)))) ∙ acted h
 
     -- and what is refused leaves the table.
-    pub refused_at : (k : ℕ) → gives s' (refuses (worker t j) k) ≡ act_on sh q (length t) seen s (worker t j)
+    pub refused_at : (s' : List ℕ) (k : ℕ) → gives s' (refuses (worker t j) k) ≡ act_on sh q (length t) seen s (worker t j)
         → gave s' t (Refused k) ≡ requested sh (lent s t) q
-    refused_at k given =
+    refused_at s' k given =
         sym (ap (λ (u : List Worker). record { memory = lent s' u; response = Refused k }) (set-get_or t j blank))
-        ∙ done_at (refuses (worker t j) k) given
+        ∙ done_at s' (refuses (worker t j) k) given
 
 -- no more than there are
 pub opened_bound : (sh : Shape) (s : List ℕ) (n k : ℕ) → k ≡ open_gate sh (length s) n → records_opened sh k ≤ n

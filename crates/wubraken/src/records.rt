@@ -91,7 +91,6 @@ fn perform_on(shape: Shape, low: u64, request: Request, w: Worker, words: &mut [
 }
 
 // A request on its worker's record w.
-#[inline(always)]
 pub fn act_on_record(
     shape: Shape,
     request: Request,

@@ -1,5 +1,5 @@
 -- A request on a record is refused by 1 to 4, or done. Assumes nothing.
-use Rattle.std.proofs.Common.{refl, sym, ap, ◌∙◌}
+use Rattle.std.proofs.Common.{refl, sym, ap, arith, ◌∙◌}
 use Rattle.std.proofs.lemmas.Result.{err_from_is_err_and}
 use Rattle.arrival.specs.Refusals.{number}
 use Rattle.arrival.specs.Requests.{actor, action_of, turns_of, is_whole}
@@ -25,7 +25,7 @@ perform_on-requires-clause-admitted c =
     admits a.shape a.request a.n a.seen a.store.now a.w c.requires (sym gated)
 
 pub perform_on-requires-clause-low_bound : goal.perform_on-requires-clause-low_bound
-perform_on-requires-clause-low_bound c = rw c.low_of.ensures c.requires.low
+perform_on-requires-clause-low_bound c = omega (arith, c.low_of.ensures, c.requires.low)
 
 pub returns : goal.returns
 returns c =

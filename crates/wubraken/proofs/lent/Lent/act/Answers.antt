@@ -5,8 +5,7 @@ use Rattle.arrival.specs.Refusals.{number}
 use Rattle.arrival.specs.Requests.{actor, action_of}
 use Rattle.calendar.specs.rules.Ranges.{blank}
 use Rattle.wubraken.specs.Survey.{surveyed}
-use Rattle.wubraken.proofs.Survey.{survey_tells}
-use Rattle.wubraken.proofs.Results.{away_at, none_let, done_at, refused_at}
+use Rattle.wubraken.proofs.Results.{away_at, none_let, tells_at, done_at, refused_at}
 use Rattle.wubraken.proofs.lent.Lent.act.Goals as goal
 
 pub returns-in_err-away-clause-acted : goal.returns-in_err-away-clause-acted
@@ -31,7 +30,7 @@ act_on_record-requires c =
     let m = c.args.self.now in
     let here : actor (action_of c.args.request) < surveyed m.shape (length m.table.now) =
     omega (arith, c.if-records_surveyed-i.false, c.records_surveyed.ensures, c.index_of-i.ensures) in
-    rw (c.survey-seen.ensures, c.index_of-i.ensures) (survey_tells m.shape c.args.request m.table.now _ here)
+    tells_at m.shape m.store.now m.table.now c.args.request here _ _ c.survey-seen.ensures c.index_of-i.ensures
 
 pub returns-in_err-reply-clause-acted : goal.returns-in_err-reply-clause-acted
 unfolding blank

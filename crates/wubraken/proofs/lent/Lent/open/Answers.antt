@@ -1,5 +1,5 @@
 -- `wubraken::lent::Lent::open`: the store opened, and the workers' records cleared, or nothing. Assumes nothing.
-use Rattle.std.proofs.Common.{◌∙◌, refl, length}
+use Rattle.std.proofs.Common.{◌∙◌, refl, arith, length}
 use Rattle.std.proofs.lemmas.Result.{err_from_is_err_and}
 use Rattle.arrival.specs.Refusals.{number}
 use Rattle.wubraken.specs.Results.{gave}
@@ -18,7 +18,8 @@ returns-in_err-open_lent-clause-opened c =
 
 pub clear_table-requires : goal.clear_table-requires
 clear_table-requires c =
-    let m = c.args.self.now in rw c.records_opened.ensures (opened_bound m.shape m.store.now (length m.table.now) 0 c.in_ok-open_lent.ensures.refused)
+    let m = c.args.self.now in
+    omega (arith, c.records_opened.ensures, opened_bound m.shape m.store.now (length m.table.now) 0 c.in_ok-open_lent.ensures.refused)
 
 pub returns-clause-opened : goal.returns-clause-opened
 returns-clause-opened c =
