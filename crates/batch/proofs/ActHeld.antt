@@ -84,6 +84,7 @@ module _ {bytes : List ℕ} {p₀ : Progress} {h₀ records space : ℕ} {sh : S
           go true z x = inside (eqb-true k 0 z) x
           go false n x = away (eqb-false k 0 n) x
 
+      -- of what is known, as `Known::act` leaves it
       pub held_known : gives s' r ≡ held_act k sh a (worker t j) ts s → (n : Known)
           → n ≡ past_action k (record { shape = sh; sound = sound; records = records; held = h }) a (worker t j) s
           → Round bytes p₀ h₀ (length s') n.records (length lines') n.shape s' (set t j r.worker) next lines' to' n.sound n.held

@@ -54,6 +54,7 @@ module _ {bytes : List ℕ} {p₀ : Progress} {h₀ records space : ℕ} {sh : S
       let (n, shape, flag, holds, table, tickets) = not_done x in
       (rw (shape, flag, holds, table) (refused_round n), tickets ∙ is ∙ ap tickets_of (sym table))
 
+  -- of the pool d and the tickets ts' that `Known::open` leaves
   pub held_opening : {ts : List ℕ} → ts ≡ tickets_of t → (d : HeldPool)
       → d ≡ past_opening (open_gate sh' (length s) records) sh' (held_of sh sound records h t) → (ts' : List ℕ)
       → ts' ≡ cond (eqb (open_gate sh' (length s) records) 0) (tickets_of d.table) ts
