@@ -4,13 +4,14 @@
 --     cut_most, cut_is           where a row is cut in two: no further than its end; so at the lower of the two
 --     parts_add, parts_fit       its two parts add up to its sum, in 64 bits,
 --     part_left                  and the second is what is left
---     totals_outside, totals_is  all three, outside the limits and within them
---     totals_sum, totals_left    the last two, within them
 --     total_outside              the outcome, outside the limits,
 --     total_large, total_silent  refused by the sum,
 --     total_is                   and not refused
 --     sound_of_lem               what a row that is not refused may count on
---     number_is, when_refused    what is handed back of one that is,
+--     number_is                  the number of any row,
+--     totals_outside, totals_is  with sum and what is left, outside the limits and within them;
+--     totals_sum, totals_left    the last two by themselves
+--     when_refused               what is handed back of a row that is refused,
 --     sum_is, rest_is, is_sound  what was added up of one that is not,
 --     when_measured              and what is handed back
 -- Assumes nothing.
