@@ -8,10 +8,10 @@
 --     total_large, total_silent  refused by the sum,
 --     total_is                   and not refused
 --     sound_of_lem               what a row that is not refused may count on
---     number_is                  the number of one that is;
---     totals_outside, totals_is  that and both totals, refused or not, outside the limits and within them
---     totals_sum, totals_left    the totals, within them
---     when_refused               what is handed back of one that is refused,
+--     number_is                  the number of any row,
+--     totals_outside, totals_is  with sum and what is left, outside the limits and within them;
+--     totals_sum, totals_left    the last two by themselves
+--     when_refused               what is handed back of a row that is refused,
 --     sum_is, rest_is, is_sound  what was added up of one that is not,
 --     when_measured              and what is handed back
 -- Assumes nothing.
