@@ -1,7 +1,7 @@
 -- The tickets of the calls in progress, as a list beside the workers' records, and the least of them. Assumes nothing.
 --     least_at_most                           the lesser of two, and its bound
 --     least_of_none, least_of_more             the least of the first n, one by one
---     stored_ticket                           a record stored, its ticket stored
+--     tickets_set, stored_ticket              a record stored, its ticket stored
 --     least_is                                the least of the list is the least ticket in progress
 --     low_is                                   the least where an action asks for it; it is that of the records
 --     tickets_more, tickets_all               a loop that stores ticket after ticket; at its end
@@ -48,7 +48,7 @@ tickets_at [] n h = absurd (omega arith)
 tickets_at (w ∷ t) zero h = refl
 tickets_at (w ∷ t) (suc n) h = tickets_at t n (omega arith)
 
-tickets_set : (t : List Worker) (i : ℕ) (w : Worker) → tickets_of (set t i w) ≡ set (tickets_of t) i (ticket_of w)
+pub tickets_set : (t : List Worker) (i : ℕ) (w : Worker) → tickets_of (set t i w) ≡ set (tickets_of t) i (ticket_of w)
 unfolding tickets_of
 tickets_set [] i w = refl
 tickets_set (v ∷ t) zero w = refl

@@ -1,7 +1,7 @@
 // A batch of a turn file against a pool: whole records in, lines out.
 #![tactic(auto)]
 
-ghost use Rattle.std.specs.Prelude.{◌≡◌, ◌+◌, ◌<◌, leb};
+ghost use Rattle.std.specs.Prelude.{◌≡◌, ◌+◌, ◌<◌, leb, true};
 ghost use Rattle.batch.specs.Batch.{worked_all};
 ghost use Rattle.batch.specs.Held.{held_all};
 ghost use Rattle.batch.specs.CodeView.{begins, ends, Sound};
@@ -9,9 +9,10 @@ ghost use Rattle.batch.specs.RoundArms.{Line};
 ghost use Rattle.batch.specs.ActHeld.{place_of};
 ghost use Rattle.admission.specs.Gate.{open_response};
 ghost use Rattle.arrival.specs.Refusals.{refusal_of};
+ghost use Rattle.arrival.specs.declared.Response.TheVariants.{On};
 
 use arrival::refusals::Refusal;
-use arrival::{Action, Shape, Worker};
+use arrival::{Action, Response, Shape, Worker};
 use known::Known;
 use starts::free::lower_ticket;
 use tickets::tickets_of;
@@ -68,6 +69,13 @@ fn place_of(action: Action) -> usize
     action.worker().min(63) as usize
 }
 
+// Whether a call that is answered so goes on with the ticket that it had; a turn stores none then.
+fn keeps_ticket(response: Response) -> bool
+    ensures { result ≡ true → response ≡ On }
+{
+    matches!(response, Response::On)
+}
+
 // The line of an opening, refused or not.
 fn write_opening(opened: Result<(), Refusal>, out: &mut [u8], to: usize) -> usize
     ensures { Line out.old to (open_response (refusal_of opened)) out.new result }
@@ -79,6 +87,7 @@ fn write_opening(opened: Result<(), Refusal>, out: &mut [u8], to: usize) -> usiz
 }
 
 // Kept: positions beside the bytes, since `begins` and `worked_all` speak of any, past the end too.
+// Kept: line, ticket, record in this order: with the record stored before the ticket `turns` ran 2 to 3 per cent more instructions (docs/PERFORMANCE.md).
 // Works through the records from `at` on and writes their lines from `to` on, while the longest line fits.
 pub fn run_batch(
     pool: HeldPool,
@@ -118,8 +127,10 @@ pub fn run_batch(
                         match known.act(action, w, &tickets, store) {
                             Ok(reply) => {
                                 to = write_line(reply.response, out, to);
+                                if !keeps_ticket(reply.response) {
+                                    tickets[i] = lower_ticket(word::COUNTS, reply.worker);
+                                }
                                 table[i] = reply.worker;
-                                tickets[i] = lower_ticket(word::COUNTS, reply.worker);
                             }
                             Err(refusal) => {
                                 to = write_refusal(refusal.number(), out, to);

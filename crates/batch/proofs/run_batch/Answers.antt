@@ -10,12 +10,14 @@ use Rattle.batch.specs.declared.known.Known.{Known}
 use Rattle.batch.specs.ActHeld.{place_of}
 use Rattle.batch.specs.OneRecord.{holding}
 use Rattle.batch.proofs.TicketLaws.{stored_ticket}
+use Rattle.batch.proofs.TicketKept.{action_on, kept_ticket}
 use Rattle.batch.proofs.RoundArms.{kept, round_of_lem, known, nearer}
 use Rattle.batch.proofs.OpeningRounds.{held_opening}
 use Rattle.batch.proofs.ActHeld.{admits, held_known}
 use Rattle.batch.proofs.OneRecord.{with_table, goes_on}
 use Rattle.batch.proofs.Stopping.{stopped}
 use Rattle.batch.proofs.run_batch.Goals as goal
+use Rattle.batch.proofs.run_batch.Goals.{then-not-keeps_ticket, else-not-keeps_ticket}
 use Rattle.batch.proofs.run_batch.Goals.{then-not-has_room, else-not-has_room+in-Ok-None, else-not-has_room+in-Err}
 
 pub loop-tickets-smaller-in-Open : goal.loop-tickets-smaller-in-Open
@@ -36,22 +38,30 @@ pub act-requires-clause-admitted : goal.act-requires-clause-admitted
 unfolding blank
 act-requires-clause-admitted c = admits c.loop-tickets.invariant.round c.in-Act.action _ c.place_of-i.ensures.0 _ (actor c.in-Act.action) refl refl
 
-pub loop-tickets-smaller-in-Ok : goal.loop-tickets-smaller-in-Ok
-loop-tickets-smaller-in-Ok c = nearer _ _ _ (rw c.in-Ok-Some.field-0-is at c.in-Ok-Some.ensures) _ _ refl
+pub loop-tickets-smaller-after-not-keeps_ticket : goal.loop-tickets-smaller-after-not-keeps_ticket
+loop-tickets-smaller-after-not-keeps_ticket c = nearer _ _ _ (rw c.in-Ok-Some.field-0-is at c.in-Ok-Some.ensures) _ _ refl
 
-pub loop-tickets-preserved-in-Ok : goal.loop-tickets-preserved-in-Ok
+-- answered On it has the ticket that it had
+pub loop-tickets-preserved-after-not-keeps_ticket : goal.loop-tickets-preserved-after-not-keeps_ticket
 unfolding blank
-loop-tickets-preserved-in-Ok c =
+loop-tickets-preserved-after-not-keeps_ticket c =
     let inv = c.loop-tickets.invariant in
     let fits = sym c.has_room.ensures ∙ c.if-not-has_room.false in
     let a = c.in-Act.action in
     let next = c.in-Ok-Some.next in
     let read = known _ _ _ (rw c.in-Ok-Some.field-0-is at c.in-Ok-Some.ensures) (Act a) next (ap (λ (r : Record). whole r next) c.in-Act.is) in
     let done = c.in-Ok.ensures in
+    let place = c.place_of-i.ensures.0 in
     record {
-      round = held_known inv.round a _ c.place_of-i.ensures.0 _ (actor a) refl refl fits _ read _ inv.tickets _ c.in-Ok.reply _ _ c.write_line-to.ensures
+      round = held_known inv.round a _ place _ (actor a) refl refl fits _ read _ inv.tickets _ c.in-Ok.reply _ _ c.write_line-to.ensures
           done.gives _ done.known;
-      tickets = stored_ticket _ _ _ inv.tickets _ c.lower_ticket.ensures;
+      tickets = elim c.if-not-keeps_ticket.branch [
+        | then-not-keeps_ticket w ↦ rw w.tickets-is (stored_ticket _ _ _ inv.tickets _ w.lower_ticket.ensures)
+        | else-not-keeps_ticket w ↦
+            let on = c.keeps_ticket.ensures w.if-not-keeps_ticket.false in
+            rw w.tickets-is
+            (kept_ticket _ _ _ inv.tickets (action_on _ _ _ a _ _ (admits inv.round a _ place _ (actor a) refl refl) _ c.in-Ok.reply done.gives on))
+      ];
       records = ap (λ (n : Known). n.records) done.known ∙ inv.records;
     }
 
