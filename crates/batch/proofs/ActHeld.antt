@@ -2,6 +2,7 @@
 --     place_own, place_last            where the code looks for the worker's record, by its test
 --     admits                          a worker that is let in is ready there
 --     held_round                      stored at that place, it is one record more
+--     held_known                      the same of what is known, as `Known::act` leaves it
 use Rattle.std.specs.Prelude.{◌≡◌, refl, List, Bool, true, false, cond, not, ◌≢◌, ℕ, ◌+◌, ◌<◌, ◌≤◌, eqb, leb, length, set}
 use Rattle.std.proofs.Common.{sym, ap, ◌∙◌, arith, eqb-true, lt-ltb, le-ltb}
 use Rattle.std.proofs.Math.Path.{subst⁻¹}
@@ -18,13 +19,15 @@ use Rattle.operation.specs.LocalAct.{local_act, Admitted}
 use Rattle.admission.specs.Gate.{gate_of}
 use Rattle.turn_file.specs.declared.Record.TheVariants.{Act}
 use Rattle.turn_file.specs.Reading.{record_at, whole}
+use Rattle.batch.specs.declared.known.Known.{Known}
 use Rattle.batch.specs.Batch.{Progress}
 use Rattle.operation.specs.Leaks.{action_leaks}
 use Rattle.batch.specs.Tickets.{tickets_of, low_for}
 use Rattle.batch.proofs.TicketLaws.{low_is}
 use Rattle.batch.specs.RoundArms.{Round, Line}
-use Rattle.batch.proofs.RoundArms.{in_use, below_64, let_in, turned_away_lem, performed}
+use Rattle.batch.proofs.RoundArms.{in_use, below_64, let_in, turned_away_lem, performed, settled}
 use Rattle.batch.specs.ActHeld.{held_act, sound_after, place_of}
+use Rattle.batch.specs.OneRecord.{past_action}
 
 pub own_place : (a : Action) → actor a < 64 → place_of a ≡ actor a
 own_place a h = rw (lt-ltb (actor a) 64 h)
@@ -80,3 +83,11 @@ module _ {bytes : List ℕ} {p₀ : Progress} {h₀ records space : ℕ} {sh : S
               → Round bytes p₀ h₀ (length s) records space sh s' (set t j r.worker) next lines' to' (cond b (not (action_leaks sh s a (worker t j))) sound) h
           go true z x = inside (eqb-true k 0 z) x
           go false n x = away (eqb-false k 0 n) x
+
+      -- of what is known, as `Known::act` leaves it
+      pub held_known : gives s' r ≡ held_act k sh a (worker t j) ts s → (n : Known)
+          → n ≡ past_action k (record { shape = sh; sound = sound; records = records; held = h }) a (worker t j) s
+          → Round bytes p₀ h₀ (length s') n.records (length lines') n.shape s' (set t j r.worker) next lines' to' n.sound n.held
+      held_known d n left =
+          subst⁻¹ (λ (m : Known). Round bytes p₀ h₀ (length s') m.records (length lines') m.shape s' (set t j r.worker) next lines' to' m.sound m.held) left
+          (settled (held_round d _ refl))

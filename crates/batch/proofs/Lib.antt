@@ -14,4 +14,5 @@ pub mod Stopping
 pub mod WithinBuffers
 pub mod WorkedExample
 pub mod TicketLaws
+pub mod TicketKept
 pub mod PartOfFile

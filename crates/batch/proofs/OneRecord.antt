@@ -1,6 +1,6 @@
 -- One record of the file on a held pool: what the code does is what the definition says. Assumes nothing.
 --     refused_act                   a start or turn that the gate refuses
---     few_workers, admits, did_act   one that it lets in
+--     few_workers, did_act          one that it lets in
 --     refused_open                  an opening that is refused
 --     small_shape, did_open         one that is not
 --     with_table                    a record put back
@@ -22,7 +22,7 @@ use Rattle.calendar.specs.rules.Opening.{open_store, open_table}
 use Rattle.calendar.specs.facts.Accepted.{Lent, Usable}
 use Rattle.calendar.specs.rules.Operations.{Memory, Result, actor, act, open_pool}
 use Rattle.calendar.proofs.facts.Untouched.{act_same_size, open_same_size}
-use Rattle.operation.specs.LocalAct.{Admitted, local_act, LowFor, back}
+use Rattle.operation.specs.LocalAct.{local_act, LowFor, back}
 use Rattle.operation.proofs.LocalAct.{act_is}
 use Rattle.operation.specs.Leaks.{action_leaks}
 use Rattle.operation.proofs.LeakLaws.{act_watched}
@@ -48,7 +48,7 @@ use Rattle.batch.specs.BatchLoop.{Going, at_work}
 use Rattle.batch.proofs.BatchLoop.{go_on}
 use Rattle.batch.specs.CodeView.{Sound, lent_records, lent_to, begins}
 use Rattle.batch.specs.RoundArms.{Round, Line}
-use Rattle.batch.proofs.RoundArms.{counted, gate_here, open_gate_here, passes, in_use, below_64, is_lent, own, let_in, no_refusal, lent_to_lem, lent_low}
+use Rattle.batch.proofs.RoundArms.{counted, gate_here, open_gate_here, passes, in_use, below_64, is_lent, own, no_refusal, lent_to_lem, lent_low}
 use Rattle.batch.proofs.RoundArms.{first_round}
 use Rattle.batch.specs.OneRecord.{pool_of, with_record, Does}
 
@@ -87,9 +87,6 @@ module _ (d : HeldPool) (s : List ℕ) (S : Sound d s) where
 
     enough : d.shape.workers ≤ d.records
     enough = omega (arith, U.lent.table, counted R)
-
-    pub admits : Admitted d.shape s (worker d.table (place_of a))
-    admits = subst⁻¹ (λ (i : ℕ). Admitted d.shape s (worker d.table i)) at_place (let_in R (actor a) _ refl z)
 
     -- done to it, and not yet put back
     abbrev leaving : ℕ → HeldPool

@@ -4,7 +4,7 @@
 --     turned_away_lem, performed                a start or turn is a round
 --     not_opened, opened                    an opening is a round
 --     kept, at_drained, at_halted, at_full  what holds at every end; the three ends
---     settled                               a round, of the lengths as they are then
+--     round_of_lem, settled                 a round, from what the pool is known for; of the lengths as they are then
 --     known                                 what was read
 --     nearer                                the next record is nearer to the end
 --     first_round                           before the loop
@@ -243,7 +243,7 @@ module _ {bytes : List ℕ} {p₀ : Progress} {h₀ words records space : ℕ} {
       (ap (λ (z : Stop). record { progress = at_work sh s (take records t) at lines to; stop = z }) still ∙ end.0, end.1)
 
 -- a record of what the loop keeps, from what the pool is known for
-round_of_lem : {bytes : List ℕ} {p₀ : Progress} {h₀ : ℕ} (sh : Shape) (s : List ℕ) (records : ℕ) (t : List Worker) (at : ℕ) (lines : List ℕ) (to : ℕ)
+pub round_of_lem : {bytes : List ℕ} {p₀ : Progress} {h₀ : ℕ} (sh : Shape) (s : List ℕ) (records : ℕ) (t : List Worker) (at : ℕ) (lines : List ℕ) (to : ℕ)
     (sound : Bool) (h : ℕ)
     → Going bytes p₀ h₀ (at_work sh s (take records t) at lines to) h sound → length t ≡ 64 → records ≤ 64 → Tight sh (length s) records sound
     → Round bytes p₀ h₀ (length s) records (length lines) sh s t at lines to sound h

@@ -1,11 +1,11 @@
 -- The tickets of the calls in progress, as a list beside the workers' records, and the least of them. Assumes nothing.
 --     least_at_most                           the lesser of two, and its bound
 --     least_of_none, least_of_more             the least of the first n, one by one
---     stored_ticket                           a record stored, its ticket stored
+--     tickets_set, stored_ticket              a record stored, its ticket stored
 --     least_is                                the least of the list is the least ticket in progress
 --     low_is                                   the least where an action asks for it; it is that of the records
 --     tickets_more, tickets_all               a loop that stores ticket after ticket; at its end
---     least_folded                            the least by a fold over the records
+--     least_folded, least_within               the least by a fold over the tickets, and its bound
 use Rattle.std.specs.Prelude.{◌≡◌, refl, List, [], ◌∷◌, ◌++◌, Bool, true, false, cond, ◌&&◌, ℕ, zero, suc, ◌+◌, ◌<◌, ◌≤◌, ltb, length, get_or, set, take, drop}
 use Rattle.std.proofs.Common.{sym, ap, ◌∙◌, append-nil, arith, add-one, take_all, ltb-true, ltb-false, le-ltb}
 use Rattle.std.specs.List.{fold}
@@ -16,9 +16,9 @@ use Rattle.arrival.specs.declared.Shape.{Shape}
 use Rattle.arrival.specs.declared.Worker.{Worker}
 use Rattle.arrival.specs.declared.Action.{Action}
 use Rattle.arrival.specs.declared.Action.TheVariants.{Enqueue, Dequeue, Step}
-use Rattle.calendar.specs.rules.Ranges.{blank, worker}
+use Rattle.calendar.specs.rules.Ranges.{worker}
 use Rattle.calendar.specs.rules.Reclaim.{in_progress}
-use Rattle.starts.specs.LeastTicket.{lower, least_ticket, least_bound}
+use Rattle.starts.specs.LeastTicket.{least_ticket, least_bound}
 use Rattle.operation.specs.LocalAct.{LowFor}
 use Rattle.batch.specs.Tickets.{ticket_of, tickets_of, least, least_of, low_for}
 
@@ -48,7 +48,7 @@ tickets_at [] n h = absurd (omega arith)
 tickets_at (w ∷ t) zero h = refl
 tickets_at (w ∷ t) (suc n) h = tickets_at t n (omega arith)
 
-tickets_set : (t : List Worker) (i : ℕ) (w : Worker) → tickets_of (set t i w) ≡ set (tickets_of t) i (ticket_of w)
+pub tickets_set : (t : List Worker) (i : ℕ) (w : Worker) → tickets_of (set t i w) ≡ set (tickets_of t) i (ticket_of w)
 unfolding tickets_of
 tickets_set [] i w = refl
 tickets_set (v ∷ t) zero w = refl
@@ -91,11 +91,16 @@ tickets_more t k ts h l =
 pub tickets_all : (t : List Worker) (k : ℕ) (ts : List ℕ) → length t ≡ k → length ts ≡ k → take k (tickets_of t) ++ drop k ts ≡ tickets_of t
 tickets_all t k ts e f = rw (take_all k (tickets_of t) (omega (arith, tickets_length t)), ← f, drop-length ts) (append-nil (tickets_of t))
 
--- the least by a fold over the first n
-pub least_folded : (t : List Worker) (n : ℕ) → n ≤ length t → fold lower 4294967296 (take n t) ≡ least_ticket t n
-unfolding least_ticket blank
-least_folded t zero h = refl
-least_folded t (suc n) h =
-    ap (fold lower 4294967296) (take-suc t n blank (omega arith))
-    ∙ fold-append lower 4294967296 (take n t) (worker t n ∷ [])
-    ∙ ap (λ (low : ℕ). lower low (worker t n)) (least_folded t n (omega arith))
+-- the least by a fold over the first n, and its bound
+pub least_folded : (ts : List ℕ) (n : ℕ) → n ≤ length ts → fold least 4294967296 (take n ts) ≡ least_of ts n
+least_folded ts zero h = sym (least_of_none ts)
+least_folded ts (suc n) h =
+    ap (fold least 4294967296) (take-suc ts n 0 (omega arith))
+    ∙ fold-append least 4294967296 (take n ts) (get_or ts n 0 ∷ [])
+    ∙ least_of_more ts n (fold least 4294967296 (take n ts)) _ (least_folded ts n (omega arith)) refl
+    ∙ ap (least_of ts) (add-one n)
+
+pub least_within : (ts : List ℕ) (n : ℕ) → least_of ts n ≤ 4294967296
+unfolding least_of
+least_within ts zero = omega arith
+least_within ts (suc n) = least_at_most (least_of ts n) (get_or ts n 0) 4294967296 (least_within ts n)

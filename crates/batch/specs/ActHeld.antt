@@ -1,5 +1,5 @@
 -- A start or turn of a record that is held, as the code has it, is a round of the definition. Assumes nothing.
---     held_act, sound_after             what `act_held` and `sound_after` give: refused by 1 to 4, and all stays; or what the action gives
+--     held_act, sound_after             what `Known::act` leaves, and of the flag: refused by 1 to 4, and all stays; or what the action gives
 --     place_of                         where the code looks for the worker's record, by its test
 use Rattle.std.specs.Prelude.{List, Bool, cond, not, ℕ, eqb, ltb}
 use Rattle.arrival.specs.declared.Shape.{Shape}

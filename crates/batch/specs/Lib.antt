@@ -7,6 +7,6 @@ pub mod Tickets
 pub mod BatchLoop
 pub mod RoundArms
 pub mod CodeView
-pub mod OneRecord
 pub mod ActHeld
+pub mod OneRecord
 pub mod TurnFile

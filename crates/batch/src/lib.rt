@@ -1,7 +1,7 @@
 // A batch of a turn file against a pool: whole records in, lines out.
 #![tactic(auto)]
 
-ghost use Rattle.std.specs.Prelude.{◌≡◌, ◌+◌, ◌<◌, leb};
+ghost use Rattle.std.specs.Prelude.{◌≡◌, ◌+◌, ◌<◌, leb, true};
 ghost use Rattle.batch.specs.Batch.{worked_all};
 ghost use Rattle.batch.specs.Held.{held_all};
 ghost use Rattle.batch.specs.CodeView.{begins, ends, Sound};
@@ -9,11 +9,15 @@ ghost use Rattle.batch.specs.RoundArms.{Line};
 ghost use Rattle.batch.specs.ActHeld.{place_of};
 ghost use Rattle.admission.specs.Gate.{open_response};
 ghost use Rattle.arrival.specs.Refusals.{refusal_of};
+ghost use Rattle.arrival.specs.declared.Response.TheVariants.{On};
 
 use arrival::refusals::Refusal;
-use arrival::{Action, Shape, Worker};
+use arrival::{Action, Response, Shape, Worker};
 use known::Known;
+use starts::free::lower_ticket;
+use tickets::tickets_of;
 use turn_file::{Record, Unreadable, read_record, write_line, write_opened, write_refusal};
+use words::word;
 
 mod known;
 pub mod table;
@@ -65,6 +69,13 @@ fn place_of(action: Action) -> usize
     action.worker().min(63) as usize
 }
 
+// Whether a call that is answered so goes on with the ticket that it had; a turn stores none then.
+fn keeps_ticket(response: Response) -> bool
+    ensures { result ≡ true → response ≡ On }
+{
+    matches!(response, Response::On)
+}
+
 // The line of an opening, refused or not.
 fn write_opening(opened: Result<(), Refusal>, out: &mut [u8], to: usize) -> usize
     ensures { Line out.old to (open_response (refusal_of opened)) out.new result }
@@ -76,6 +87,7 @@ fn write_opening(opened: Result<(), Refusal>, out: &mut [u8], to: usize) -> usiz
 }
 
 // Kept: positions beside the bytes, since `begins` and `worked_all` speak of any, past the end too.
+// Kept: line, ticket, record in this order: with the record stored before the ticket `turns` ran 2 to 3 per cent more instructions (docs/PERFORMANCE.md).
 // Works through the records from `at` on and writes their lines from `to` on, while the longest line fits.
 pub fn run_batch(
     pool: HeldPool,
@@ -91,6 +103,7 @@ pub fn run_batch(
         × (result.pool.held ≡ held_all input.now pool.held (begins pool store.old at out.old to)) }
 {
     let mut table = pool.table;
+    let mut tickets = tickets_of(&table);
     let mut known = Known {
         shape: pool.shape,
         sound: pool.sound,
@@ -105,14 +118,18 @@ pub fn run_batch(
             Ok(Some((found, next))) => {
                 match found {
                     Record::Open(shape) => {
-                        let opened = known.open(shape, &mut table, store);
+                        let opened = known.open(shape, &mut table, &mut tickets, store);
                         to = write_opening(opened, out, to);
                     }
                     Record::Act(action) => {
                         let i = place_of(action);
-                        match known.act(action, table[i], &table, store) {
+                        let w = table[i];
+                        match known.act(action, w, &tickets, store) {
                             Ok(reply) => {
                                 to = write_line(reply.response, out, to);
+                                if !keeps_ticket(reply.response) {
+                                    tickets[i] = lower_ticket(word::COUNTS, reply.worker);
+                                }
                                 table[i] = reply.worker;
                             }
                             Err(refusal) => {

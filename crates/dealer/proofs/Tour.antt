@@ -117,7 +117,7 @@ module _ (r : Going) (s : List ℕ) (t : List Worker) (T : Touring r s t) where
         ∙ none_in_progress round (next_served sh t r.last) refl (sym onward ∙ none_of sh t r.at (r.rest - 1) z)) refl
 
     abbrev ahead : Going
-    ahead = record { ask = r.ask; at = worker_after sh r.at; rest = r.rest - 1; last = r.last; made = r.made }
+    ahead = record { ask = r.ask; at = worker_after sh r.at; rest = r.rest - 1; last = r.last; made = r.made; response = r.response }
 
     ahead_less : todo (Continue ahead) < todo (Continue r)
     unfolding todo

@@ -2,7 +2,7 @@
 --     ok_of                            what the look over the records finds
 --     running                         after some turns, all of which went on
 -- Assumes nothing.
-use Rattle.std.specs.Prelude.{List, Bool, is_some}
+use Rattle.std.specs.Prelude.{List, Bool, is_ok}
 use Prim.Native.Nat.{ℕ}
 use Rattle.arrival.specs.declared.Shape.{Shape}
 use Rattle.arrival.specs.declared.Worker.{Worker}
@@ -13,7 +13,7 @@ use Rattle.dealer.specs.Dealing.{Deal, turn_of}
 
 -- what the look over the records finds
 abbrev pub ok_of : Bool → Shape → List Worker → Bool
-ok_of whole sh t = is_some (survey sh (turn_of whole 0) t)
+ok_of whole sh t = is_ok (survey sh (turn_of whole 0) t)
 
 -- ── one turn of a run ──
 abbrev pub running : Memory → ℕ → ℕ → Deal

@@ -29,13 +29,13 @@ abbrev pub Run : Type 0
 Run = ControlFlow Ended Going
 
 abbrev pub stopped_by : Response → Going → Ended
-stopped_by x r = record { last = r.last; made = r.made; response = x }
+stopped_by x r = record { at = r.at; rest = r.rest; last = r.last; made = r.made; response = x }
 
 abbrev pub started_at : Ask → ℕ → ℕ → Going
-started_at a last made = record { ask = a; at = worker_after a.shape last; rest = a.shape.workers; last = last; made = made }
+started_at a last made = record { ask = a; at = worker_after a.shape last; rest = a.shape.workers; last = last; made = made; response = On }
 
 abbrev pub unbegun : Response → ℕ → Ended
-unbegun x dealer = record { last = dealer; made = 0; response = x }
+unbegun x dealer = record { at = 0; rest = 0; last = dealer; made = 0; response = x }
 
 unfoldable pub begun : Ask → List ℕ → ℕ → Bool → Run
 begun a s n ok =
@@ -47,7 +47,7 @@ begun a s n ok =
 unfoldable pub passed_by : Going → Run
 passed_by r =
     cond (eqb r.rest 1) (Break (stopped_by (Refused 16) r))
-    (Continue (record { ask = r.ask; at = worker_after r.ask.shape r.at; rest = r.rest - 1; last = r.last; made = r.made }))
+    (Continue (record { ask = r.ask; at = worker_after r.ask.shape r.at; rest = r.rest - 1; last = r.last; made = r.made; response = r.response }))
 
 -- the candidate was served: the run ends with its turn, or with a leak, or goes on with the next round
 unfoldable pub moved_on : Going → Bool → Response → Run

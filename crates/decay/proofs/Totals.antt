@@ -4,11 +4,14 @@
 --     cut_most, cut_is           where a row is cut in two: no further than its end; so at the lower of the two
 --     parts_add, parts_fit       its two parts add up to its sum, in 64 bits,
 --     part_left                  and the second is what is left
---     total_outside              all three, outside the limits,
+--     total_outside              the outcome, outside the limits,
 --     total_large, total_silent  refused by the sum,
 --     total_is                   and not refused
 --     sound_of_lem               what a row that is not refused may count on
---     number_is, when_refused    what is handed back of one that is,
+--     number_is                  the number of any row,
+--     totals_outside, totals_is  with sum and what is left, outside the limits and within them;
+--     totals_sum, totals_left    the last two by themselves
+--     when_refused               what is handed back of a row that is refused,
 --     sum_is, rest_is, is_sound  what was added up of one that is not,
 --     when_measured              and what is handed back
 -- Assumes nothing.
@@ -29,7 +32,7 @@ use Rattle.decay.specs.declared.refusal.DecayRefusal.TheVariants.{BadRow, SumToo
 use Rattle.decay.specs.declared.total.Total.{Total}
 use Rattle.decay.specs.Refusals.{decay_number, answer_of}
 use Rattle.decay.specs.Outcomes.{measured_of}
-use Rattle.decay.specs.Totals.{sum_refusal, total_of, cut_at, Sound}
+use Rattle.decay.specs.Totals.{sum_refusal, totals, total_of, cut_at, Sound}
 
 pub refusal_outside : (row : List ℕ) → slots_outside (length row) ≡ true → decay_refusal row ≡ 13
 unfolding decay_refusal
@@ -132,6 +135,24 @@ module _ (row : List ℕ) (slot : ℕ) where
   number_is outcome e =
       ap answer_of e
       ∙ number_by (slots_outside (length row)) (too_large_sum row) (silent row) (record { sum = sum_of row; rest = rest row slot })
+
+  -- ── number, sum and rest of any row ──
+  pub totals_outside : slots_outside (length row) ≡ true
+      → (13 ≡ answer_of (total_of row slot)) × (◌≡◌ {A = Total} (record { sum = 0; rest = 0 }) (totals row slot))
+  totals_outside out = (sym (number_is (total_of row slot) refl ∙ refusal_outside row out), rw out)
+
+  pub totals_is : (number sum left : ℕ) → slots_outside (length row) ≡ false → number ≡ sum_refusal sum → sum ≡ sum_of row → left ≡ rest row slot
+      → (number ≡ answer_of (total_of row slot)) × (◌≡◌ {A = Total} (record { sum = sum; rest = left }) (totals row slot))
+  totals_is number sum left limits n s l = (
+    n ∙ ap sum_refusal s ∙ sym (number_is (total_of row slot) refl ∙ refusal_by_sum row limits),
+    (λ i. record { sum = s i; rest = l i }) ∙ rw limits,
+  )
+
+  pub totals_sum : (t : Total) → t ≡ totals row slot → slots_outside (length row) ≡ false → t.sum ≡ sum_of row
+  totals_sum t e limits = ap (λ (u : Total). u.sum) e ∙ rw limits
+
+  pub totals_left : (t : Total) → t ≡ totals row slot → slots_outside (length row) ≡ false → t.rest ≡ rest row slot
+  totals_left t e limits = ap (λ (u : Total). u.rest) e ∙ rw limits
 
   pub when_refused : (refusal : DecayRefusal) → Err refusal ≡ total_of row slot → (v : ℕ)
       → measured_of (Err refusal) ≡ measured (decay_refusal row) v

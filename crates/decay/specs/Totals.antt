@@ -1,6 +1,7 @@
 -- A row's sum with what refuses it, and what is left from a slot on, in one pass.
 --     sum_refusal                 15 and 17, by the sum
---     total_of                    what refuses it, or its sum and what is left
+--     totals                      its sum and what is left, refused or not
+--     total_of                    what refuses it, or both
 --     cut_at                      where a row is cut in two; no further than its end
 --     Sound                          what a row that is not refused may count on
 -- Assumes nothing.
@@ -14,6 +15,13 @@ use Rattle.decay.specs.declared.refusal.DecayRefusal.TheVariants.{BadRow, SumToo
 
 unfoldable pub sum_refusal : ℕ → ℕ
 sum_refusal sum = first_of ((15, ltb most sum) ∷ (17, eqb sum 0) ∷ [])
+
+-- 0 and 0 outside the limits
+abbrev pub totals : List ℕ → ℕ → Total
+totals row k = record {
+  sum = cond (slots_outside (length row)) 0 (sum_of row);
+  rest = cond (slots_outside (length row)) 0 (rest row k);
+}
 
 abbrev pub total_of : List ℕ → ℕ → Result Total DecayRefusal
 total_of row k =

@@ -1,6 +1,6 @@
-// The sum of a row that is not refused, and what is left of it from a slot on.
+// The sum of a row, and what is left of it from a slot on.
 ghost use Rattle.std.specs.Prelude.{◌≡◌};
-ghost use Rattle.decay.specs.Totals.{total_of};
+ghost use Rattle.decay.specs.Totals.{totals, total_of};
 
 use crate::refusal::DecayRefusal;
 use echogram::row::{slots_outside, sum_of};
@@ -14,21 +14,32 @@ pub struct Total {
     pub rest: u64,
 }
 
-// Adds up the part before the slot and that from it on: one pass.
+// Adds up the part before the slot and that from it on: one pass. Of a row whose number of slots is outside its limits both are 0.
+pub fn totals(row: &[u32], slot: usize) -> Total
+    ensures { result ≡ totals row.now slot }
+{
+    if slots_outside(row.len()) {
+        return Total { sum: 0, rest: 0 };
+    }
+    let at = slot.min(row.len());
+    let rest = sum_of(&row[at..]);
+    let sum = sum_of(&row[..at]) + rest;
+    Total { sum, rest }
+}
+
+// What refuses the row, or its totals.
 pub fn total_of(row: &[u32], slot: usize) -> Result<Total, DecayRefusal>
     ensures { result ≡ total_of row.now slot }
 {
     if slots_outside(row.len()) {
         return Err(DecayRefusal::BadRow);
     }
-    let at = slot.min(row.len());
-    let rest = sum_of(&row[at..]);
-    let sum = sum_of(&row[..at]) + rest;
-    if MOST < sum {
+    let total = totals(row, slot);
+    if MOST < total.sum {
         return Err(DecayRefusal::SumTooLarge);
     }
-    if sum == 0 {
+    if total.sum == 0 {
         return Err(DecayRefusal::SilentRow);
     }
-    Ok(Total { sum, rest })
+    Ok(total)
 }

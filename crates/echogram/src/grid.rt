@@ -28,7 +28,15 @@ impl Grid {
         }
     }
 
-    // The slot of a time.
+    // The slot of a time in the row.
+    pub fn slot_in(self, time: u64) -> usize
+        requires { Drawn self × (time < self.end) }
+        ensures { result ≡ time / self.samples }
+    {
+        (time * self.factor / SCALE) as usize
+    }
+
+    // The slot of any time.
     pub fn slot(self, time: u64) -> Result<usize, RowRefusal>
         requires { Drawn self }
         ensures inside { IfOk result (λ slot. (time < self.end) × (slot ≡ time / self.samples)) }
@@ -37,6 +45,6 @@ impl Grid {
         if self.end <= time {
             return Err(RowRefusal::PastRow);
         }
-        Ok((time * self.factor / SCALE) as usize)
+        Ok(self.slot_in(time))
     }
 }

@@ -12,7 +12,7 @@ pub trait Numbered {
 }
 
 // 0, or the number of the refusal.
-// Kept: C is answered by a number; here an outcome becomes one, and nowhere else.
+// Kept: C is answered by a number. Here an outcome becomes one; but in a series the loop makes it (series.rt), and what is measured has a form of its own.
 pub fn outcome_number<E: Numbered>(outcome: Result<(), E>) -> u64
     ensures { result ≡ outcome_number E.number_of outcome }
 {

@@ -15,7 +15,7 @@ use admission::open_gate;
 use admission::ranges::links_in_range;
 use arrival::refusals::Refusal;
 use arrival::{Action, Response, Shape, Worker};
-use stages::step;
+use stages::turn;
 use starts::opening::open_store;
 use starts::{start_dequeue, start_enqueue};
 use words::replies::Reply;
@@ -34,7 +34,7 @@ pub fn perform(low: u64, action: Action, w: Worker, store: &mut Store<'_>) -> Re
     match action {
         Action::Enqueue(_, arrival) => start_enqueue(low, arrival, w, store),
         Action::Dequeue(_) => start_dequeue(w, store),
-        Action::Step(_) => step(store.shape, w, store.words),
+        Action::Step(_) => turn(w, store),
     }
 }
 

@@ -51,7 +51,8 @@ impl View<'_> {
     pub fn word(&self, k: Word) -> u64
         ensures { result ≡ read self.now.shape self.now.words.now (word (word_number k)) }
     {
-        self.words[k.number()]
+        let at = k.number();
+        self.words[at]
     }
 
     // A head or a node's link.

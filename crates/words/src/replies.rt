@@ -13,15 +13,22 @@ pub struct Reply {
     pub response: Response,
 }
 
+// Refused by number k: the record stays.
+pub fn refuse(w: Worker, k: u64) -> Reply
+    ensures { result ≡ refuses w k }
+{
+    Reply {
+        worker: w,
+        response: Response::Refused(k),
+    }
+}
+
 impl Reply {
     // Refused: the record stays.
     pub fn refused(w: Worker, refusal: Refusal) -> Reply
         ensures { result ≡ refuses w (number refusal) }
     {
-        Reply {
-            worker: w,
-            response: Response::from(refusal),
-        }
+        refuse(w, refusal.number())
     }
 
     // Of a start or turn of record w, or of its refusal.

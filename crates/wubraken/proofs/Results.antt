@@ -6,13 +6,13 @@
 --     acted                          what is done on one record and put back is what was requested
 --     away_is                        so is the refusal of a worker past the workers' records
 --     away_at, none_let               by what the code has found: it is refused, and the gate lets none pass
---     refused_at, admits_at, done_at   of a worker with a record: refused, or worked on and put back
+--     tells_at, done_at, refused_at    of a worker with a record: what the look tells of it; worked on and put back, or refused
 --     opened_bound                    no more than there are
 --     opened_is                       with the store opened and the records cleared it is the opening
 --     open_refused, open_done          what refuses it, and what it leaves
 --     open_is                         the same of its answer
 -- Assumes nothing.
-use Rattle.std.specs.Prelude.{◌≡◌, List, ◌++◌, ◌≢◌, ℕ, zero, suc, ◌<◌, ◌≤◌, eqb, ltb, length, set, drop, replicate, is_some, Option, Some, None}
+use Rattle.std.specs.Prelude.{◌≡◌, List, ◌++◌, ◌≢◌, ℕ, zero, suc, ◌<◌, ◌≤◌, eqb, ltb, length, set, drop, replicate, is_ok}
 use Rattle.std.proofs.Math.Path.{refl}
 use Rattle.std.proofs.Common.{sym, ap, ◌∙◌, arith}
 use Rattle.std.proofs.Math.Bool.{Bool, true, false, cond}
@@ -28,7 +28,6 @@ use Rattle.arrival.specs.declared.Request.{Request}
 use Rattle.arrival.specs.declared.Request.TheVariants.{Whole, Narrow}
 use Rattle.arrival.specs.Requests.{actor, action_of, turns_of, is_whole, looks_at_all}
 use Rattle.calendar.specs.rules.Ranges.{blank, worker, record_in_range, table_in_range}
-use Rattle.laws.specs.Tests.{never}
 use Rattle.calendar.specs.rules.Opening.{open_store, open_table}
 use Rattle.calendar.specs.rules.Refusals.{open_refusal}
 use Rattle.calendar.specs.rules.Operations.{Memory, Result, act, open_pool}
@@ -36,7 +35,7 @@ use Rattle.calendar.specs.rules.NarrowCalls.{records_in_range, narrow_act, turns
 use Rattle.calendar.specs.rules.HostHistory.{requested}
 use Rattle.calendar.specs.facts.Accepted.{Lent}
 use Rattle.calendar.proofs.facts.RangeFacts.{record_ranges}
-use Rattle.words.specs.Done.{Done, gives, refused}
+use Rattle.words.specs.Done.{Done, gives, refuses, refused}
 use Rattle.words.specs.declared.replies.Reply.{Reply}
 use Rattle.operation.specs.LocalAct.{local_act, Admitted, LowFor, back}
 use Rattle.operation.proofs.LocalAct.{act_is, narrow_is}
@@ -51,7 +50,7 @@ use Rattle.admission.proofs.NarrowGate.{narrow_away}
 use Rattle.wubraken.specs.declared.answers.Answer.{Answer}
 use Rattle.wubraken.specs.Answers.{answer_of}
 use Rattle.wubraken.proofs.AnswerLaws.{answer_said}
-use Rattle.wubraken.specs.Survey.{Surveyed, surveyed, survey, low_of}
+use Rattle.wubraken.specs.Survey.{Survey, Surveyed, surveyed, survey, low_of}
 use Rattle.wubraken.proofs.Survey.{surveyed_worker, survey_none, survey_ok_is, survey_low_is, survey_tells}
 use Rattle.wubraken.specs.LentGate.{flag_of, gate_on}
 use Rattle.wubraken.proofs.LentGate.{passed}
@@ -67,7 +66,7 @@ answered sh q s t r a s' t' acts answers =
     (λ k. leaves s' t' (answers k)) ∙ (λ k. record { memory = lent s' t'; answer = answer_of r; said = answer_said r k }) ∙ ap told acts
 
 -- by what the gate said
-module _ (sh : Shape) (q : Request) (n : ℕ) (seen : Option ℕ) (s : List ℕ) (w : Worker) (k : ℕ)
+module _ (sh : Shape) (q : Request) (n : ℕ) (seen : Survey) (s : List ℕ) (w : Worker) (k : ℕ)
     (is : k ≡ gate_on (is_whole q) sh s (actor (action_of q)) n (near_by sh q seen w)) where
   pub refused_on : k ≢ 0 → refused s w k ≡ act_on sh q n seen s w
   unfolding act_on
@@ -78,13 +77,13 @@ module _ (sh : Shape) (q : Request) (n : ℕ) (seen : Option ℕ) (s : List ℕ)
   done_on z = rw (← is, eq-eqb k 0 z)
 
 -- what no refusal of the gate's leaves: the record may be worked on
-pub admits : (sh : Shape) (q : Request) (n : ℕ) (seen : Option ℕ) (s : List ℕ) (w : Worker) → Surveyed sh q seen w
+pub admits : (sh : Shape) (q : Request) (n : ℕ) (seen : Survey) (s : List ℕ) (w : Worker) → Surveyed sh q seen w
     → gate_on (is_whole q) sh s (actor (action_of q)) n (near_by sh q seen w) ≡ 0 → Admitted sh s w
 admits sh q n seen s w S z =
     let p = passed (is_whole q) sh s (actor (action_of q)) n (near_by sh q seen w) z in
     record { limits = p.limits; laid = p.laid; words = p.words; worker = record_ranges sh w (go (looks_at_all q) refl p.records) }
   where
-    go : (b : Bool) → looks_at_all q ≡ b → cond b (is_some seen) (record_in_range sh w) ≡ true → record_in_range sh w ≡ true
+    go : (b : Bool) → looks_at_all q ≡ b → cond b (is_ok seen) (record_in_range sh w) ≡ true → record_in_range sh w ≡ true
     go true e ok = S.ranged e ok
     go false e ok = ok
 
@@ -162,41 +161,37 @@ module _ (sh : Shape) (s : List ℕ) (t : List Worker) (q : Request) where
         ∙ ap (turns_after sh i (turns_of q)) (first_done z low f) ∙ request_is sh m q
 
   -- the look at the table tells what is asked of the records,
-  table_is : Lent sh s t → looks_at_all q ≡ true → is_some (survey sh q t) ≡ table_in_range sh t
+  table_is : Lent sh s t → looks_at_all q ≡ true → is_ok (survey sh q t) ≡ table_in_range sh t
   table_is l = survey_ok_is sh q t (shape_tests sh l.limits) (le-ltb (length t) sh.workers l.table)
 
   tells_near : i < sh.workers → Tells (near_by sh q (survey sh q t) (worker t i))
   tells_near h l = go q (table_is l) h
     where
-      go : (q : Request) → (looks_at_all q ≡ true → is_some (survey sh q t) ≡ table_in_range sh t) → actor (action_of q) < sh.workers
+      go : (q : Request) → (looks_at_all q ≡ true → is_ok (survey sh q t) ≡ table_in_range sh t) → actor (action_of q) < sh.workers
           → near_by sh q (survey sh q t) (worker t (actor (action_of q))) ≡ cond (is_whole q) (table_in_range sh t) (records_in_range sh t (action_of q))
       go (Whole x) e h = e refl
       go (Narrow (Enqueue j x) n) e h = e refl
       go (Narrow (Dequeue j) n) e h = rw (lt-leb sh.workers j h)
       go (Narrow (Step j) n) e h = rw (lt-leb sh.workers j h)
 
-  tells_away : sh.workers ≤ i → Tells (is_some (survey sh q t))
+  tells_away : sh.workers ≤ i → Tells (is_ok (survey sh q t))
   tells_away h l = go q (table_is l) (survey_none sh q t) h
     where
-      go : (q : Request) → (looks_at_all q ≡ true → is_some (survey sh q t) ≡ table_in_range sh t) → (looks_at_all q ≡ false → is_some (survey sh q t) ≡ true)
-          → sh.workers ≤ actor (action_of q) → is_some (survey sh q t) ≡ cond (is_whole q) (table_in_range sh t) (records_in_range sh t (action_of q))
+      go : (q : Request) → (looks_at_all q ≡ true → is_ok (survey sh q t) ≡ table_in_range sh t) → (looks_at_all q ≡ false → is_ok (survey sh q t) ≡ true)
+          → sh.workers ≤ actor (action_of q) → is_ok (survey sh q t) ≡ cond (is_whole q) (table_in_range sh t) (records_in_range sh t (action_of q))
       go (Whole x) e f h = e refl
       go (Narrow (Enqueue j x) n) e f h = e refl
       go (Narrow (Dequeue j) n) e f h = rw (le-leb sh.workers j h) (f refl)
       go (Narrow (Step j) n) e f h = rw (le-leb sh.workers j h) (f refl)
 
   -- and, where they are in range, the least ticket
-  low_is : Lent sh s t → looks_at_all q ≡ true → is_some (survey sh q t) ≡ true → low_of (survey sh q t) ≡ least_ticket t sh.workers
-  low_is l all = go (survey sh q t) refl
-    where
-      go : (o : Option ℕ) → survey sh q t ≡ o → is_some o ≡ true → low_of o ≡ least_ticket t sh.workers
-      go (Some low) e ok = survey_low_is sh q t (shape_tests sh l.limits) (le-ltb (length t) sh.workers l.table) all low e
-      go None e ok = never ok
+  low_is : Lent sh s t → looks_at_all q ≡ true → is_ok (survey sh q t) ≡ true → low_of (survey sh q t) ≡ least_ticket t sh.workers
+  low_is l all = survey_low_is sh q t (shape_tests sh l.limits) (le-ltb (length t) sh.workers l.table) all
 
   low_for_lem : Lent sh s t → near_by sh q (survey sh q t) (worker t i) ≡ true → LowFor sh t a (low_of (survey sh q t))
   low_for_lem l = go q (low_is l)
     where
-      go : (q : Request) → (looks_at_all q ≡ true → is_some (survey sh q t) ≡ true → (low_of (survey sh q t)) ≡ least_ticket t sh.workers)
+      go : (q : Request) → (looks_at_all q ≡ true → is_ok (survey sh q t) ≡ true → (low_of (survey sh q t)) ≡ least_ticket t sh.workers)
           → near_by sh q (survey sh q t) (worker t (actor (action_of q))) ≡ true → LowFor sh t (action_of q) (low_of (survey sh q t))
       go (Whole (Enqueue j x)) e ok = e refl ok
       go (Whole (Dequeue j)) e ok = tt
@@ -230,9 +225,9 @@ module _ (sh : Shape) (s : List ℕ) (t : List Worker) (q : Request) where
 
   -- Past the workers' records there is no worker, or the gate refuses anyway.
   pub away_is : ltb i (surveyed sh (length t)) ≡ false
-      → gave s t (Refused (gate_on (is_whole q) sh s i (length t) (is_some (survey sh q t)))) ≡ requested sh (lent s t) q
-  away_is beyond = gate_refuses (is_some (survey sh q t)) tells (λ z.
-      let p = passed (is_whole q) sh s i (length t) (is_some (survey sh q t)) z in
+      → gave s t (Refused (gate_on (is_whole q) sh s i (length t) (is_ok (survey sh q t)))) ≡ requested sh (lent s t) q
+  away_is beyond = gate_refuses (is_ok (survey sh q t)) tells (λ z.
+      let p = passed (is_whole q) sh s i (length t) (is_ok (survey sh q t)) z in
       omega (arith, p.worker, past (record { limits = p.limits; store = p.laid.fits; table = p.table })))
     where
       past : Lent sh s t → sh.workers ≤ i
@@ -240,14 +235,14 @@ module _ (sh : Shape) (s : List ℕ) (t : List Worker) (q : Request) where
           let all : surveyed sh (length t) ≡ sh.workers = rw (shape_tests sh l.limits, le-ltb (length t) sh.workers l.table) in
           omega (arith, ltb-false i (surveyed sh (length t)) beyond, all)
 
-      tells : Tells (is_some (survey sh q t))
+      tells : Tells (is_ok (survey sh q t))
       tells l = tells_away (past l) l
 
   -- A worker without a record is refused.
-  pub away_at : (seen : Option ℕ) (near : Bool) (k : ℕ) → surveyed sh (length t) ≤ i → seen ≡ survey sh q t → near ≡ is_some seen → k ≡ gate near
+  pub away_at : (seen : Survey) (near : Bool) (k : ℕ) → surveyed sh (length t) ≤ i → seen ≡ survey sh q t → near ≡ is_ok seen → k ≡ gate near
       → gave s t (Refused k) ≡ requested sh (lent s t) q
   away_at seen near k h looked is gated =
-      ap (λ (j : ℕ). gave s t (Refused j)) (gated ∙ ap gate (is ∙ ap (λ (o : Option ℕ). is_some o) looked)) ∙ away_is (le-ltb i _ h)
+      ap (λ (j : ℕ). gave s t (Refused j)) (gated ∙ ap gate (is ∙ ap (λ (o : Survey). is_ok o) looked)) ∙ away_is (le-ltb i _ h)
 
   pub none_let : (near : Bool) → surveyed sh (length t) ≤ i → gate near ≡ 0 → ⊥
   none_let near h z =
@@ -255,28 +250,23 @@ module _ (sh : Shape) (s : List ℕ) (t : List Worker) (q : Request) where
       let all : surveyed sh (length t) ≡ sh.workers = rw (shape_tests sh p.limits, le-ltb (length t) sh.workers p.table) in
       omega (arith, p.worker, all)
 
-  -- of a worker with a record, by what the code has found
-  module _ (h : i < surveyed sh (length t)) (seen : Option ℕ) (near : Bool) (k : ℕ) (looked : seen ≡ survey sh q t)
-      (is : near ≡ near_by sh q seen (worker t i)) (gated : k ≡ gate near) where
-    by : k ≡ gate (near_by sh q (survey sh q t) (worker t i))
-    by = gated ∙ ap gate (is ∙ ap (λ (o : Option ℕ). near_by sh q o (worker t i)) looked)
+  -- Of a worker with a record, by what the code has found: the look tells of it,
+  module _ (h : i < surveyed sh (length t)) (seen : Survey) (j : ℕ) (looked : seen ≡ survey sh q t) (is : j ≡ i) where
+    pub tells_at : Surveyed sh q seen (worker t j)
+    tells_at = rw (looked, is) (survey_tells sh q t i h)
 
-    -- What the gate refuses is refused,
-    pub refused_at : k ≢ 0 → gave s t (Refused k) ≡ requested sh (lent s t) q
-    refused_at n =
-        sym (ap (λ (u : List Worker). record { memory = lent s u; response = Refused k }) (set-get_or t i blank))
-        ∙ ap (back t i) (refused_on sh q (length t) (survey sh q t) s (worker t i) k by n) ∙ acted h
+    -- what is done on it, put back, is what was requested,
+    pub done_at : (s' : List ℕ) (r : Reply) → gives s' r ≡ act_on sh q (length t) seen s (worker t j)
+        → gave s' (set t j r.worker) r.response ≡ requested sh (lent s t) q
+    done_at s' r given =
+        put_back t j s' r _ given ∙ (λ k. back t (is k) (act_on sh q (length t) (looked k) s (worker t (is k)))) ∙ acted h
 
-    -- what it lets pass may be worked on,
-    pub admits_at : k ≡ 0 → Admitted sh s (worker t i)
-    admits_at z = admits sh q (length t) (survey sh q t) s (worker t i) (survey_tells sh q t i h) (sym by ∙ z)
-
-    -- and, put back, is what was requested.
-    pub done_at : k ≡ 0 → (s' : List ℕ) (r : Reply)
-        → gives s' r ≡ local_turns sh (turns_of q) (local_act sh (low_of (survey sh q t)) s a (worker t i))
-        → gave s' (set t i r.worker) r.response ≡ requested sh (lent s t) q
-    done_at z s' r given =
-        put_back t i s' r _ given ∙ ap (back t i) (done_on sh q (length t) (survey sh q t) s (worker t i) k by z) ∙ acted h
+    -- and what is refused leaves the table.
+    pub refused_at : (s' : List ℕ) (k : ℕ) → gives s' (refuses (worker t j) k) ≡ act_on sh q (length t) seen s (worker t j)
+        → gave s' t (Refused k) ≡ requested sh (lent s t) q
+    refused_at s' k given =
+        sym (ap (λ (u : List Worker). record { memory = lent s' u; response = Refused k }) (set-get_or t j blank))
+        ∙ done_at s' (refuses (worker t j) k) given
 
 -- no more than there are
 pub opened_bound : (sh : Shape) (s : List ℕ) (n k : ℕ) → k ≡ open_gate sh (length s) n → records_opened sh k ≤ n

@@ -7,7 +7,7 @@
 --     act_on                          refused by 1 to 4, or done; by what the gate said
 --     records_opened                  how many records an opening clears, by the number that refuses it
 -- Assumes nothing.
-use Rattle.std.specs.Prelude.{◌≡◌, List, ℕ, eqb, is_some, Option}
+use Rattle.std.specs.Prelude.{◌≡◌, List, ℕ, eqb, is_ok}
 use Rattle.std.proofs.Math.Bool.{Bool, cond}
 use Rattle.arrival.specs.declared.Shape.{Shape}
 use Rattle.arrival.specs.declared.Worker.{Worker}
@@ -24,7 +24,7 @@ use Rattle.operation.specs.LocalTurns.{local_turns}
 use Rattle.wubraken.specs.declared.lent.Lent.{Lent}
 use Rattle.wubraken.specs.declared.answers.Answer.{Answer}
 use Rattle.wubraken.specs.Answers.{Outcome, responded, answer_of, said_by}
-use Rattle.wubraken.specs.Survey.{low_of}
+use Rattle.wubraken.specs.Survey.{Survey, low_of}
 use Rattle.wubraken.specs.LentGate.{gate_on}
 
 -- ── what a call leaves ──
@@ -66,11 +66,11 @@ abbrev pub AnswersAs : Shape → Request → List ℕ → List Worker → Answer
 AnswersAs sh q s t a s' t' = leaves s' t' a ≡ told (requested sh (lent s t) q)
 
 -- the records that the request looks at are in range; w is its worker's
-abbrev pub near_by : Shape → Request → Option ℕ → Worker → Bool
-near_by sh q seen w = cond (looks_at_all q) (is_some seen) (record_in_range sh w)
+abbrev pub near_by : Shape → Request → Survey → Worker → Bool
+near_by sh q seen w = cond (looks_at_all q) (is_ok seen) (record_in_range sh w)
 
 -- refused by 1 to 4, or done, with n records lent
-unfoldable pub act_on : Shape → Request → ℕ → Option ℕ → List ℕ → Worker → Done
+unfoldable pub act_on : Shape → Request → ℕ → Survey → List ℕ → Worker → Done
 act_on sh q n seen s w =
     unless_refused (gate_on (is_whole q) sh s (actor (action_of q)) n (near_by sh q seen w)) s w
     (local_turns sh (turns_of q) (local_act sh (low_of seen) s (action_of q) w))

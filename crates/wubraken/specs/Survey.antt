@@ -1,6 +1,5 @@
--- A look over the workers' records: the least ticket in progress, where all are in range. Assumes nothing.
-use Rattle.std.specs.Prelude.{◌≡◌, List, cond, ltb, length, is_some, Option, Some, None}
-use Rattle.std.specs.Option.{unwrap_or}
+-- A look over the workers' records: whether all are in range, and the least ticket in progress of those before the first that is not. Assumes nothing.
+use Rattle.std.specs.Prelude.{◌≡◌, List, cond, ltb, length, is_ok, Result, Ok, Err}
 use Rattle.std.proofs.Math.Bool.{true}
 use Prim.Native.Nat.{ℕ, zero, suc, ◌≤◌}
 use Rattle.arrival.specs.declared.Shape.{Shape}
@@ -10,17 +9,26 @@ use Rattle.arrival.specs.Requests.{looks_at_all}
 use Rattle.calendar.specs.rules.Ranges.{shape_in_range, record_in_range, worker}
 use Rattle.starts.specs.LeastTicket.{lower}
 
+-- the least ticket, as an error where a record is out of range
+abbrev pub Survey : Type 0
+Survey = Result ℕ ℕ
+
+-- it, either way
+abbrev pub low_of : Survey → ℕ
+low_of (Ok low) = low
+low_of (Err low) = low
+
 -- nothing looked at yet
-unfoldable pub unseen : Option ℕ
-unseen = Some 4294967296
+unfoldable pub unseen : Survey
+unseen = Ok 4294967296
 
 -- one record more, if none before it was out of range
-unfoldable pub seen : Shape → Option ℕ → Worker → Option ℕ
-seen sh (Some low) w = cond (record_in_range sh w) (Some (lower low w)) None
-seen sh None w = None
+unfoldable pub seen : Shape → Survey → Worker → Survey
+seen sh (Ok low) w = cond (record_in_range sh w) (Ok (lower low w)) (Err low)
+seen sh (Err low) w = Err low
 
 -- the first n records
-unfoldable pub survey_of : Shape → List Worker → ℕ → Option ℕ
+unfoldable pub survey_of : Shape → List Worker → ℕ → Survey
 survey_of sh t zero = unseen
 survey_of sh t (suc n) = seen sh (survey_of sh t n) (worker t n)
 
@@ -32,15 +40,11 @@ surveyed sh n = cond (shape_in_range sh) (cond (ltb n sh.workers) n sh.workers) 
 abbrev pub looked_at : Shape → Request → ℕ → ℕ
 looked_at sh q n = cond (looks_at_all q) (surveyed sh n) 0
 
-abbrev pub survey : Shape → Request → List Worker → Option ℕ
+abbrev pub survey : Shape → Request → List Worker → Survey
 survey sh q t = survey_of sh t (looked_at sh q (length t))
 
--- the least ticket; 2^32 where one is out of range, too
-abbrev pub low_of : Option ℕ → ℕ
-low_of a = unwrap_or a 4294967296
-
 -- What the look tells of the record w of the request's worker.
-pub record Surveyed (sh : Shape) (q : Request) (a : Option ℕ) (w : Worker) : Type 0 where
+pub record Surveyed (sh : Shape) (q : Request) (a : Survey) (w : Worker) : Type 0 where
   pub shape : shape_in_range sh ≡ true
-  pub ranged : looks_at_all q ≡ true → is_some a ≡ true → record_in_range sh w ≡ true
-  pub low : (l : ℕ) → a ≡ Some l → l ≤ 4294967296
+  pub ranged : looks_at_all q ≡ true → is_ok a ≡ true → record_in_range sh w ≡ true
+  pub low : low_of a ≤ 4294967296

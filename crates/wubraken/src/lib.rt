@@ -19,6 +19,8 @@ use words::layout_words;
 
 pub mod answers;
 pub mod lent;
+pub mod records;
+pub mod requests;
 pub mod table;
 
 // Kept: 0 and no Option, since C reads it.

@@ -1,5 +1,5 @@
 // The lent table's records: one look over the workers', and clearing them.
-ghost use Rattle.std.specs.Prelude.{◌≡◌, ◌++◌, ◌≤◌, true, Some, length, drop, replicate};
+ghost use Rattle.std.specs.Prelude.{◌≡◌, ◌++◌, ◌≤◌, true, length, drop, replicate};
 ghost use Rattle.calendar.specs.rules.Ranges.{shape_in_range, blank};
 ghost use Rattle.wubraken.specs.Survey.{seen, surveyed, looked_at, survey};
 
@@ -28,28 +28,29 @@ pub fn records_looked_at(shape: Shape, request: Request, n: usize) -> usize
     records_surveyed(shape, n)
 }
 
-// The least ticket in progress with one record more, unless that is out of range.
+// One record more, after what was found before it: the least ticket in progress, as an error where a record was out of range, of those before the first.
 #[tactic(auto, unfolding(crate::specs::Survey::seen))]
-pub fn look(shape: Shape, low: u64, w: Worker) -> Option<u64>
+pub fn look(shape: Shape, found: Result<u64, u64>, w: Worker) -> Result<u64, u64>
     requires { shape_in_range shape ≡ true }
-    ensures { result ≡ seen shape (Some low) w }
+    ensures { result ≡ seen shape found w }
 {
+    let low = found?;
     if !record_in_range(shape, w) {
-        return None;
+        return Err(low);
     }
-    Some(lower_ticket(low, w))
+    Ok(lower_ticket(low, w))
 }
 
 // The look over the workers' records, to the first that is out of range.
-pub fn survey_table(shape: Shape, request: Request, table: &[Worker]) -> Option<u64>
+pub fn survey_table(shape: Shape, request: Request, table: &[Worker]) -> Result<u64, u64>
     ensures { result ≡ survey shape request table.now }
 {
     let n = records_looked_at(shape, request, table.len());
     let mut low = word::COUNTS;
     for w in &table[..n] {
-        low = look(shape, low, *w)?;
+        low = look(shape, Ok(low), *w)?;
     }
-    Some(low)
+    Ok(low)
 }
 
 // The first n records become idle, all fields 0.

@@ -1,9 +1,9 @@
 -- `turns::deal_lent`: the run that has just begun is sound, and wants the whole of it. Assumes nothing.
 --     begins    with what the look over the records finds, it is the run that begins
-use Rattle.std.proofs.Common.{◌≡◌, sym, ap, subst, ◌∙◌, ℕ, List, Option, length, is_some}
+use Rattle.std.proofs.Common.{◌≡◌, sym, ap, subst, ◌∙◌, ℕ, List, length, is_ok}
 use Rattle.arrival.specs.declared.Request.{Request}
 use Rattle.arrival.specs.declared.Worker.{Worker}
-use Rattle.wubraken.specs.Survey.{survey}
+use Rattle.wubraken.specs.Survey.{Survey, survey}
 use Rattle.dealer.specs.declared.asks.Ask.{Ask}
 use Rattle.dealer.specs.Dealing.{turn_of}
 use Rattle.dealer.specs.Looks.{is_whole}
@@ -13,10 +13,10 @@ use Rattle.dealer.specs.Tour.{Sound, wanted}
 use Rattle.dealer.proofs.Tour.{sound_start, wanted_start}
 use Rattle.dealer.proofs.turns.deal_lent.Goals as goal
 
-begins : (a : Ask) (s : List ℕ) (t : List Worker) (look : Request) (seen : Option ℕ) (x : Run) → look ≡ turn_of (is_whole a.look) 0
-    → seen ≡ survey a.shape look t → x ≡ begun a s (length t) (is_some seen) → x ≡ begun a s (length t) (ok_of (is_whole a.look) a.shape t)
+begins : (a : Ask) (s : List ℕ) (t : List Worker) (look : Request) (seen : Survey) (x : Run) → look ≡ turn_of (is_whole a.look) 0
+    → seen ≡ survey a.shape look t → x ≡ begun a s (length t) (is_ok seen) → x ≡ begun a s (length t) (ok_of (is_whole a.look) a.shape t)
 begins a s t look seen x e f g =
-    g ∙ (λ j. begun a s (length t) (is_some (f j))) ∙ (λ j. begun a s (length t) (is_some (survey a.shape (e j) t)))
+    g ∙ (λ j. begun a s (length t) (is_ok (f j))) ∙ (λ j. begun a s (length t) (is_ok (survey a.shape (e j) t)))
 
 pub deal_turns-requires : goal.deal_turns-requires
 deal_turns-requires c =

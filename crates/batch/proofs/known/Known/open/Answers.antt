@@ -1,5 +1,5 @@
 -- An opening is a record of the file: refused, or done.
-use Rattle.std.proofs.Common.{◌≡◌, refl, Bool, true, false, ltb, max, ltb-true, ltb-false, arith, sym, ap, ◌∙◌, ℕ, List, cond, eqb, ne_eqb}
+use Rattle.std.proofs.Common.{sym, ap, ◌∙◌, ℕ, List, cond, eqb, ne_eqb}
 use Rattle.std.proofs.Math.Path.{subst⁻¹}
 use Rattle.std.proofs.lemmas.Result.{err_from_is_err_and}
 use Rattle.arrival.specs.declared.Response.TheVariants.{Refused}
@@ -9,11 +9,10 @@ use Rattle.starts.proofs.Refusing.{some}
 use Rattle.turn_file.specs.declared.Record.TheVariants.{Open}
 use Rattle.batch.specs.OneRecord.{Does, holding}
 use Rattle.batch.proofs.OneRecord.{small_shape, refused_open, did_open}
-use Rattle.batch.specs.Held.{greater}
 use Rattle.batch.proofs.known.Known.open.Goals as goal
 
-pub returns-in_err-open_lent : goal.returns-in_err-open_lent
-returns-in_err-open_lent c =
+pub returns-in_err-open_lent-clause-does : goal.returns-in_err-open_lent-clause-does
+returns-in_err-open_lent-clause-does c =
     let a = c.args in
     let d = holding a.self.now a.table.now in
     let e = c.in_err-open_lent in
@@ -28,18 +27,9 @@ returns-in_err-open_lent c =
 pub clear-requires : goal.clear-requires
 clear-requires c = small_shape (holding c.args.self.now c.args.table.now) c.args.store.now c.requires c.args.shape (sym c.in_ok-open_lent.ensures.refused)
 
--- the greater of two numbers is std's
-greater_max : (a b : ℕ) → max a b ≡ greater a b
-greater_max a b = go (ltb a b) refl
-  where
-    go : (x : Bool) → ltb a b ≡ x → max a b ≡ cond x b a
-    go true e = let h = ltb-true a b e in omega arith
-    go false e = let h = ltb-false a b e in omega arith
-
-pub returns : goal.returns
-returns c =
+pub returns-clause-does : goal.returns-clause-does
+returns-clause-does c =
     let a = c.args in
     let k = c.in_ok-open_lent.ensures in
     let opens = k.opened ∙ ap (λ (m : ℕ). cond (eqb m 0) (open_store a.shape a.store.now) a.store.now) (sym k.refused) in
-    did_open (holding a.self.now a.table.now) a.store.now c.requires a.shape (sym k.refused) _ opens _ c.clear.ensures _
-    (c.max-self.ensures ∙ greater_max a.self.now.held a.shape.workers)
+    did_open (holding a.self.now a.table.now) a.store.now c.requires a.shape (sym k.refused) _ opens _ c.clear.ensures _ c.greater-self.ensures

@@ -1,12 +1,11 @@
 -- `wubraken::lent::Lent::open`: the store opened, and the workers' records cleared, or nothing. Assumes nothing.
-use Rattle.std.proofs.Common.{◌∙◌, refl, sym, arith}
+use Rattle.std.proofs.Common.{◌∙◌, refl, arith, length}
 use Rattle.std.proofs.lemmas.Result.{err_from_is_err_and}
 use Rattle.arrival.specs.Refusals.{number}
-use Rattle.admission.proofs.GateLaws.{open_passed}
 use Rattle.wubraken.specs.Results.{gave}
 use Rattle.arrival.specs.declared.Response.TheVariants.{Opened}
 use Rattle.starts.proofs.Refusing.{some}
-use Rattle.wubraken.proofs.Results.{open_refused, open_done}
+use Rattle.wubraken.proofs.Results.{opened_bound, open_refused, open_done}
 use Rattle.wubraken.proofs.lent.Lent.open.Goals as goal
 
 pub returns-in_err-open_lent-clause-opened : goal.returns-in_err-open_lent-clause-opened
@@ -18,10 +17,13 @@ returns-in_err-open_lent-clause-opened c =
     c.in_err-open_lent.ensures.opened (some r))
 
 pub clear_table-requires : goal.clear_table-requires
-clear_table-requires c = omega (arith, (open_passed _ _ _ (sym c.in_ok-open_lent.ensures.refused)).2)
+clear_table-requires c =
+    let m = c.args.self.now in
+    omega (arith, c.records_opened.ensures, opened_bound m.shape m.store.now (length m.table.now) 0 c.in_ok-open_lent.ensures.refused)
 
 pub returns-clause-opened : goal.returns-clause-opened
 returns-clause-opened c =
     let m = c.args.self.now in
     (λ j. gave c.open_lent.new.store (c.clear_table.ensures j) Opened)
-    ∙ open_done m.shape m.store.now m.table.now 0 c.open_lent.new.store c.in_ok-open_lent.ensures.refused c.in_ok-open_lent.ensures.opened refl
+    ∙ rw c.records_opened.ensures (open_done m.shape m.store.now m.table.now 0 c.open_lent.new.store c.in_ok-open_lent.ensures.refused
+    c.in_ok-open_lent.ensures.opened refl)
